@@ -15,7 +15,7 @@ use Rattle.scan.proofs.Orders.{digit-bounds}
 use Rattle.markup.specs.rule.Grammar.{Each, no-more, each}
 use Rattle.survey.specs.rule.Survey.{Amount}
 use Rattle.survey.specs.rule.Width.{bare}
-use Rattle.reading.specs.rule.Token.{leading, behind, begins, without, amountOf}
+use Rattle.reading.specs.rule.Token.{leading, afterPoint, begins, without, amountRead}
 use Rattle.amounts.specs.rule.Said.{digitsIn, trueIn}
 use Rattle.amounts.specs.Filled.{filled}
 
@@ -52,11 +52,11 @@ pub record Spelt (place next : ℕ) (cs : List ℕ) (a : Amount) : Type 0 where
   }
 
 -- ---- runs of digits
-parts : (s : List ℕ) → s ≡ leading s ++ behind s
-unfolding leading behind
+parts : (s : List ℕ) → s ≡ leading s ++ afterPoint s
+unfolding leading afterPoint
 parts [] = refl
 parts (b ∷ s) = by (isDigit b) (parts s) where
-  by : (x : Bool) → s ≡ leading s ++ behind s → b ∷ s ≡ cond x (b ∷ leading s) [] ++ cond x (behind s) (b ∷ s)
+  by : (x : Bool) → s ≡ leading s ++ afterPoint s → b ∷ s ≡ cond x (b ∷ leading s) [] ++ cond x (afterPoint s) (b ∷ s)
   by true e = ap (λ (l : List ℕ). b ∷ l) e
   by false e = refl
 
@@ -73,17 +73,17 @@ data Stops : List ℕ → Type 0 where
   ends : Stops []
   other : {b : ℕ} {s : List ℕ} → isDigit b ≡ false → Stops (b ∷ s)
 
-leads : {w t : List ℕ} → Each isDigit w → Stops t → (leading (w ++ t) ≡ w) × (behind (w ++ t) ≡ t)
-unfolding leading behind
+leads : {w t : List ℕ} → Each isDigit w → Stops t → (leading (w ++ t) ≡ w) × (afterPoint (w ++ t) ≡ t)
+unfolding leading afterPoint
 leads no-more ends = (refl, refl)
 leads no-more (other e) = rw e (refl, refl)
 leads {t = t} (each {b} {s} e d) o = let i = leads {t = t} d o in rw e (ap (λ (l : List ℕ). b ∷ l) (i .0), i .1)
 
-behind-stops : (s : List ℕ) → Stops (behind s)
-unfolding behind
+behind-stops : (s : List ℕ) → Stops (afterPoint s)
+unfolding afterPoint
 behind-stops [] = ends
 behind-stops (b ∷ s) = by (isDigit b) refl (behind-stops s) where
-  by : (x : Bool) → isDigit b ≡ x → Stops (behind s) → Stops (cond x (behind s) (b ∷ s))
+  by : (x : Bool) → isDigit b ≡ x → Stops (afterPoint s) → Stops (cond x (afterPoint s) (b ∷ s))
   by true e o = o
   by false e o = other e
 
@@ -134,13 +134,14 @@ unfolding begins without
 unsigned true d f = (refl, refl)
 unsigned false d f = no-minus d f
 
-dotted-is : {p : Bool} {ds t : List ℕ} → Behind p ds t → (begins 46 t ≡ p) × (leading (without 46 t) ≡ ds) × (behind (without 46 t) ≡ [])
+dotted-is : {p : Bool} {ds t : List ℕ} → Behind p ds t → (begins 46 t ≡ p) × (leading (without 46 t) ≡ ds)
+    × (afterPoint (without 46 t) ≡ [])
 unfolding begins without
 dotted-is nothing = let k = leads no-more ends in (refl, k .0, k .1)
 dotted-is (point {ds} d) = let k = leads {t = []} d ends in let n = append-nil ds in (refl, (rw n at (k .0)), (rw n at (k .1)))
 
-pub spelt-is : (place next : ℕ) {cs : List ℕ} {a : Amount} → Spelt place next cs a → amountOf place next cs ≡ a
-unfolding amountOf
+pub spelt-is : (place next : ℕ) {cs : List ℕ} {a : Amount} → Spelt place next cs a → amountRead place next cs ≡ a
+unfolding amountRead
 spelt-is place next s =
     let u = unsigned (s .minus) (s .wholes) (s .fraction) in
     let k = leads (s .wholes) (rest-stops (s .fraction)) in
@@ -148,8 +149,8 @@ spelt-is place next s =
     rw (s .run, u .0, u .1, s .says) (rw (k .0, k .1, f .0, f .1, f .2) (rw (lt-ltb 0 (length (s .whole ++ s .decimals)) (s .some))))
 
 -- ---- sound
-none-behind : {l : List ℕ} → Stops l → behind l ≡ [] → l ≡ []
-unfolding behind
+none-behind : {l : List ℕ} → Stops l → afterPoint l ≡ [] → l ≡ []
+unfolding afterPoint
 none-behind ends q = refl
 none-behind (other h) q = rw h at q
 
@@ -161,11 +162,11 @@ unfolding leading
 lead-none = refl
 
 module _ (place next : ℕ) (cs : List ℕ) where
-  fraction-of : behind (without 46 (behind (without 45 cs))) ≡ []
-      → Behind (begins 46 (behind (without 45 cs))) (leading (without 46 (behind (without 45 cs)))) (behind (without 45 cs))
+  fraction-of : afterPoint (without 46 (afterPoint (without 45 cs))) ≡ []
+      → Behind (begins 46 (afterPoint (without 45 cs))) (leading (without 46 (afterPoint (without 45 cs)))) (afterPoint (without 45 cs))
   fraction-of e = by (begins 46 f) refl where
     f : List ℕ
-    f = behind (without 45 cs)
+    f = afterPoint (without 45 cs)
 
     all : without 46 f ≡ leading (without 46 f)
     all = parts (without 46 f) ∙ ap (λ (l : List ℕ). leading (without 46 f) ++ l) e ∙ append-nil (leading (without 46 f))
@@ -174,19 +175,19 @@ module _ (place next : ℕ) (cs : List ℕ) where
     by true h = point-at f (leading (without 46 f)) (begun 46 f h ∙ ap (λ (l : List ℕ). 46 ∷ l) all) (leading-each (without 46 f))
     by false h =
         let q : without 46 f ≡ f = not-begun 46 f h in
-        let z : f ≡ [] = none-behind (behind-stops (without 45 cs)) (ap behind (sym q) ∙ e) in
+        let z : f ≡ [] = none-behind (behind-stops (without 45 cs)) (ap afterPoint (sym q) ∙ e) in
         rw (q, z, lead-none) nothing
 
-  pub is-spelt : amountOf place next cs .formed ≡ true → Spelt place next cs (amountOf place next cs)
-  unfolding amountOf
+  pub is-spelt : amountRead place next cs .formed ≡ true → Spelt place next cs (amountRead place next cs)
+  unfolding amountRead
   is-spelt e =
       let w = leading (without 45 cs) in
-      let f = behind (without 45 cs) in
-      let tail = without 46 (behind (without 45 cs)) in
-      let stop = empty (behind tail) (eqb-true (length (behind tail)) 0
-      (and-left (eqb (length (behind tail)) 0) (ltb 0 (length (w ++ leading tail))) e)) in
+      let f = afterPoint (without 45 cs) in
+      let tail = without 46 (afterPoint (without 45 cs)) in
+      let stop = empty (afterPoint tail) (eqb-true (length (afterPoint tail)) 0
+      (and-left (eqb (length (afterPoint tail)) 0) (ltb 0 (length (w ++ leading tail))) e)) in
       let count = ltb-true 0 (length (w ++ leading tail))
-      (and-right (eqb (length (behind tail)) 0) (ltb 0 (length (w ++ leading tail))) e) in
+      (and-right (eqb (length (afterPoint tail)) 0) (ltb 0 (length (w ++ leading tail))) e) in
       record {
         minus = begins 45 cs;
         whole = w;
@@ -202,7 +203,7 @@ module _ (place next : ℕ) (cs : List ℕ) where
 
 -- VALUE: characters are a value in form, saying a, exactly when they are spelt so
 pub value-exactly : (place next : ℕ) (cs : List ℕ) (a : Amount)
-    → ((amountOf place next cs ≡ a) × (a .formed ≡ true)) ↔ Spelt place next cs a
+    → ((amountRead place next cs ≡ a) × (a .formed ≡ true)) ↔ Spelt place next cs a
 value-exactly place next cs a = (
   λ h. let e = h .0 in rw (← e) (is-spelt place next cs (ap (λ (x : Amount). x .formed) e ∙ h .1)),
   λ s. (spelt-is place next s, ap (λ (x : Amount). x .formed) (s .says)),

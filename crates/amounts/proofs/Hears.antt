@@ -14,11 +14,11 @@ use Rattle.scan.specs.rule.Number as scan
 use Rattle.scan.specs.Number.{capped, pushOf}
 use Rattle.scan.proofs.Orders.{digit-bounds}
 use Rattle.markup.specs.rule.Bytes.{isDigit}
-use Rattle.spans.specs.rule.Heard.{Heard, All, Ill, after, firstOf, heard}
+use Rattle.spans.specs.rule.Heard.{Heard, All, Ill, after, firstHeard, heard}
 use Rattle.spans.specs.declared.First.the-variants.{One, End, Not}
 use Rattle.spans.proofs.Hearing.{heard-one, heard-end, heard-not}
 use Rattle.spans.proofs.Numbers.{small, held}
-use Rattle.reading.specs.rule.Token.{leading, behind, begins, without}
+use Rattle.reading.specs.rule.Token.{leading, afterPoint, begins, without}
 
 -- ---- a digit is the same in both papers
 pub bounds : (c : ℕ) → isDigit c ≡ true → (48 ≤ c) × (c ≤ 57)
@@ -46,17 +46,17 @@ pub record First-is (s : List ℕ) (n c : ℕ) (cs : List ℕ) : Type 0 where
   pub left : heard s n ≡ All rest
   pub split : cs ≡ c ∷ rest
 
-pub heard-first : (s : List ℕ) (at : ℕ) {c n : ℕ} {cs : List ℕ} → firstOf s at ≡ One c n → heard s at ≡ All cs → First-is s n c cs
+pub heard-first : (s : List ℕ) (at : ℕ) {c n : ℕ} {cs : List ℕ} → firstHeard s at ≡ One c n → heard s at ≡ All cs → First-is s n c cs
 heard-first s at {c} {n} {cs} f e = by (heard s n) refl (sym (heard-one s at c n f) ∙ e) where
   by : (h : Heard) → heard s n ≡ h → after c (heard s n) ≡ All cs → First-is s n c cs
   by (All r) g k = let z : after c (All r) ≡ All cs = ap (after c) (sym g) ∙ k in let y : c ∷ r ≡ cs = cc in
       record { rest = r; left = g; split = sym y }
   by Ill g k = let w : after c Ill ≡ All cs = ap (after c) (sym g) ∙ k in let z : _≡_ {A = ℕ} 0 1 = cc in absurd (omega arith)
 
-pub heard-none : (s : List ℕ) (at : ℕ) {cs : List ℕ} → firstOf s at ≡ End → heard s at ≡ All cs → cs ≡ []
+pub heard-none : (s : List ℕ) (at : ℕ) {cs : List ℕ} → firstHeard s at ≡ End → heard s at ≡ All cs → cs ≡ []
 heard-none s at {cs} f e = let k : All [] ≡ All cs = sym (heard-end s at f) ∙ e in let y : [] ≡ cs = cc in sym y
 
-pub heard-ill : {A : Type 0} (s : List ℕ) (at : ℕ) {cs : List ℕ} → firstOf s at ≡ Not → heard s at ≡ All cs → A
+pub heard-ill : {A : Type 0} (s : List ℕ) (at : ℕ) {cs : List ℕ} → firstHeard s at ≡ Not → heard s at ≡ All cs → A
 heard-ill s at {cs} f e = let k : Ill ≡ All cs = sym (heard-not s at f) ∙ e in let z : _≡_ {A = ℕ} 0 1 = cc in absurd (omega arith)
 
 -- ---- a mark
@@ -80,24 +80,24 @@ pub record Going (s : List ℕ) (v : ℕ) (cs : List ℕ) (size count n : ℕ) :
   pub left : heard s n ≡ All rest
   pub size-is : capped (decimalOf v (leading cs)) ≡ capped (decimalOf size (leading rest))
   pub count-is : length (leading cs) ≡ count + length (leading rest)
-  pub behind-is : behind cs ≡ behind rest
+  pub behind-is : afterPoint cs ≡ afterPoint rest
 
 pub going-start : (s : List ℕ) (v at : ℕ) (cs : List ℕ) → heard s at ≡ All cs → Going s v cs v 0 at
 going-start s v at cs e = record { rest = cs; left = e; size-is = refl; count-is = omega arith; behind-is = refl }
 
-lead-more : (c : ℕ) (l : List ℕ) → isDigit c ≡ true → (leading (c ∷ l) ≡ c ∷ leading l) × (behind (c ∷ l) ≡ behind l)
-unfolding leading behind
+lead-more : (c : ℕ) (l : List ℕ) → isDigit c ≡ true → (leading (c ∷ l) ≡ c ∷ leading l) × (afterPoint (c ∷ l) ≡ afterPoint l)
+unfolding leading afterPoint
 lead-more c l e = rw (digit-yes c e) (refl, refl)
 
-lead-none : (c : ℕ) (l : List ℕ) → isDigit c ≡ false → (leading (c ∷ l) ≡ []) × (behind (c ∷ l) ≡ c ∷ l)
-unfolding leading behind
+lead-none : (c : ℕ) (l : List ℕ) → isDigit c ≡ false → (leading (c ∷ l) ≡ []) × (afterPoint (c ∷ l) ≡ c ∷ l)
+unfolding leading afterPoint
 lead-none c l e = rw (digit-no c e) (refl, refl)
 
 pushed : (size c : ℕ) (l : List ℕ) → capped (decimalOf size (c ∷ l)) ≡ capped (decimalOf (pushOf size c) l)
 unfolding decimalOf pushOf
 pushed size c l = sym (held (size * 10 + (c - 48)) l)
 
-pub going-next : (s : List ℕ) (v : ℕ) (cs : List ℕ) (size count : ℕ) {n c m : ℕ} → Going s v cs size count n → firstOf s n ≡ One c m
+pub going-next : (s : List ℕ) (v : ℕ) (cs : List ℕ) (size count : ℕ) {n c m : ℕ} → Going s v cs size count n → firstHeard s n ≡ One c m
     → isDigit c ≡ true → Going s v cs (pushOf size c) (count + 1) m
 going-next s v cs size count {n} {c} {m} g f e =
     let h = heard-first s n f (g .left) in
@@ -111,13 +111,13 @@ going-next s v cs size count {n} {c} {m} g f e =
       left = h .left;
       size-is = g .size-is ∙ ap (λ (t : List ℕ). capped (decimalOf size t)) a ∙ pushed size c (leading (h .rest));
       count-is = omega arith;
-      behind-is = g .behind-is ∙ ap behind x ∙ k .1;
+      behind-is = g .behind-is ∙ ap afterPoint x ∙ k .1;
     }
 
 -- where no digit stands first, the run is over
 over : (s : List ℕ) (v : ℕ) (cs : List ℕ) (size count : ℕ) {n : ℕ} → size ≤ 1000000000000000 → (g : Going s v cs size count n)
-    → leading (g .rest) ≡ [] → behind (g .rest) ≡ g .rest
-    → (size ≡ capped (decimalOf v (leading cs))) × (count ≡ length (leading cs)) × (heard s n ≡ All (behind cs))
+    → leading (g .rest) ≡ [] → afterPoint (g .rest) ≡ g .rest
+    → (size ≡ capped (decimalOf v (leading cs))) × (count ≡ length (leading cs)) × (heard s n ≡ All (afterPoint cs))
 unfolding decimalOf
 over s v cs size count {n} h g a b =
     let q = g .count-is in
@@ -128,19 +128,19 @@ over s v cs size count {n} h g a b =
     )
 
 module _ (s : List ℕ) (v : ℕ) (cs : List ℕ) (size count : ℕ) {n : ℕ} (h : size ≤ 1000000000000000) (g : Going s v cs size count n) where
-  pub going-other : {c m : ℕ} → firstOf s n ≡ One c m → isDigit c ≡ false → (size ≡ capped (decimalOf v (leading cs)))
-      × (count ≡ length (leading cs)) × (heard s n ≡ All (behind cs))
+  pub going-other : {c m : ℕ} → firstHeard s n ≡ One c m → isDigit c ≡ false → (size ≡ capped (decimalOf v (leading cs)))
+      × (count ≡ length (leading cs)) × (heard s n ≡ All (afterPoint cs))
   going-other {c} {m} f e =
       let k = heard-first s n f (g .left) in
       let l = lead-none c (k .rest) e in
-      over s v cs size count h g (ap leading (k .split) ∙ l .0) (ap behind (k .split) ∙ l .1 ∙ sym (k .split))
+      over s v cs size count h g (ap leading (k .split) ∙ l .0) (ap afterPoint (k .split) ∙ l .1 ∙ sym (k .split))
 
-  none-both : (l : List ℕ) → l ≡ [] → (leading l ≡ []) × (behind l ≡ l)
-  unfolding leading behind
+  none-both : (l : List ℕ) → l ≡ [] → (leading l ≡ []) × (afterPoint l ≡ l)
+  unfolding leading afterPoint
   none-both l e = rw e (refl, refl)
 
-  pub going-end : firstOf s n ≡ End → (size ≡ capped (decimalOf v (leading cs))) × (count ≡ length (leading cs))
-      × (heard s n ≡ All (behind cs))
+  pub going-end : firstHeard s n ≡ End → (size ≡ capped (decimalOf v (leading cs))) × (count ≡ length (leading cs))
+      × (heard s n ≡ All (afterPoint cs))
   going-end f = let k = none-both (g .rest) (heard-none s n f (g .left)) in over s v cs size count h g (k .0) (k .1)
 
 -- ---- both parts of a value

@@ -18,7 +18,7 @@ use Rattle.scan.specs.declared.Order.the-variants.{Less, Same, More}
 use Rattle.scan.proofs.Orders.{All, none, one, digit-bounds, less-exactly, strip-zero, strip-first, strip-none, less-both, less-longer}
 use Rattle.scan.proofs.Orders.{less-shorter, less-even}
 use Rattle.markup.specs.rule.Bytes.{isDigit}
-use Rattle.spans.specs.rule.Heard.{firstOf, heard}
+use Rattle.spans.specs.rule.Heard.{firstHeard, heard}
 use Rattle.spans.specs.rule.Heard as heard
 use Rattle.spans.specs.declared.First.the-variants as first
 use Rattle.amounts.specs.rule.Said.{digitsIn, trueIn}
@@ -73,7 +73,7 @@ less-true x y = less-digits (all-in x) (all-in y)
 
 -- ---- the next digit
 module _ (s : List ℕ) (digits : List ℕ) {n : ℕ} where
-  pub left-digit : {c m : ℕ} → Left s n digits → firstOf s n ≡ first.One c m → isDigit c ≡ true → (cs : List ℕ) → digits ≡ digitsIn cs
+  pub left-digit : {c m : ℕ} → Left s n digits → firstHeard s n ≡ first.One c m → isDigit c ≡ true → (cs : List ℕ) → digits ≡ digitsIn cs
       → Found s cs (One c m)
   unfolding digitsIn
   left-digit {c} {m} l f e cs d =
@@ -81,14 +81,14 @@ module _ (s : List ℕ) (digits : List ℕ) {n : ℕ} where
       let q : digitsIn (l .rest) ≡ c ∷ digitsIn (h .rest) = ap digitsIn (h .split) ∙ rw (digit-yes c e) in
       parts.one (h .left) (sym d ∙ sym (l .same) ∙ q)
 
-  pub left-other : {c m : ℕ} → Left s n digits → firstOf s n ≡ first.One c m → isDigit c ≡ false → Left s m digits
+  pub left-other : {c m : ℕ} → Left s n digits → firstHeard s n ≡ first.One c m → isDigit c ≡ false → Left s m digits
   unfolding digitsIn
   left-other {c} {m} l f e =
       let h = heard-first s n f (l .left) in
       let q : digitsIn (l .rest) ≡ digitsIn (h .rest) = ap digitsIn (h .split) ∙ rw (digit-no c e) in
       record { rest = h .rest; left = h .left; same = sym q ∙ l .same }
 
-  pub left-end : Left s n digits → firstOf s n ≡ first.End → (cs : List ℕ) → digits ≡ digitsIn cs → Found s cs Nothing
+  pub left-end : Left s n digits → firstHeard s n ≡ first.End → (cs : List ℕ) → digits ≡ digitsIn cs → Found s cs Nothing
   unfolding digitsIn
   left-end l f cs d = parts.nothing (sym d ∙ sym (l .same) ∙ ap digitsIn (heard-none s n f (l .left)))
 

@@ -10,7 +10,7 @@ use Rattle.scan.specs.Order.{stripped}
 use Rattle.scan.specs.declared.Digits.{Digits}
 use Rattle.spans.specs.rule.Heard.{heard, All}
 use Rattle.tokens.specs.declared.Mark.{Mark}
-use Rattle.reading.specs.rule.Token.{leading, behind, begins, without}
+use Rattle.reading.specs.rule.Token.{leading, afterPoint, begins, without}
 use Rattle.amounts.specs.rule.Said.{digitsIn}
 use Rattle.amounts.specs.declared.Digit.{Digit}
 use Rattle.amounts.specs.declared.Digit.the-variants.{One, Nothing}
@@ -24,7 +24,7 @@ abbrev pub Ran : List ℕ → ℕ → ℕ → Digits → Type 0
 Ran s at v d =
     (cs : List ℕ)
     → heard s at ≡ All cs
-    → (d .size ≡ capped (decimalOf v (leading cs))) × (d .count ≡ length (leading cs)) × (heard s (d .next) ≡ All (behind cs))
+    → (d .size ≡ capped (decimalOf v (leading cs))) × (d .count ≡ length (leading cs)) × (heard s (d .next) ≡ All (afterPoint cs))
 
 -- the first digit of all, with the place after it
 abbrev pub Ahead : ℕ → ℕ → Digit → Type 0

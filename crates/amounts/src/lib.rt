@@ -13,7 +13,7 @@ ghost use lib.Dec.{eqb};
 ghost use lib.ListN.{length};
 ghost use Rattle.scan.specs.Order.{orderThen, isLess};
 ghost use Rattle.spans.specs.rule.Heard.{heard, All};
-ghost use Rattle.reading.specs.rule.Token.{amountOf};
+ghost use Rattle.reading.specs.rule.Token.{amountRead};
 ghost use Rattle.amounts.specs.rule.Said.{Less};
 ghost use Rattle.amounts.specs.Filled.{filled};
 ghost use Rattle.amounts.specs.Parts.{Marked, Ran, Ahead, Picked, Stripped};
@@ -100,7 +100,7 @@ fn is_over(s: &[u8], at: usize) -> bool
 // The value that a stretch says, whose places in the file are `place` and `next`. A minus or none, digits, a point or none, digits; it
 // is formed if that is all, with a digit in it.
 pub fn value_in(s: &[u8], place: usize, next: usize) -> Value
-    ensures { λ r. ⌜ ((cs : List ℕ) → heard (now (s .entry)) 0 ≡ All cs → r ≡ filled place next (amountOf place next cs)) ⌝ }
+    ensures { λ r. ⌜ ((cs : List ℕ) → heard (now (s .entry)) 0 ≡ All cs → r ≡ filled place next (amountRead place next cs)) ⌝ }
 {
     let sign = find_mark(s, 0, 45);
     let whole = read_digits(s, sign.next, 0);

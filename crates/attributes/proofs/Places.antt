@@ -7,7 +7,7 @@ use native.Mathlib.Omega.{arith}
 use lib.Dec.{leb, eqb}
 use lib.ListN.{length, drop, getD}
 use borrow.Author.Tests.{leb-false, eqb-false}
-use Rattle.markup.specs.rule.Bytes.{ofKind, bytesOf, startsName, endFault}
+use Rattle.markup.specs.rule.Bytes.{ofKind, bytesWhile, startsName, endFault}
 use Rattle.markup.specs.declared.Skip.{Skip}
 use Rattle.markup.specs.declared.Skip.the-variants.{Past, Broken}
 use Rattle.utf.proofs.Strides.{apart}

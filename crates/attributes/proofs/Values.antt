@@ -13,7 +13,7 @@ use Rattle.scan.proofs.Loops.{loop-again, loop-done}
 use Rattle.utf.proofs.Strides.{drop-1}
 use Rattle.markup.specs.rule.Bytes.{endFault}
 use Rattle.markup.specs.rule.Reference.{referenceOf}
-use Rattle.markup.specs.rule.Gap.{nextOf}
+use Rattle.markup.specs.rule.Gap.{nextMove}
 use Rattle.markup.specs.rule.Grammar.{Ref}
 use Rattle.markup.specs.declared.Char.{Char}
 use Rattle.markup.specs.declared.Char.the-variants.{Is, Bad}
@@ -23,7 +23,7 @@ use Rattle.markup.specs.declared.Move.{Move}
 use Rattle.markup.specs.declared.Move.the-variants.{Go, Stop}
 use Rattle.markup.proofs.Runs.{first-at, onward}
 use Rattle.markup.proofs.References.{Referred, reference-sound, reference-complete}
-use Rattle.attributes.specs.rule.Attribute.{onChar, valueMove, quotedOf, Value, empty, plain, refer}
+use Rattle.attributes.specs.rule.Attribute.{onValueChar, valueMove, quotedOf, AttributeValue, empty, plain, refer}
 
 -- what one step passes
 pub record Step (quote : ℕ) (d : List ℕ) (p m : ℕ) : Type 0 where
@@ -32,7 +32,7 @@ pub record Step (quote : ℕ) (d : List ℕ) (p m : ℕ) : Type 0 where
   pub some : 0 < length bytes
   pub place : m ≡ p + length bytes
   pub within : m ≤ length d
-  pub values : (s : List ℕ) → Value quote s → Value quote (bytes ++ s)
+  pub values : (s : List ℕ) → AttributeValue quote s → AttributeValue quote (bytes ++ s)
 
 module _ (bad : Bool) (opened quote : ℕ) (d : List ℕ) where
   with-ref : (p c m : ℕ) → p < length d → getD d p 0 ≡ 38 → Referred (drop (p + 1) d) p c m → Step quote d p m
@@ -57,7 +57,7 @@ module _ (bad : Bool) (opened quote : ℕ) (d : List ℕ) where
   pub value-go : (p m : ℕ) → valueMove bad opened quote d p ≡ Go m → Step quote d p m
   unfolding valueMove
   value-go p m e = by (leb (length d) p) (eqb (getD d p 0) quote) (eqb (getD d p 0) 60) (eqb (getD d p 0) 38) refl refl refl refl e where
-    char : (r : Char) → referenceOf p (drop (p + 1) d) ≡ r → leb (length d) p ≡ false → eqb (getD d p 0) 38 ≡ true → onChar p r ≡ Go m
+    char : (r : Char) → referenceOf p (drop (p + 1) d) ≡ r → leb (length d) p ≡ false → eqb (getD d p 0) 38 ≡ true → onValueChar p r ≡ Go m
         → Step quote d p m
     char (Is c n) f g h e =
         let k : n ≡ m = cc in
@@ -66,7 +66,7 @@ module _ (bad : Bool) (opened quote : ℕ) (d : List ℕ) where
 
     by : (a b c r : Bool) → leb (length d) p ≡ a → eqb (getD d p 0) quote ≡ b → eqb (getD d p 0) 60 ≡ c → eqb (getD d p 0) 38 ≡ r
         → cond a (Stop (Broken (endFault bad p opened)))
-        (cond b (Stop (Past p)) (cond c (Stop (Broken p)) (cond r (onChar p (referenceOf p (drop (p + 1) d))) (Go (p + 1))))) ≡ Go m
+        (cond b (Stop (Past p)) (cond c (Stop (Broken p)) (cond r (onValueChar p (referenceOf p (drop (p + 1) d))) (Go (p + 1))))) ≡ Go m
         → Step quote d p m
     by true b c r f g h i e = let z : _≡_ {A = ℕ} 0 1 = cc in absurd (omega arith)
     by false true c r f g h i e = let z : _≡_ {A = ℕ} 0 1 = cc in absurd (omega arith)
@@ -85,11 +85,11 @@ module _ (bad : Bool) (opened quote : ℕ) (d : List ℕ) where
         }
 
   abbrev step : ℕ → Next ℕ Skip
-  step p = nextOf (valueMove bad opened quote d p)
+  step p = nextMove (valueMove bad opened quote d p)
 
   less : (p m : ℕ) → step p ≡ Again m → length d - m < length d - p
   less p m e = by (valueMove bad opened quote d p) refl e where
-    by : (r : Move) → valueMove bad opened quote d p ≡ r → nextOf r ≡ Again m → length d - m < length d - p
+    by : (r : Move) → valueMove bad opened quote d p ≡ r → nextMove r ≡ Again m → length d - m < length d - p
     by (Go k) f e = let h : k ≡ m = cc in let g = value-go p k f in let a = g .place in let b = g .some in let c = g .within in omega arith
     by (Stop r) f e = let z : _≡_ {A = ℕ} 0 1 = cc in absurd (omega arith)
 
@@ -105,13 +105,13 @@ module _ (bad : Bool) (opened quote : ℕ) (d : List ℕ) where
   value-past : (p k : ℕ) → valueMove bad opened quote d p ≡ Stop (Past k) → (k ≡ p) × (p < length d) × (getD d p 0 ≡ quote)
   unfolding valueMove
   value-past p k e = by (leb (length d) p) (eqb (getD d p 0) quote) (eqb (getD d p 0) 60) (eqb (getD d p 0) 38) refl refl e where
-    char : (r : Char) → onChar p r ≡ Stop (Past k) → (k ≡ p) × (p < length d) × (getD d p 0 ≡ quote)
+    char : (r : Char) → onValueChar p r ≡ Stop (Past k) → (k ≡ p) × (p < length d) × (getD d p 0 ≡ quote)
     char (Is c n) e = let z : _≡_ {A = ℕ} 0 1 = cc in absurd (omega arith)
     char Bad e = let z : _≡_ {A = ℕ} 0 1 = cc in absurd (omega arith)
 
     by : (a b c r : Bool) → leb (length d) p ≡ a → eqb (getD d p 0) quote ≡ b
         → cond a (Stop (Broken (endFault bad p opened)))
-        (cond b (Stop (Past p)) (cond c (Stop (Broken p)) (cond r (onChar p (referenceOf p (drop (p + 1) d))) (Go (p + 1)))))
+        (cond b (Stop (Past p)) (cond c (Stop (Broken p)) (cond r (onValueChar p (referenceOf p (drop (p + 1) d))) (Go (p + 1)))))
         ≡ Stop (Past k)
         → (k ≡ p) × (p < length d) × (getD d p 0 ≡ quote)
     by true b c r f g e = let z : _≡_ {A = ℕ} 0 1 = cc in absurd (omega arith)
@@ -123,7 +123,7 @@ module _ (bad : Bool) (opened quote : ℕ) (d : List ℕ) where
 -- from p to k a value's bytes stand, and at k its quote
 pub record Quoted (quote : ℕ) (d : List ℕ) (p k : ℕ) : Type 0 where
   pub bytes : List ℕ
-  pub value : Value quote bytes
+  pub value : AttributeValue quote bytes
   pub split : drop p d ≡ bytes ++ drop k d
   pub place : k ≡ p + length bytes
   pub within : k < length d
@@ -172,7 +172,8 @@ quoted-sound bad opened quote d p k e = sound bad opened quote d (length d) p k 
 
 module _ (bad : Bool) (opened quote : ℕ) (d : List ℕ) (apart : quote ≡ 38 → ⊥) (k : ℕ) (in-file : k < length d) (ends : getD d k 0 ≡ quote)
   where
-    complete : {u : List ℕ} → Value quote u → (p : ℕ) → drop p d ≡ u ++ drop k d → k ≡ p + length u → quotedOf bad opened quote d p ≡ Past k
+    complete : {u : List ℕ} → AttributeValue quote u → (p : ℕ) → drop p d ≡ u ++ drop k d → k ≡ p + length u → quotedOf bad opened quote d p
+        ≡ Past k
     unfolding valueMove
     complete empty p e f =
         let q : p ≡ k = omega arith in

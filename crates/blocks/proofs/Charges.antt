@@ -9,7 +9,7 @@ use borrow.Author.Tests.{lt-ltb}
 use Rattle.tokens.specs.declared.Fault.{Fault}
 use Rattle.reading.specs.rule.Result.{Result, Is, Not, bind}
 use Rattle.bridge.specs.Lowest.{never, Clear, Judged, fine, faulty, judged-view}
-use Rattle.reading.specs.rule.Least.{Charge, _when_, named, before, Finding, clean, first, lower, least, found, judged}
+use Rattle.reading.specs.rule.Least.{Charge, _when_, named, goesBefore, Finding, clean, first, lower, least, found, judged}
 
 -- every charge has a number below k; every charge has the number k
 abbrev pub Early : ℕ → List Charge → Type 0
@@ -27,7 +27,7 @@ data LateFound (k : ℕ) : Finding → Type 0 where
 lower-late : {k : ℕ} (f : Fault) {x : Finding} → f .number ≡ k → LateFound k x → LateFound k (lower f x)
 unfolding lower
 lower-late f e nothing = one e
-lower-late {k} f e (one {f = g} h) = by (before f g) where
+lower-late {k} f e (one {f = g} h) = by (goesBefore f g) where
   by : (q : Bool) → LateFound k (cond q (first f) (first g))
   by true = one e
   by false = one h
@@ -41,7 +41,7 @@ late-found k (f when q ∷ l) t = by q (late-found k l (t .1)) where
   by false ih = ih
 
 lower-early : {k : ℕ} (f : Fault) {x : Finding} → f .number < k → LateFound k x → lower f x ≡ first f
-unfolding lower before
+unfolding lower goesBefore
 lower-early f h nothing = refl
 lower-early f h (one {f = g} e) = rw (lt-ltb (f .number) (g .number) (omega arith))
 
@@ -55,7 +55,7 @@ split k [] m e t = refl
 split k (f when q ∷ l) m e t = by q (split k l m (e .1) t) where
   on : (x : Finding) → lower f (orElse x (least (named m))) ≡ orElse (lower f x) (least (named m))
   on clean = lower-early f (e .0) (late-found k m t)
-  on (first g) = each (before f g) where
+  on (first g) = each (goesBefore f g) where
     each : (q : Bool) → cond q (first f) (first g) ≡ orElse (cond q (first f) (first g)) (least (named m))
     each true = refl
     each false = refl

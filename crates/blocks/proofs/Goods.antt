@@ -44,16 +44,16 @@ use Rattle.survey.specs.rule.Survey.{Amount, Range, Line, Block}
 use Rattle.survey.specs.rule.Width.{someOf, eachOf, rangeEnds, amounts, scaled, decimalsIn, bare, pointIn}
 use Rattle.survey.specs.rule.Table.{fromOf, toOf}
 use Rattle.reading.specs.rule.Result.{Result, Is, Not, bind, turn, repeat}
-use Rattle.reading.specs.rule.Token.{amountOf}
-use Rattle.reading.specs.rule.Values.{formIs, large, unlike, lineCharges, withLine, rangeFrom, unlisted}
+use Rattle.reading.specs.rule.Token.{amountRead}
+use Rattle.reading.specs.rule.Values.{formIs, large, unlikeAmounts, lineCharges, withLine, rangeFrom, unlisted}
 use Rattle.bridge.specs.Lowest.{never, Clear, clear}
 use Rattle.bridge.specs.Facts.{capped-small}
 use Rattle.bridge.specs.Blocks.{form-same, large-same, small}
 use Rattle.amounts.proofs.Exactly.{Behind, nothing, point, Spelt, is-spelt}
 use Rattle.xml_reading.specs.rule.Word.{VALUES, VALUE, RANGE}
-use Rattle.xml_reading.specs.rule.Open.{Open, start, shut, onShut, opened, within, onBare, misplaced, either, due}
+use Rattle.xml_reading.specs.rule.Open.{Open, start, shut, onShut, opened, withinElement, onBare, misplaced, eitherElement, due}
 use Rattle.xml_reading.specs.rule.Element.{charsOf, amountIn}
-use Rattle.xml_reading.specs.rule.Block.{range, line, lined, onOpen, another}
+use Rattle.xml_reading.specs.rule.Block.{range, line, lined, onOpen, anotherLine}
 use Rattle.xml_reading.specs.rule.Block as block
 use Rattle.blocks.specs.Code.{heldAs, hasRange, blockOf, saidOf, told, Small, rangeBlock}
 use Rattle.blocks.specs.Lines.{rangeRead}
@@ -350,7 +350,7 @@ module _ (quantity : Bool) where
   not-below (negsuc a) (pos b) e = refl
   not-below (negsuc a) (negsuc b) e = le-leb b a (ltb-false a b e)
 
-  alike-is : (a b : Amount) → unlike a b ≡ false → a .decimals ≡ b .decimals
+  alike-is : (a b : Amount) → unlikeAmounts a b ≡ false → a .decimals ≡ b .decimals
   alike-is a b e = eqb-true (a .decimals) (b .decimals) (not-false (eqb (a .decimals) (b .decimals)) e)
 
   pub well-range : {bad : Bool} {d : List ℕ} {before n : ℕ} {r : Range} → before ≤ 4096 → RangeTold bad d quantity r n
@@ -369,11 +369,11 @@ module _ (quantity : Bool) where
         each = good.none;
       }
 
-  fine-more : (l : List Amount) (a : Amount) → Every (Fine quantity (decimalsIn l)) l → someOf (unlike a) l ≡ false
+  fine-more : (l : List Amount) (a : Amount) → Every (Fine quantity (decimalsIn l)) l → someOf (unlikeAmounts a) l ≡ false
       → ((k : ℕ) → a .decimals ≡ k → Fine quantity k a) → Every (Fine quantity (decimalsIn (l ++ a ∷ []))) (l ++ a ∷ [])
   unfolding someOf
   fine-more [] a e u f = also (f (a .decimals) refl) nil
-  fine-more (x ∷ l) a e u f = every-more e (f (x .decimals) (alike-is a x (or-none (unlike a x) (someOf (unlike a) l) u)))
+  fine-more (x ∷ l) a e u f = every-more e (f (x .decimals) (alike-is a x (or-none (unlikeAmounts a x) (someOf (unlikeAmounts a) l) u)))
 
   map-more : (l : List Line) (x : Line) → map (λ x. x .value) (l ++ x ∷ []) ≡ map (λ x. x .value) l ++ x .value ∷ []
   map-more [] x = refl
@@ -408,7 +408,7 @@ module _ (quantity : Bool) where
 
   record Clean (before : ℕ) (c : Block) (a : Amount) : Type 0 where
     form : formIs quantity a ≡ true
-    alike : someOf (unlike a) (amounts c) ≡ false
+    alike : someOf (unlikeAmounts a) (amounts c) ≡ false
     fresh : someOf (λ x. eqZ (scaled (x .value)) (scaled a)) (c .lines) ≡ false
     fits : large quantity a ≡ false
     few : before + length (c .lines) < 4096
@@ -445,8 +445,8 @@ module _ (quantity : Bool) where
   also-full c x = inr (omega (arith, told-count (c .lines ++ x ∷ []), length-append (c .lines) (x ∷ [])))
 
 -- ---- the readers
-inside : (bad : Bool) (d w : List ℕ) (n : ℕ) {p e : ℕ} → within bad d w n ≡ Is (start p) e → e ≤ length d
-unfolding within
+inside : (bad : Bool) (d w : List ℕ) (n : ℕ) {p e : ℕ} → withinElement bad d w n ≡ Is (start p) e → e ≤ length d
+unfolding withinElement
 inside bad d w n {p} {e} = by (standOf bad d n) refl where
   close : (q : ℕ) (s : Skip) → onShut q s ≡ Is (start p) e → e ≤ length d
   close q (skip.Past m) f = never cc
@@ -486,7 +486,7 @@ module _ (bad : Bool) (d : List ℕ) (languages quantity : Bool) (before : ℕ) 
 
   first-got : before ≤ 4096 → (n : ℕ) {k : Block} {m : ℕ} → block.first bad d languages quantity before n ≡ Is k m → Got k m
   unfolding block.first
-  first-got few n {k} {m} = by (within bad d VALUES n) refl where
+  first-got few n {k} {m} = by (withinElement bad d VALUES n) refl where
     ranged : (p e : ℕ) → e ≤ length d → (r : Result Range) → range bad d quantity p e ≡ r → bind r (λ r n. Is (rangeBlock r) n) ≡ Is k m
         → Got k m
     ranged p e l (Is r j) i f =
@@ -502,8 +502,8 @@ module _ (bad : Bool) (d : List ℕ) (languages quantity : Bool) (before : ℕ) 
     tagged p e l true f = ranged p e l (range bad d quantity p e) refl f
     tagged p e l false f = due-got (unlisted none) p e (well-none quantity few) l f
 
-    by : (o : Result Open) → within bad d VALUES n ≡ o
-        → bind o (λ o. either bad d RANGE o (rangeRead bad d quantity)
+    by : (o : Result Open) → withinElement bad d VALUES n ≡ o
+        → bind o (λ o. eitherElement bad d RANGE o (rangeRead bad d quantity)
         (due bad d VALUE o (lined bad d languages quantity before (unlisted none)))) ≡ Is k m
         → Got k m
     by (Is (start p) e) i f = tagged p e (inside bad d VALUES n i) (isNamed d (p + 1) e RANGE) f
@@ -514,21 +514,21 @@ module _ (bad : Bool) (d : List ℕ) (languages quantity : Bool) (before : ℕ) 
   Kept k = Well quantity before k × Full quantity k
 
   turns-got : (f : ℕ) (c : Block) (n : ℕ) (k : Block) (m : ℕ) → Well quantity before c → Full quantity c
-      → repeat f (another bad d languages quantity before) c n ≡ Is k m → Kept k
-  unfolding repeat another
+      → repeat f (anotherLine bad d languages quantity before) c n ≡ Is k m → Kept k
+  unfolding repeat anotherLine
   turns-got zero c n k m w u = λ e. never cc
-  turns-got (suc f) c n k m w u = by (within bad d VALUES n) refl (turns-got f) where
+  turns-got (suc f) c n k m w u = by (withinElement bad d VALUES n) refl (turns-got f) where
     step : (p e : ℕ) → e ≤ length d → (r : Result Block) → due bad d VALUE (start p) (lined bad d languages quantity before c) e ≡ r
         → ((c : Block) (n : ℕ) (k : Block) (m : ℕ) → Well quantity before c → Full quantity c
-        → repeat f (another bad d languages quantity before) c n ≡ Is k m → Kept k)
-        → bind (bind r (λ k n. Is (Again k) n)) (turn (repeat f (another bad d languages quantity before))) ≡ Is k m → Kept k
+        → repeat f (anotherLine bad d languages quantity before) c n ≡ Is k m → Kept k)
+        → bind (bind r (λ k n. Is (Again k) n)) (turn (repeat f (anotherLine bad d languages quantity before))) ≡ Is k m → Kept k
     step p e l (Is b j) i ih g = let t = due-got c p e w l i in ih b j k m (t .well) (t .full) g
     step p e l (Not h) i ih g = never cc
 
-    by : (o : Result Open) → within bad d VALUES n ≡ o
+    by : (o : Result Open) → withinElement bad d VALUES n ≡ o
         → ((c : Block) (n : ℕ) (k : Block) (m : ℕ) → Well quantity before c → Full quantity c
-        → repeat f (another bad d languages quantity before) c n ≡ Is k m → Kept k)
-        → bind (bind o (onOpen bad d languages quantity before c)) (turn (repeat f (another bad d languages quantity before))) ≡ Is k m
+        → repeat f (anotherLine bad d languages quantity before) c n ≡ Is k m → Kept k)
+        → bind (bind o (onOpen bad d languages quantity before c)) (turn (repeat f (anotherLine bad d languages quantity before))) ≡ Is k m
         → Kept k
     by (Is (start p) e) i ih g =
         step p e (inside bad d VALUES n i) (due bad d VALUE (start p) (lined bad d languages quantity before c) e) refl ih
@@ -541,7 +541,7 @@ module _ (bad : Bool) (d : List ℕ) (languages quantity : Bool) (before : ℕ) 
       → GoodValues quantity before (blockOf c) (told (c .lines))
   block-good few p e {c} {n} f = by (bareOf bad d p e) refl where
     on : (m : ℕ) (r : Result Block) → block.first bad d languages quantity before m ≡ r
-        → bind r (repeat (suc mostLines) (another bad d languages quantity before)) ≡ Is c n
+        → bind r (repeat (suc mostLines) (anotherLine bad d languages quantity before)) ≡ Is c n
         → GoodValues quantity before (blockOf c) (told (c .lines))
     on m (Is k j) i g =
         let t = first-got few m i in

@@ -20,7 +20,7 @@ use Rattle.tokens.specs.declared.Value.{Value}
 use Rattle.values.specs.Value.{pointsOf}
 use Rattle.survey.specs.rule.Survey.{Amount}
 use Rattle.survey.specs.rule.Width.{scaled}
-use Rattle.reading.specs.rule.Token.{amountOf}
+use Rattle.reading.specs.rule.Token.{amountRead}
 use Rattle.amounts.specs.rule.Said.{digitsIn, trueIn}
 use Rattle.amounts.specs.Filled.{filled}
 use Rattle.amounts.proofs.Exactly.{is-spelt, true-size}
@@ -35,9 +35,10 @@ fits-all d v e = by (heard (stretch d v e) 0) where
   by (All cs) q = refl
   by Ill q = holds-not q (le-ltb 0 0 (omega arith))
 
-pub amount-held : (d : List ℕ) (v e : ℕ) {r : Value} → ((cs : List ℕ) → heard (stretch d v e) 0 ≡ All cs → r ≡ filled v e (amountOf v e cs))
+pub amount-held : (d : List ℕ) (v e : ℕ) {r : Value}
+    → ((cs : List ℕ) → heard (stretch d v e) 0 ≡ All cs → r ≡ filled v e (amountRead v e cs))
     → stretchFits 2 d v e ≡ true → r ≡ heldAs (amountIn d v e)
-unfolding amountIn amountOf
+unfolding amountIn amountRead
 amount-held d v e h q = h (charsOf d v e) (fits-all d v e q)
 
 -- ---- two signs
@@ -103,7 +104,7 @@ module _ (d : List ℕ) (v e w k : ℕ) where
 
   pub below-true : {r : Bool} → stretchFits 2 d v e ≡ true → stretchFits 2 d w k ≡ true → x .formed ≡ true → y .formed ≡ true
       → Below d (heldAs x) (heldAs y) r → r ≡ ltZ (scaled y) (scaled x)
-  unfolding amountIn amountOf
+  unfolding amountIn amountRead
   below-true f g i j h =
       h (charsOf d v e) (charsOf d w k) (fits-all d v e f) (fits-all d w k g) ∙ rw (size-true v e i, size-true w k j)
 

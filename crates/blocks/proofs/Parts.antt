@@ -13,7 +13,7 @@ use lib.Signed.{ltZ}
 use borrow.Author.Tests.{not-false, eqb-true}
 use Rattle.below.specs.Below.{and-left}
 use Rattle.ranks.specs.declared.Found.{Found}
-use Rattle.ranks.specs.rule.Rank.{faultOf, lowerOf}
+use Rattle.ranks.specs.rule.Rank.{foundAt, lowerFound}
 use Rattle.tags.specs.rule.Tag.{isNamed, tagOf}
 use Rattle.tags.specs.declared.Held.{Held}
 use Rattle.tags.specs.declared.Tag.{Tag}
@@ -31,8 +31,8 @@ use Rattle.survey.specs.rule.Survey.{Amount, Range, Line, Block}
 use Rattle.survey.specs.rule.Width.{scaled}
 use Rattle.reading.specs.rule.Result.{Result, Is, Not, Reader, bind}
 use Rattle.reading.specs.rule.Least.{Charge, _when_, judged}
-use Rattle.reading.specs.rule.Token.{amountOf}
-use Rattle.reading.specs.rule.Values.{formIs, large, unlike, rangeFrom, unlisted, withLine}
+use Rattle.reading.specs.rule.Token.{amountRead}
+use Rattle.reading.specs.rule.Values.{formIs, large, unlikeAmounts, rangeFrom, unlisted, withLine}
 use Rattle.bridge.specs.Lowest as charges
 use Rattle.bridge.specs.Lowest.{never, Clear, clear, fine, faulty, judged-view}
 use Rattle.elements.specs.declared.Body as held
@@ -74,7 +74,7 @@ module _ (d : List ℕ) (quantity : Bool) (h : Held) where
   -- ---- a range that was read
   module _ (s : Slot d 2 (h .a) (h .ae)) (t : Slot d 2 (h .b) (h .be)) {a b : Value} (p : a ≡ heldAs x) (q : b ≡ heldAs y) where
     pub below-asks : (a .first ≤ a .last) × (a .last ≤ length d) × (b .first ≤ b .last) × (b .last ≤ length d)
-    unfolding amountIn amountOf
+    unfolding amountIn amountRead
     below-asks =
         let i : a .first ≡ h .a = ap (λ (v : Value). v .first) p in
         let j : a .last ≡ h .ae = ap (λ (v : Value). v .last) p in
@@ -91,7 +91,7 @@ module _ (d : List ℕ) (quantity : Bool) (h : Held) where
 
   -- what else was found comes behind
   range-behind : (n : ℕ) (l : List Charge) → Numbered l → Late 51 l
-      → rangedOf (lowerOf (faultOf 51 (h .unknown)) (foundOf l)) n (judgedOf (judged (pairCharges quantity x y) (rangeFrom x y) n))
+      → rangedOf (lowerFound (foundAt 51 (h .unknown)) (foundOf l)) n (judgedOf (judged (pairCharges quantity x y) (rangeFrom x y) n))
       ≡ linedOf (bind (judged (pairCharges quantity x y ++ unknownAt (h .unknown) ∷ l) (rangeFrom x y) n) (λ r m. Is (rangeBlock r) m))
   unfolding pairCharges
   range-behind n l num late =
@@ -100,7 +100,7 @@ module _ (d : List ℕ) (quantity : Bool) (h : Held) where
       (by (judged-view (pairCharges quantity x y) (rangeFrom x y) n))
     where
       z : Found
-      z = lowerOf (faultOf 51 (h .unknown)) (foundOf l)
+      z = lowerFound (foundAt 51 (h .unknown)) (foundOf l)
 
       ends : (q : Bool)
           → cond q (lining.Is (blockOf (rangeBlock (rangeFrom x y))) n) (lining.Not (fault (z .number) (z .place)))

@@ -19,8 +19,8 @@ use Rattle.values.specs.Range.{limitRange, judgeRange}
 use Rattle.survey.specs.rule.Survey.{Amount, Range}
 use Rattle.survey.specs.rule.Width.{someOf, eachOf, amounts, scaled}
 use Rattle.reading.specs.rule.Result.{Result, Is, Not, bind}
-use Rattle.reading.specs.rule.Least.{Charge, _when_, named, before, Finding, clean, first, lower, least, found, judged}
-use Rattle.reading.specs.rule.Values.{formIs, large, unlike, rangeFrom}
+use Rattle.reading.specs.rule.Least.{Charge, _when_, named, goesBefore, Finding, clean, first, lower, least, found, judged}
+use Rattle.reading.specs.rule.Values.{formIs, large, unlikeAmounts, rangeFrom}
 use Rattle.bridge.specs.Blocks.{form-same, large-same, small, Kept}
 use Rattle.xml_reading.specs.rule.Block.{pairCharges}
 use Rattle.blocks.specs.Code.{heldAs, turned, pairOf, blockOf, rangeBlock, judgedOf}
@@ -56,7 +56,7 @@ module _ (x y : Amount) (s : capped (x .size) ≡ x .size) (t : capped (y .size)
   made-is = rw (s, t, points (x .point) (eqb (x .whole) 0) (y .point) (eqb (y .whole) 0))
 
 -- the decimals of its two values are alike, which is all that the books keep of them
-pub range-kept : (x y : Amount) → unlike x y ≡ false → Kept (blockOf (rangeBlock (rangeFrom x y))) (rangeBlock (rangeFrom x y))
+pub range-kept : (x y : Amount) → unlikeAmounts x y ≡ false → Kept (blockOf (rangeBlock (rangeFrom x y))) (rangeBlock (rangeFrom x y))
 unfolding blockOf amounts someOf
 range-kept x y u =
     let e = eqb-true (x .decimals) (y .decimals) (not-false (eqb (x .decimals) (y .decimals)) u) in
@@ -64,7 +64,7 @@ range-kept x y u =
       decimals = refl;
       point = refl;
       known = refl;
-      unlike-some = λ c. rw (← e) (twice (unlike c x));
+      unlike-some = λ c. rw (← e) (twice (unlikeAmounts c x));
       ranged = refl;
       from = refl;
       to = refl;
@@ -88,7 +88,7 @@ module _ (a b : ℕ) where
 
     sixes-first : leb a b ≡ true → (p q u v : Bool)
         → judged (sixes p q u v) x n ≡ cond p (cond q (cond u (bad 6 b) (cond v (bad 6 b) (Is x n))) (bad 6 b)) (bad 6 a)
-    unfolding judged least named lower before
+    unfolding judged least named lower goesBefore
     sixes-first o true true true true = rw (le-leb b b (omega arith))
     sixes-first o true true true false = refl
     sixes-first o true true false true = refl
@@ -99,7 +99,7 @@ module _ (a b : ℕ) where
 
     sixes-turned : leb a b ≡ false → (p q u v : Bool)
         → judged (sixes p q u v) x n ≡ cond q (cond p (cond u (bad 6 b) (cond v (bad 6 b) (Is x n))) (bad 6 a)) (bad 6 b)
-    unfolding judged least named lower before
+    unfolding judged least named lower goesBefore
     sixes-turned o true true true true = rw (le-leb b b (omega arith))
     sixes-turned o true true true false = refl
     sixes-turned o true true false true = refl
@@ -109,14 +109,14 @@ module _ (a b : ℕ) where
     sixes-turned o false false u v = rw o
 
     eights-first : leb a b ≡ true → (g h : Bool) → judged (eights g h) x n ≡ cond g (bad 8 a) (cond h (bad 8 b) (Is x n))
-    unfolding judged least named lower before
+    unfolding judged least named lower goesBefore
     eights-first o true true = rw o
     eights-first o true false = refl
     eights-first o false true = refl
     eights-first o false false = refl
 
     eights-turned : leb a b ≡ false → (g h : Bool) → judged (eights g h) x n ≡ cond h (bad 8 b) (cond g (bad 8 a) (Is x n))
-    unfolding judged least named lower before
+    unfolding judged least named lower goesBefore
     eights-turned o true true = rw o
     eights-turned o true false = refl
     eights-turned o false true = refl
@@ -154,11 +154,11 @@ module _ (quantity below : Bool) (x y : Amount) (n : ℕ) where
   good = rangeFrom x y
 
   parts : judged (pairCharges quantity x y) good n
-      ≡ bind (judged (sixes a b (formIs quantity x) (formIs quantity y) (unlike x y) (ltZ (scaled y) (scaled x))) good n)
+      ≡ bind (judged (sixes a b (formIs quantity x) (formIs quantity y) (unlikeAmounts x y) (ltZ (scaled y) (scaled x))) good n)
       (λ r n. judged (eights a b (large quantity x) (large quantity y)) r n)
   unfolding pairCharges
   parts =
-      judged-split 8 (sixes a b (formIs quantity x) (formIs quantity y) (unlike x y) (ltZ (scaled y) (scaled x)))
+      judged-split 8 (sixes a b (formIs quantity x) (formIs quantity y) (unlikeAmounts x y) (ltZ (scaled y) (scaled x)))
       (eights a b (large quantity x) (large quantity y))
       (omega arith, (omega arith, (omega arith, (omega arith, tt)))) (refl, (refl, tt)) good n
 
@@ -222,7 +222,8 @@ module _ (quantity below : Bool) (x y : Amount) (n : ℕ) where
             → cond o (cond (formIs quantity y) (turned quantity (heldAs y) (judge (formIs quantity x) (formIs quantity y)
             (eqb (x .decimals) (y .decimals)) below (large quantity x) (large quantity y))) (refused 6 b))
             (judge (formIs quantity x) (formIs quantity y) (eqb (x .decimals) (y .decimals)) below (large quantity x) (large quantity y))
-            ≡ judgedOf (bind (judged (sixes a b (formIs quantity x) (formIs quantity y) (unlike x y) (ltZ (scaled y) (scaled x))) good n)
+            ≡ judgedOf (bind (judged (sixes a b (formIs quantity x) (formIs quantity y) (unlikeAmounts x y) (ltZ (scaled y) (scaled x)))
+            good n)
             (λ r n. judged (eights a b (large quantity x) (large quantity y)) r n))
         by true e =
             in-turn (lt-leb a b (ltb-true b a e)) (formIs quantity x) (formIs quantity y) (eqb (x .decimals) (y .decimals))

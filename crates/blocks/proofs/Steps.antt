@@ -25,12 +25,12 @@ use Rattle.values.specs.Value.{scaledOf}
 use Rattle.values.specs.Line.{numberAt, judgeLine, grownBy, lineCells}
 use Rattle.values.specs.Room.{roomAt, slotOf, judgedRoom, judgedMarks}
 use Rattle.values.proofs.Lists.{Holds, none-held, judged-here, one-more}
-use Rattle.survey.specs.rule.Survey.{Amount, Text, Range, Line, Block}
+use Rattle.survey.specs.rule.Survey.{Amount, KeptText, Range, Line, Block}
 use Rattle.survey.specs.rule.Width.{flag, someOf, amounts, scaled}
 use Rattle.survey.specs.rule.Table.{ranged}
 use Rattle.reading.specs.rule.Result.{Result, Is, Not, bind}
 use Rattle.reading.specs.rule.Least.{Charge, _when_, judged}
-use Rattle.reading.specs.rule.Values.{formIs, large, unlike, lineCharges, withLine, unlisted}
+use Rattle.reading.specs.rule.Values.{formIs, large, unlikeAmounts, lineCharges, withLine, unlisted}
 use Rattle.bridge.specs.Lowest.{never, Clear, clear, Judged, fine, faulty, judged-view}
 use Rattle.bridge.specs.Blocks.{small, lineOf, Kept, kept-more}
 use Rattle.bridge.specs.Values.{empty-kept}
@@ -108,7 +108,7 @@ module _ {quantity : Bool} {before : ℕ} {start room : List ℤ} {stamp : ℕ} 
 
   -- what a line that stands is known to say
   record Free : Type 0 where
-    alike : someOf (unlike a) (amounts c) ≡ false
+    alike : someOf (unlikeAmounts a) (amounts c) ≡ false
     fits : large quantity a ≡ false
     few : before + length (c .lines) < 4096
 

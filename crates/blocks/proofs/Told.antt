@@ -27,8 +27,8 @@ use Rattle.survey.specs.rule.Survey.{Amount, Line, Block}
 use Rattle.survey.specs.rule.Width.{someOf, rangeEnds, amounts, scaled}
 use Rattle.survey.specs.rule.Table as table
 use Rattle.reading.specs.rule.Result.{Result, Is, Not}
-use Rattle.reading.specs.rule.Least.{before, judged}
-use Rattle.reading.specs.rule.Values.{formIs, large, unlike, lineCharges, withLine}
+use Rattle.reading.specs.rule.Least.{goesBefore, judged}
+use Rattle.reading.specs.rule.Values.{formIs, large, unlikeAmounts, lineCharges, withLine}
 use Rattle.bridge.specs.Lowest.{chain, rising, chain-least}
 use Rattle.bridge.specs.Blocks.{form-same, large-same, small, Kept}
 use Rattle.blocks.specs.Code.{heldAs, saidOf, told, verdictOf, Small}
@@ -91,7 +91,7 @@ unfolding repeatedIn
 told-repeats quantity l h z = repeats quantity l h z
 
 -- ---- a value too large repeats none
-alike-large : (quantity : Bool) (a b : Amount) → scaled b ≡ scaled a → unlike a b ≡ false → large quantity a ≡ large quantity b
+alike-large : (quantity : Bool) (a b : Amount) → scaled b ≡ scaled a → unlikeAmounts a b ≡ false → large quantity a ≡ large quantity b
 unfolding large
 alike-large quantity a b e u =
     let d = eqb-true (a .decimals) (b .decimals) (not-false (eqb (a .decimals) (b .decimals)) u) in
@@ -100,28 +100,28 @@ alike-large quantity a b e u =
     rw (s, d)
 
 fresh-in : (quantity : Bool) (a : Amount) (l : List Line) → large quantity a ≡ true → Small quantity l
-    → someOf (unlike a) (map (λ x. x .value) l) ≡ false → someOf (λ x. eqZ (scaled (x .value)) (scaled a)) l ≡ false
+    → someOf (unlikeAmounts a) (map (λ x. x .value) l) ≡ false → someOf (λ x. eqZ (scaled (x .value)) (scaled a)) l ≡ false
 unfolding someOf Small
 fresh-in quantity a [] g h u = refl
 fresh-in quantity a (x ∷ l) g h u =
     let f : Line → Bool = λ z. large quantity (z .value) in
     let rest = fresh-in quantity a l g (or-neither (f x) (someOf f l) h)
-    (or-neither (unlike a (x .value)) (someOf (unlike a) (map (λ x. x .value) l)) u) in
+    (or-neither (unlikeAmounts a (x .value)) (someOf (unlikeAmounts a) (map (λ x. x .value) l)) u) in
     rw rest (by (eqZ (scaled (x .value)) (scaled a)) refl (or-none (f x) (someOf f l) h)
-    (or-none (unlike a (x .value)) (someOf (unlike a) (map (λ x. x .value) l)) u))
+    (or-none (unlikeAmounts a (x .value)) (someOf (unlikeAmounts a) (map (λ x. x .value) l)) u))
   where
-    by : (q : Bool) → eqZ (scaled (x .value)) (scaled a) ≡ q → large quantity (x .value) ≡ false → unlike a (x .value) ≡ false
+    by : (q : Bool) → eqZ (scaled (x .value)) (scaled a) ≡ q → large quantity (x .value) ≡ false → unlikeAmounts a (x .value) ≡ false
         → (q || false) ≡ false
     by true e i j = holds-not (sym (alike-large quantity a (x .value) (same-true (scaled (x .value)) (scaled a) e) j) ∙ g) i
     by false e i j = refl
 
 large-fresh : (quantity : Bool) (a : Amount) (c : Block) → large quantity a ≡ true → Small quantity (c .lines)
-    → someOf (unlike a) (amounts c) ≡ false → someOf (λ x. eqZ (scaled (x .value)) (scaled a)) (c .lines) ≡ false
+    → someOf (unlikeAmounts a) (amounts c) ≡ false → someOf (λ x. eqZ (scaled (x .value)) (scaled a)) (c .lines) ≡ false
 unfolding amounts
 large-fresh quantity a c g h u =
     fresh-in quantity a (c .lines) g h
-    (or-neither (someOf (unlike a) (rangeEnds (c .range))) (someOf (unlike a) (map (λ x. x .value) (c .lines)))
-    (sym (some-more (unlike a) (rangeEnds (c .range)) (map (λ x. x .value) (c .lines))) ∙ u))
+    (or-neither (someOf (unlikeAmounts a) (rangeEnds (c .range))) (someOf (unlikeAmounts a) (map (λ x. x .value) (c .lines)))
+    (sym (some-more (unlikeAmounts a) (rangeEnds (c .range)) (map (λ x. x .value) (c .lines))) ∙ u))
 
 -- ---- a line, judged
 module _ (quantity : Bool) (first : ℕ) (b : books.Block) (c : Block) (kept : Kept b c) (sizes : Small quantity (c .lines)) (x : Line)
@@ -130,7 +130,7 @@ module _ (quantity : Bool) (first : ℕ) (b : books.Block) (c : Block) (kept : K
   a = x .value
 
   rise : rising (lineCharges quantity first c a) ≡ true
-  unfolding rising lineCharges before
+  unfolding rising lineCharges goesBefore
   rise = rw (le-leb (a .place) (a .place) (omega arith))
 
   abbrev bad : ℕ → Verdict
@@ -158,13 +158,13 @@ module _ (quantity : Bool) (first : ℕ) (b : books.Block) (c : Block) (kept : K
         kept .unlike-some a,
         told-count (c .lines),
       )
-      (by (formIs quantity a) (someOf (unlike a) (amounts c)) (large quantity a) refl refl))
+      (by (formIs quantity a) (someOf (unlikeAmounts a) (amounts c)) (large quantity a) refl refl))
     where
       ends : (r e : Bool) → large quantity a ≡ false
           → cond r (bad 6) (cond e (bad 8) (verdict.Good (scaledOf (heldAs a)))) ≡ cond r (bad 6) (cond e (bad 8) (verdict.Good (scaled a)))
       ends r e g = rw (said g)
 
-      by : (q u g : Bool) → someOf (unlike a) (amounts c) ≡ u → large quantity a ≡ g
+      by : (q u g : Bool) → someOf (unlikeAmounts a) (amounts c) ≡ u → large quantity a ≡ g
           → cond (eqb (cond q (cond u 6 (cond g 8 0)) 6) 0)
           (cond (repeatedIn (numberAt (told (c .lines))) (length (c .lines)) (scaledOf (heldAs a))) (bad 6)
           (cond (leb 4096 (first + length (c .lines))) (bad 8) (verdict.Good (scaledOf (heldAs a)))))

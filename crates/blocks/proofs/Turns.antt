@@ -29,7 +29,7 @@ use Rattle.survey.specs.rule.Table.{cellsOf}
 use Rattle.values.specs.Line as lines
 use Rattle.reading.specs.rule.Result.{Result, Is, Not, Reader, bind, repeat}
 use Rattle.reading.specs.rule.Least.{Charge, _when_, named, lower, least, judged}
-use Rattle.reading.specs.rule.Values.{formIs, large, unlike, rangeFrom, unlisted, withLine}
+use Rattle.reading.specs.rule.Values.{formIs, large, unlikeAmounts, rangeFrom, unlisted, withLine}
 use Rattle.bridge.specs.Lowest.{never, Clear, clear}
 use Rattle.bridge.specs.Blocks.{Kept}
 use Rattle.bridge.specs.Values.{empty-kept}
@@ -39,8 +39,8 @@ use Rattle.elements.specs.Code.{openOf, readOf, blamed}
 use Rattle.elements.proofs.Dues.{read-open, missed}
 use Rattle.xml_reading.specs.rule.Word.{VALUES, VALUE, RANGE}
 use Rattle.xml_reading.specs.rule.Open as rule
-use Rattle.xml_reading.specs.rule.Open.{start, shut, within, due, misplaced}
-use Rattle.xml_reading.specs.rule.Block.{pairCharges, range, lined, onOpen, another}
+use Rattle.xml_reading.specs.rule.Open.{start, shut, withinElement, due, misplaced}
+use Rattle.xml_reading.specs.rule.Block.{pairCharges, range, lined, onOpen, anotherLine}
 use Rattle.xml_reading.specs.rule.Block as block
 use Rattle.blocks.specs.Code.{blockOf, rangeBlock, told, countedOf, listedOf, Stored}
 use Rattle.blocks.specs.Lines.{rangeRead, firstTag, blockRead, linedOf, Lines, Standing, Went, Begun, Closed}
@@ -56,7 +56,7 @@ use Rattle.blocks.proofs.Steps.{kept-is, none-lines}
 pub record Sound (quantity : Bool) (a b : Amount) : Type 0 where
   pub from-form : formIs quantity a ≡ true
   pub to-form : formIs quantity b ≡ true
-  pub alike : unlike a b ≡ false
+  pub alike : unlikeAmounts a b ≡ false
   pub ordered : ltZ (scaled b) (scaled a) ≡ false
   pub from-fits : large quantity a ≡ false
   pub to-fits : large quantity b ≡ false
@@ -129,21 +129,22 @@ module _ {top : ℕ} {quantity : Bool} {before : ℕ} {first room : List ℤ} {s
 
 -- ---- what stands where an element is due
 module _ (bad : Bool) (d : List ℕ) (at : ℕ) where
-  pub open-is : {o : Open} → openOf (within bad d VALUES at) ≡ o → within bad d VALUES at ≡ readOf o
-  open-is e = sym (read-open (within bad d VALUES at)) ∙ ap readOf e
+  pub open-is : {o : Open} → openOf (withinElement bad d VALUES at) ≡ o → withinElement bad d VALUES at ≡ readOf o
+  open-is e = sym (read-open (withinElement bad d VALUES at)) ∙ ap readOf e
 
   module _ (languages quantity : Bool) (before : ℕ) where
-    pub first-start : {p e : ℕ} → openOf (within bad d VALUES at) ≡ opened.Start p e
+    pub first-start : {p e : ℕ} → openOf (withinElement bad d VALUES at) ≡ opened.Start p e
         → block.first bad d languages quantity before at ≡ firstTag bad d languages quantity before p e
     unfolding block.first
     first-start e = rw (open-is e)
 
-    pub first-shut : {p n : ℕ} → openOf (within bad d VALUES at) ≡ opened.Shut p n
+    pub first-shut : {p n : ℕ} → openOf (withinElement bad d VALUES at) ≡ opened.Shut p n
         → block.first bad d languages quantity before at ≡ Not (fault 2 p)
     unfolding block.first
     first-shut e = rw (open-is e)
 
-    pub first-not : {f : Fault} → openOf (within bad d VALUES at) ≡ opened.Not f → block.first bad d languages quantity before at ≡ Not f
+    pub first-not : {f : Fault} → openOf (withinElement bad d VALUES at) ≡ opened.Not f → block.first bad d languages quantity before at
+        ≡ Not f
     unfolding block.first
     first-not e = rw (open-is e)
 
@@ -175,31 +176,33 @@ module _ (bad : Bool) (d : List ℕ) (languages quantity : Bool) (before : ℕ) 
 
 module _ (bad : Bool) (d : List ℕ) (languages quantity : Bool) (before : ℕ) (c : Block) (n f : ℕ) where
   abbrev turns : ℕ → Block → ℕ → Result Block
-  turns f k m = repeat f (another bad d languages quantity before) k m
+  turns f k m = repeat f (anotherLine bad d languages quantity before) k m
 
   abbrev dues : ℕ → ℕ → Result Block
   dues p e = due bad d VALUE (start p) (lined bad d languages quantity before c) e
 
-  start-turn : {p e : ℕ} → openOf (within bad d VALUES n) ≡ opened.Start p e → another bad d languages quantity before c n
+  start-turn : {p e : ℕ} → openOf (withinElement bad d VALUES n) ≡ opened.Start p e → anotherLine bad d languages quantity before c n
       ≡ bind (dues p e) (λ k m. Is (Again k) m)
-  unfolding another
+  unfolding anotherLine
   start-turn {p} {e} i = rw (open-is bad d n i) (due-again bad d languages quantity before c p e)
 
-  pub turn-again : {p e m : ℕ} {k : Block} → openOf (within bad d VALUES n) ≡ opened.Start p e → dues p e ≡ Is k m → turns (suc f) c n
+  pub turn-again : {p e m : ℕ} {k : Block} → openOf (withinElement bad d VALUES n) ≡ opened.Start p e → dues p e ≡ Is k m
+      → turns (suc f) c n
       ≡ turns f k m
   unfolding repeat
   turn-again i j = rw (start-turn i, j)
 
-  pub turn-not : {p e : ℕ} {g : Fault} → openOf (within bad d VALUES n) ≡ opened.Start p e → dues p e ≡ Not g → turns (suc f) c n ≡ Not g
+  pub turn-not : {p e : ℕ} {g : Fault} → openOf (withinElement bad d VALUES n) ≡ opened.Start p e → dues p e ≡ Not g → turns (suc f) c n
+      ≡ Not g
   unfolding repeat
   turn-not i j = rw (start-turn i, j)
 
-  pub turn-over : {p m : ℕ} → openOf (within bad d VALUES n) ≡ opened.Shut p m → turns (suc f) c n ≡ Is c m
-  unfolding repeat another
+  pub turn-over : {p m : ℕ} → openOf (withinElement bad d VALUES n) ≡ opened.Shut p m → turns (suc f) c n ≡ Is c m
+  unfolding repeat anotherLine
   turn-over i = rw (open-is bad d n i)
 
-  pub turn-none : {g : Fault} → openOf (within bad d VALUES n) ≡ opened.Not g → turns (suc f) c n ≡ Not g
-  unfolding repeat another
+  pub turn-none : {g : Fault} → openOf (withinElement bad d VALUES n) ≡ opened.Not g → turns (suc f) c n ≡ Not g
+  unfolding repeat anotherLine
   turn-none i = rw (open-is bad d n i)
 
 -- ---- what the code gave back of a line
@@ -233,7 +236,7 @@ pub record Reached (bad : Bool) (d : List ℕ) (languages quantity : Bool) (befo
   pub left : ℕ
   pub lines : Lines quantity before first room stamp marks last b block
   pub enough : 4096 - last < suc left
-  pub same : r ≡ repeat (suc left) (another bad d languages quantity before) block n
+  pub same : r ≡ repeat (suc left) (anotherLine bad d languages quantity before) block n
 
 -- where the loop stands: beside some block, and beside each that it may have begun with
 pub record Ran (bad : Bool) (d : List ℕ) (languages quantity : Bool) (before : ℕ) (stamp : ℕ) (began : List ℤ) (marked : List ℕ) (n₀ : ℕ)
@@ -241,7 +244,8 @@ pub record Ran (bad : Bool) (d : List ℕ) (languages quantity : Bool) (before :
   pub standing : Standing quantity before room stamp marks last b
   pub inside : n ≤ length d
   pub follows : (c : Block) (first : List ℤ) (f : ℕ) → Lines quantity before first began stamp marked last₀ b₀ c → 4096 - last₀ < f
-      → Reached bad d languages quantity before first room stamp marks n b last (repeat f (another bad d languages quantity before) c n₀)
+      → Reached bad d languages quantity before first room stamp marks n b last
+      (repeat f (anotherLine bad d languages quantity before) c n₀)
 
 pub closed-not : {top before : ℕ} {x : Result Block} {room end : List ℤ} {f : Fault} → x ≡ Not f
     → Closed top before x room end (listing.Not f)
@@ -272,13 +276,14 @@ closed-over {top} {quantity} {before} {first} {room} {last = last} {b = b} {c = 
 module _ {bad : Bool} {d : List ℕ} {languages quantity : Bool} {before stamp : ℕ} {first room : List ℤ} {marks : List ℕ} {n : ℕ}
     {b : books.Block}
     {last : ℕ} {r : Result Block} (t : Reached bad d languages quantity before first room stamp marks n b last r) where
-  reached-more : {p e : ℕ} → openOf (within bad d VALUES n) ≡ opened.Start p e → {end : List ℤ} {after : List ℕ} {k : books.Block} {m : ℕ}
+  reached-more : {p e : ℕ} → openOf (withinElement bad d VALUES n) ≡ opened.Start p e
+      → {end : List ℤ} {after : List ℕ} {k : books.Block} {m : ℕ}
       → last < 4096
       → Stepped (length d) quantity before first end stamp after last k
       (due bad d VALUE (start p) (lined bad d languages quantity before (t .block)) e) m
       → Reached bad d languages quantity before first end stamp after m k (last + 1) r
   reached-more o {end} {after} {k} {m} less s = by (t .left) (t .enough) (t .same) where
-    by : (u : ℕ) → 4096 - last < suc u → r ≡ repeat (suc u) (another bad d languages quantity before) (t .block) n
+    by : (u : ℕ) → 4096 - last < suc u → r ≡ repeat (suc u) (anotherLine bad d languages quantity before) (t .block) n
         → Reached bad d languages quantity before first end stamp after m k (last + 1) r
     by zero h q = absurd (omega arith)
     by (suc u) h q = record {
@@ -295,13 +300,14 @@ module _ {bad : Bool} {d : List ℕ} {languages quantity : Bool} {before stamp :
       → Ran bad d languages quantity before stamp room marks n b last room marks n b last
   ran-first {room} {marks} {n} {b} {last} s h = record { standing = s; inside = h; follows = begin } where
     begin : (c : Block) (first : List ℤ) (f : ℕ) → Lines quantity before first room stamp marks last b c → 4096 - last < f
-        → Reached bad d languages quantity before first room stamp marks n b last (repeat f (another bad d languages quantity before) c n)
+        → Reached bad d languages quantity before first room stamp marks n b last
+        (repeat f (anotherLine bad d languages quantity before) c n)
     begin c first zero l e = absurd (omega arith)
     begin c first (suc f) l e = record { block = c; left = f; lines = l; enough = e; same = refl }
 
   module _ {began room : List ℤ} {marked marks : List ℕ} {n₀ n : ℕ} {b₀ b : books.Block} {last₀ last : ℕ}
       (i : Ran bad d languages quantity before stamp began marked n₀ b₀ last₀ room marks n b last) {p e : ℕ}
-      (o : openOf (within bad d VALUES n) ≡ opened.Start p e) {out : Lined} {end : List ℤ} {after : List ℕ}
+      (o : openOf (withinElement bad d VALUES n) ≡ opened.Start p e) {out : Lined} {end : List ℤ} {after : List ℕ}
       (w : (c : Block) (first : List ℤ) → Lines quantity before first room stamp marks last b c
       → Went (length d) quantity before first end stamp after last (due bad d VALUE (start p) (lined bad d languages quantity before c) e)
       out) where
@@ -325,7 +331,8 @@ module _ {bad : Bool} {d : List ℕ} {languages quantity : Bool} {before stamp :
 
     pub ran-not : {g : Fault} → out ≡ lining.Not g → (c : Block) (first : List ℤ) (f : ℕ)
         → Lines quantity before first began stamp marked last₀ b₀ c
-        → 4096 - last₀ < f → Closed (length d) before (repeat f (another bad d languages quantity before) c n₀) first end (listing.Not g)
+        → 4096 - last₀ < f → Closed (length d) before (repeat f (anotherLine bad d languages quantity before) c n₀) first end
+        (listing.Not g)
     ran-not q c first f l h =
         let t = i .follows c first f l h in
         closed-not (t .same ∙ turn-not bad d languages quantity before (t .block) n (t .left) o
@@ -333,17 +340,18 @@ module _ {bad : Bool} {d : List ℕ} {languages quantity : Bool} {before stamp :
 
   module _ {began room : List ℤ} {marked marks : List ℕ} {n₀ n : ℕ} {b₀ b : books.Block} {last₀ last : ℕ}
       (i : Ran bad d languages quantity before stamp began marked n₀ b₀ last₀ room marks n b last) where
-    pub ran-over : {p m : ℕ} → openOf (within bad d VALUES n) ≡ opened.Shut p m → m ≤ length d
+    pub ran-over : {p m : ℕ} → openOf (withinElement bad d VALUES n) ≡ opened.Shut p m → m ≤ length d
         → (c : Block) (first : List ℤ) (f : ℕ) → Lines quantity before first began stamp marked last₀ b₀ c
-        → 4096 - last₀ < f → Closed (length d) before (repeat f (another bad d languages quantity before) c n₀) first room
+        → 4096 - last₀ < f → Closed (length d) before (repeat f (anotherLine bad d languages quantity before) c n₀) first room
         (listing.Is b last m)
     ran-over o k c first f l h =
         let t = i .follows c first f l h in
         closed-over (t .same ∙ turn-over bad d languages quantity before (t .block) n (t .left) o) (t .lines) k
 
-    pub ran-none : {g : Fault} → openOf (within bad d VALUES n) ≡ opened.Not g
+    pub ran-none : {g : Fault} → openOf (withinElement bad d VALUES n) ≡ opened.Not g
         → (c : Block) (first : List ℤ) (f : ℕ) → Lines quantity before first began stamp marked last₀ b₀ c
-        → 4096 - last₀ < f → Closed (length d) before (repeat f (another bad d languages quantity before) c n₀) first room (listing.Not g)
+        → 4096 - last₀ < f → Closed (length d) before (repeat f (anotherLine bad d languages quantity before) c n₀) first room
+        (listing.Not g)
     ran-none o c first f l h =
         let t = i .follows c first f l h in
         closed-not (t .same ∙ turn-none bad d languages quantity before (t .block) n (t .left) o)

@@ -28,7 +28,7 @@ use Rattle.values.specs.Value.{formOf, largeOf}
 use Rattle.values.specs.Range.{judgeRange}
 use Rattle.values.specs.Line.{grownBy}
 use Rattle.ranks.specs.declared.Found.{Found}
-use Rattle.ranks.specs.rule.Rank.{faultOf, lowerOf}
+use Rattle.ranks.specs.rule.Rank.{foundAt, lowerFound}
 use Rattle.tags.specs.declared.Held.{Held}
 use Rattle.elements.specs.declared.Body.{Body}
 use Rattle.survey.specs.rule.Survey.{Amount, Range, Line, Block}
@@ -129,7 +129,7 @@ unfoldable pub settledOf : List ℕ → Bool → Held → Found → ℕ → Line
 settledOf d quantity h x n =
     let a = amountIn d (h .a) (h .ae) in
     let b = amountIn d (h .b) (h .be) in
-    rangedOf (lowerOf (faultOf 51 (h .unknown)) x) n (judgedOf (judged (pairCharges quantity a b) (rangeFrom a b) n))
+    rangedOf (lowerFound (foundAt 51 (h .unknown)) x) n (judgedOf (judged (pairCharges quantity a b) (rangeFrom a b) n))
 
 -- a line whose start tag held h, and whose text was read
 unfoldable pub wordOf : List ℕ → Held → Body → Worded
@@ -139,7 +139,7 @@ wordOf d h t =
       text = record { place = t .place; length = t .length; next = t .next };
       special = 0;
       next = t .next;
-    }) (lowerOf (faultOf 51 (h .unknown)) (t .found))
+    }) (lowerFound (foundAt 51 (h .unknown)) (t .found))
 
 -- a block with so many lines in all
 abbrev pub countedOf : Lined → ℕ → Listed

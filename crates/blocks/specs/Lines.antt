@@ -13,15 +13,15 @@ use Rattle.tokens.specs.declared.Fault.{Fault}
 use Rattle.values.specs.declared.Block as books
 use Rattle.values.specs.declared.Said.{Said}
 use Rattle.values.proofs.Lists.{Holds}
-use Rattle.survey.specs.rule.Survey.{Amount, Text, Line, Block}
+use Rattle.survey.specs.rule.Survey.{Amount, KeptText, Line, Block}
 use Rattle.reading.specs.rule.Result.{Result, Is, Not, Reader, _>>=_, give, bind, repeat}
 use Rattle.reading.specs.rule.Values.{unlisted}
 use Rattle.reading.specs.rule.Least.{Charge}
 use Rattle.bridge.specs.Blocks.{Kept, saidAs}
 use Rattle.xml_reading.specs.rule.Word.{RANGE, VALUE, CODE}
-use Rattle.xml_reading.specs.rule.Open.{start, either, due, unknownAt, onTag}
+use Rattle.xml_reading.specs.rule.Open.{start, eitherElement, due, unknownAt, onTag}
 use Rattle.xml_reading.specs.rule.Element.{amountIn, body}
-use Rattle.xml_reading.specs.rule.Block.{rich, range, lined, first, another}
+use Rattle.xml_reading.specs.rule.Block.{rich, range, lined, first, anotherLine}
 use Rattle.values.specs.declared.Listed.{Listed}
 use Rattle.elements.specs.Code.{foundOf}
 use Rattle.blocks.specs.Code.{blockOf, told, Small, listedOf, Stored}
@@ -33,7 +33,7 @@ use Rattle.blocks.specs.declared.Lined.the-variants as lining
 -- ---- a line that is read: its value, its text, and what else is wrong with it
 pub record Wording : Type 0 where
   pub value : Amount
-  pub text : Text
+  pub text : KeptText
   pub charges : List Charge
 
 abbrev pub lineFrom : Wording → Line
@@ -64,13 +64,13 @@ rangeRead bad d quantity p = range bad d quantity p >>= λ r. give (unlisted (so
 -- a start tag where a range or the first line is due
 abbrev pub firstTag : Bool → List ℕ → Bool → Bool → ℕ → ℕ → Reader Block
 firstTag bad d languages quantity before p =
-    either bad d RANGE (start p) (rangeRead bad d quantity)
+    eitherElement bad d RANGE (start p) (rangeRead bad d quantity)
     (due bad d VALUE (start p) (lined bad d languages quantity before (unlisted none)))
 
 -- all that a block holds
 abbrev pub blockRead : Bool → List ℕ → Bool → Bool → ℕ → Reader Block
 blockRead bad d languages quantity before =
-    first bad d languages quantity before >>= repeat (suc mostLines) (another bad d languages quantity before)
+    first bad d languages quantity before >>= repeat (suc mostLines) (anotherLine bad d languages quantity before)
 
 -- the code stands beside some block
 pub record Standing (quantity : Bool) (before : ℕ) (room : List ℤ) (stamp : ℕ) (marks : List ℕ) (last : ℕ) (b : books.Block) : Type 0 where

@@ -33,7 +33,7 @@ ghost use Rattle.xml_reading.specs.rule.Open as rule;
 ghost use Rattle.xml_reading.specs.rule.Open.{due};
 ghost use Rattle.xml_reading.specs.rule.Element.{amountIn};
 ghost use Rattle.xml_reading.specs.rule.Block as block;
-ghost use Rattle.xml_reading.specs.rule.Block.{rich, lined, another, values};
+ghost use Rattle.xml_reading.specs.rule.Block.{rich, lined, anotherLine, values};
 ghost use Rattle.elements.specs.Code.{Slot};
 ghost use Rattle.blocks.specs.Code.{heldAs, Below, turned, pairOf, unlessOf, placedOf, settledOf, wordOf, countedOf};
 ghost use Rattle.blocks.specs.Lines.{rangeRead, wording, wordedOf, linedOf, firstTag, blockRead, Lines, Standing, Went, Begun};
@@ -467,7 +467,7 @@ fn read_values(
     requires { ⌜ Standing quantity first (now lines) stamp (now marks) count b ⌝ }
     ensures { λ r. ⌜ ((c : survey.Block) (start : List ℤ) (f : ℕ)
         → Lines quantity first start (now (lines .entry)) stamp (now (marks .entry)) count b c → mostLines - count < f
-        → Closed (length (now (d .entry))) first (repeat f (another bad (now (d .entry)) languages quantity first) c at) start
+        → Closed (length (now (d .entry))) first (repeat f (anotherLine bad (now (d .entry)) languages quantity first) c at) start
         (now (lines .exit)) r) ⌝ }
 {
     let mut n = at;

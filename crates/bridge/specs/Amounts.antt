@@ -10,7 +10,7 @@ use lib.ListN.{length}
 use borrow.Author.Tests.{eq-eqb, ne-eqb, eqb-true, lt-ltb, lt-leb, le-leb}
 use Rattle.ascii.specs.rule.Class.{classOf}
 use Rattle.scan.specs.rule.Text.{Text, stop, sign, text}
-use Rattle.scan.specs.rule.Number.{isDigit, isValue, runOf, bytesOf, decimalOf}
+use Rattle.scan.specs.rule.Number.{isDigit, isValue, runOf, runBytes, decimalOf}
 use Rattle.scan.specs.Number.{capped, digitsFrom}
 use Rattle.scan.specs.Order.{digitsTo, valueOf}
 use Rattle.scan.proofs.Texts.{From, at-stop, at-sign, from-text}
@@ -26,7 +26,7 @@ use Rattle.tokens.specs.rule.Gap.{fault}
 use Rattle.tokens.specs.Token.{markOf, valueAt, ofValue, valueHere}
 use Rattle.survey.specs.rule.Survey.{Amount}
 use Rattle.reading.specs.rule.Result.{Result, Is, Not}
-use Rattle.reading.specs.rule.Token.{leading, behind, begins, without, amountOf, amount}
+use Rattle.reading.specs.rule.Token.{leading, afterPoint, begins, without, amountRead, amount}
 use Rattle.bridge.specs.Lowest.{never}
 
 -- ---- a value as the code's books have it: x is the place behind its minus, y that behind its last digit
@@ -73,87 +73,87 @@ digit-value b e = rw e
 -- what stands from n on is a beginning, and then the run from k on
 record Joins (d : List ℕ) (n : ℕ) (t : Text) (s : List ℕ) (k : ℕ) : Type 0 where
   run : runOf isValue n t ≡ runOf isValue k (text d k)
-  rest : s ≡ bytesOf isValue (text d k)
+  rest : s ≡ runBytes isValue (text d k)
 
 module _ (d : List ℕ) where
   -- ---- a mark, and what is left of the run behind it
-  mark-there : (c : ℕ) → isValue c ≡ true → {n : ℕ} {t : Text} → From d n t → markOf n c t .there ≡ begins c (bytesOf isValue t)
-  unfolding bytesOf markOf begins
+  mark-there : (c : ℕ) → isValue c ≡ true → {n : ℕ} {t : Text} → From d n t → markOf n c t .there ≡ begins c (runBytes isValue t)
+  unfolding runBytes markOf begins
   mark-there c k at-stop = refl
   mark-there c k {n} (at-sign {p = p} {b = b} {u = u} h w e r) = by (eqb b c) (isValue b) refl refl where
     by : (x y : Bool) → eqb b c ≡ x → isValue b ≡ y
         → cond {A = Mark} x (record { there = true; next = p + 1 }) (record { there = false; next = n }) .there
-        ≡ begins c (cond y (b ∷ bytesOf isValue u) [])
+        ≡ begins c (cond y (b ∷ runBytes isValue u) [])
     by true true i j = sym i
     by true false i j = let z = eqb-true b c i in never cc
     by false true i j = sym i
     by false false i j = refl
 
   mark-joins : (c : ℕ) → isValue c ≡ true → {n : ℕ} {t : Text} → From d n t → t ≡ text d n
-      → Joins d n t (without c (bytesOf isValue t)) (markOf n c t .next)
-  unfolding runOf bytesOf markOf without
-  mark-joins c k {n} at-stop q = record { run = ap (runOf isValue n) q; rest = ap (bytesOf isValue) q }
+      → Joins d n t (without c (runBytes isValue t)) (markOf n c t .next)
+  unfolding runOf runBytes markOf without
+  mark-joins c k {n} at-stop q = record { run = ap (runOf isValue n) q; rest = ap (runBytes isValue) q }
   mark-joins c k {n} (at-sign {p = p} {b = b} {u = u} h w e r) q = by (eqb b c) refl where
     by : (x : Bool) → eqb b c ≡ x
-        → Joins d n (sign p b u) (without c (bytesOf isValue (sign p b u)))
+        → Joins d n (sign p b u) (without c (runBytes isValue (sign p b u)))
         (cond {A = Mark} x (record { there = true; next = p + 1 }) (record { there = false; next = n }) .next)
     by true y =
         let v : isValue b ≡ true = rw (eqb-true b c y) k in
-        record { run = rw v (ap (runOf isValue (p + 1)) e); rest = rw (v, y) (ap (bytesOf isValue) e) }
-    by false y = record { run = ap (runOf isValue n) q; rest = other (isValue b) ∙ ap (bytesOf isValue) q } where
-      other : (v : Bool) → without c (cond v (b ∷ bytesOf isValue u) []) ≡ cond v (b ∷ bytesOf isValue u) []
+        record { run = rw v (ap (runOf isValue (p + 1)) e); rest = rw (v, y) (ap (runBytes isValue) e) }
+    by false y = record { run = ap (runOf isValue n) q; rest = other (isValue b) ∙ ap (runBytes isValue) q } where
+      other : (v : Bool) → without c (cond v (b ∷ runBytes isValue u) []) ≡ cond v (b ∷ runBytes isValue u) []
       other true = rw y
       other false = refl
 
   -- ---- digits, and what is left behind them
-  digits-there : (t : Text) → bytesOf isDigit t ≡ leading (bytesOf isValue t)
-  unfolding bytesOf leading
+  digits-there : (t : Text) → runBytes isDigit t ≡ leading (runBytes isValue t)
+  unfolding runBytes leading
   digits-there (stop p) = refl
   digits-there (sign p b u) = by (isDigit b) refl (digits-there u) where
-    by : (x : Bool) → isDigit b ≡ x → bytesOf isDigit u ≡ leading (bytesOf isValue u)
-        → cond x (b ∷ bytesOf isDigit u) [] ≡ leading (cond (isValue b) (b ∷ bytesOf isValue u) [])
+    by : (x : Bool) → isDigit b ≡ x → runBytes isDigit u ≡ leading (runBytes isValue u)
+        → cond x (b ∷ runBytes isDigit u) [] ≡ leading (cond (isValue b) (b ∷ runBytes isValue u) [])
     by true e ih = rw (digit-value b e) (rw e (ap (λ (l : List ℕ). b ∷ l) ih))
     by false e ih = other (isValue b) where
-      other : (y : Bool) → [] ≡ leading (cond y (b ∷ bytesOf isValue u) [])
+      other : (y : Bool) → [] ≡ leading (cond y (b ∷ runBytes isValue u) [])
       other true = rw e
       other false = refl
 
-  digits-joins : {n : ℕ} {t : Text} → From d n t → t ≡ text d n → Joins d n t (behind (bytesOf isValue t)) (runOf isDigit n t)
-  unfolding runOf bytesOf behind
-  digits-joins {n} at-stop q = record { run = ap (runOf isValue n) q; rest = ap (bytesOf isValue) q }
+  digits-joins : {n : ℕ} {t : Text} → From d n t → t ≡ text d n → Joins d n t (afterPoint (runBytes isValue t)) (runOf isDigit n t)
+  unfolding runOf runBytes afterPoint
+  digits-joins {n} at-stop q = record { run = ap (runOf isValue n) q; rest = ap (runBytes isValue) q }
   digits-joins {n} (at-sign {p = p} {b = b} {u = u} h w e r) q = by (isDigit b) refl (digits-joins r e) where
-    by : (x : Bool) → isDigit b ≡ x → Joins d (p + 1) u (behind (bytesOf isValue u)) (runOf isDigit (p + 1) u)
-        → Joins d n (sign p b u) (behind (cond (isValue b) (b ∷ bytesOf isValue u) [])) (cond x (runOf isDigit (p + 1) u) n)
+    by : (x : Bool) → isDigit b ≡ x → Joins d (p + 1) u (afterPoint (runBytes isValue u)) (runOf isDigit (p + 1) u)
+        → Joins d n (sign p b u) (afterPoint (cond (isValue b) (b ∷ runBytes isValue u) [])) (cond x (runOf isDigit (p + 1) u) n)
     by true i j = let z = digit-value b i in record { run = rw z (j .run); rest = rw (z, i) (j .rest) }
-    by false i j = record { run = ap (runOf isValue n) q; rest = other (isValue b) ∙ ap (bytesOf isValue) q } where
-      other : (v : Bool) → behind (cond v (b ∷ bytesOf isValue u) []) ≡ cond v (b ∷ bytesOf isValue u) []
+    by false i j = record { run = ap (runOf isValue n) q; rest = other (isValue b) ∙ ap (runBytes isValue) q } where
+      other : (v : Bool) → afterPoint (cond v (b ∷ runBytes isValue u) []) ≡ cond v (b ∷ runBytes isValue u) []
       other true = rw i
       other false = refl
 
   -- a run that ends where it starts has no byte
-  pub run-empty : (n : ℕ) {t : Text} → From d n t → eqb (runOf isValue n t) n ≡ eqb (length (bytesOf isValue t)) 0
-  unfolding runOf bytesOf
+  pub run-empty : (n : ℕ) {t : Text} → From d n t → eqb (runOf isValue n t) n ≡ eqb (length (runBytes isValue t)) 0
+  unfolding runOf runBytes
   run-empty n at-stop = rw (eq-eqb n n refl)
   run-empty n (at-sign {p = p} {b = b} {u = u} h w e r) = by (isValue b) (run-ahead d isValue r) where
     by : (q : Bool) → p + 1 ≤ runOf isValue (p + 1) u
-        → eqb (cond q (runOf isValue (p + 1) u) n) n ≡ eqb (length (cond q (b ∷ bytesOf isValue u) [])) 0
-    by true i = rw (ne-eqb (runOf isValue (p + 1) u) n (λ z. omega arith), ne-eqb (suc (length (bytesOf isValue u))) 0 (λ z. omega arith))
+        → eqb (cond q (runOf isValue (p + 1) u) n) n ≡ eqb (length (cond q (b ∷ runBytes isValue u) [])) 0
+    by true i = rw (ne-eqb (runOf isValue (p + 1) u) n (λ z. omega arith), ne-eqb (suc (length (runBytes isValue u))) 0 (λ z. omega arith))
     by false i = rw (eq-eqb n n refl)
 
   -- ---- the number between the places of the digits
   module _ (e : ℕ) where
     -- digits up to e: a run of them, and then those from its end on
     digits-split : {n : ℕ} {t : Text} → From d n t → t ≡ text d n → runOf isDigit n t ≤ e
-        → digitsTo e t ≡ bytesOf isDigit t ++ digitsTo e (text d (runOf isDigit n t))
-    unfolding digitsTo bytesOf runOf
+        → digitsTo e t ≡ runBytes isDigit t ++ digitsTo e (text d (runOf isDigit n t))
+    unfolding digitsTo runBytes runOf
     digits-split at-stop q h = ap (digitsTo e) q
     digits-split {n} (at-sign {p = p} {b = b} {u = u} g w i r) q h =
         by (isDigit b) refl (run-ahead d isDigit r) (digits-split r i) q h where
           by : (x : Bool) → isDigit b ≡ x → p + 1 ≤ runOf isDigit (p + 1) u
-              → (runOf isDigit (p + 1) u ≤ e → digitsTo e u ≡ bytesOf isDigit u ++ digitsTo e (text d (runOf isDigit (p + 1) u)))
+              → (runOf isDigit (p + 1) u ≤ e → digitsTo e u ≡ runBytes isDigit u ++ digitsTo e (text d (runOf isDigit (p + 1) u)))
               → sign p b u ≡ text d n → cond x (runOf isDigit (p + 1) u) n ≤ e
               → cond (leb e p) [] (cond (isDigit b) (b ∷ digitsTo e u) (digitsTo e u))
-              ≡ cond x (b ∷ bytesOf isDigit u) [] ++ digitsTo e (text d (cond x (runOf isDigit (p + 1) u) n))
+              ≡ cond x (b ∷ runBytes isDigit u) [] ++ digitsTo e (text d (cond x (runOf isDigit (p + 1) u) n))
           by true f k ih q h = rw (lt-leb e p (omega arith), f, ih h)
           by false f k ih q h = ap (digitsTo e) q
 
@@ -198,10 +198,10 @@ module _ (d : List ℕ) where
     e = runOf isDigit o (text d o)
 
     abbrev W : List ℕ
-    W = bytesOf isDigit (text d m)
+    W = runBytes isDigit (text d m)
 
     abbrev F : List ℕ
-    F = bytesOf isDigit (text d o)
+    F = runBytes isDigit (text d o)
 
     says : valueOf d m e ≡ decimalOf 0 (W ++ F)
     unfolding valueOf
@@ -221,8 +221,8 @@ module _ (d : List ℕ) where
     abbrev end : ℕ
     end = runOf isValue n (text d n)
 
-    value-is : valueAt d n ≡ written (amountOf n end (bytesOf isValue (text d n))) m e end
-    unfolding valueAt digitsFrom amountOf
+    value-is : valueAt d n ≡ written (amountRead n end (runBytes isValue (text d n))) m e end
+    unfolding valueAt digitsFrom amountRead
     value-is =
         let j1 = mark-joins 45 minus-value (from-text d n) refl in
         let j2 = digits-joins (from-text d m) refl in
@@ -234,32 +234,32 @@ module _ (d : List ℕ) where
         let size : capped (decimalOf (capped (decimalOf 0 W)) F) ≡ capped (decimalOf 0 (W ++ F)) =
         held (decimalOf 0 W) F ∙ ap capped (sym (decimal-append W F 0)) in
         let formed : (eqb (runOf isValue e (text d e)) e && (ltb 0 (length W) || ltb 0 (length F)))
-        ≡ (eqb (length (bytesOf isValue (text d e))) 0 && ltb 0 (length (W ++ F))) =
+        ≡ (eqb (length (runBytes isValue (text d e))) 0 && ltb 0 (length (W ++ F))) =
         rw (run-empty e (from-text d e), some-digit W F) in
         rw (j1 .rest) (rw (← digits-there (text d m), j2 .rest) (rw (j3 .rest) (rw (← digits-there (text d o), j4 .rest)
         (rw (← a1, ← a2, run, zero-add (length W), zero-add (length F)) (rw (size, formed))))))
 
-    size-says : valueOf d m e ≡ amountOf n end (bytesOf isValue (text d n)) .size
-    unfolding amountOf
+    size-says : valueOf d m e ≡ amountRead n end (runBytes isValue (text d n)) .size
+    unfolding amountRead
     size-says =
         let j1 = mark-joins 45 minus-value (from-text d n) refl in
         let j2 = digits-joins (from-text d m) refl in
         let j3 = mark-joins 46 point-value (from-text d k) refl in
         rw (j1 .rest) (rw (← digits-there (text d m), j2 .rest) (rw (j3 .rest) (rw (← digits-there (text d o)) says)))
 
-    starts : n ≤ amountOf n end (bytesOf isValue (text d n)) .place
-    unfolding amountOf
+    starts : n ≤ amountRead n end (runBytes isValue (text d n)) .place
+    unfolding amountRead
     starts = omega arith
 
-    ends : amountOf n end (bytesOf isValue (text d n)) .place ≤ end
-    unfolding amountOf
+    ends : amountRead n end (runBytes isValue (text d n)) .place ≤ end
+    unfolding amountRead
     ends = run-ahead d isValue (from-text d n)
 
     pub value-on : Valued d n (valueHere d (At n)) (amount d n)
     unfolding valueHere ofValue amount
-    value-on = rw (value-is) (rw (run-empty n (from-text d n)) (by (eqb (length (bytesOf isValue (text d n))) 0))) where
+    value-on = rw (value-is) (rw (run-empty n (from-text d n)) (by (eqb (length (runBytes isValue (text d n))) 0))) where
       by : (q : Bool) → Valued d n
-          (cond q (amounted.Not (fault 2 n)) (amounted.Is (written (amountOf n end (bytesOf isValue (text d n))) m e end)))
-          (cond q (Not (fault 2 n)) (Is (amountOf n end (bytesOf isValue (text d n))) end))
+          (cond q (amounted.Not (fault 2 n)) (amounted.Is (written (amountRead n end (runBytes isValue (text d n))) m e end)))
+          (cond q (Not (fault 2 n)) (Is (amountRead n end (runBytes isValue (text d n))) end))
       by true = unvalued
       by false = valued size-says starts ends

@@ -20,10 +20,10 @@ use Rattle.values.specs.Value.{formOf, largeOf, trueOf, scaledOf, pointsOf}
 use Rattle.values.specs.Line as lines
 use Rattle.values.specs.Order.{trues, trueAt}
 use Rattle.values.proofs.Facts.{or-none, or-neither}
-use Rattle.survey.specs.rule.Survey.{Amount, Text, Line, Block}
+use Rattle.survey.specs.rule.Survey.{Amount, KeptText, Line, Block}
 use Rattle.survey.specs.rule.Width.{flag, someOf, eachOf, rangeEnds, amounts, scaled, decimalsIn, bare, pointIn}
 use Rattle.survey.specs.rule.Table.{ranged, fromOf, toOf, lineCells, cellsOf}
-use Rattle.reading.specs.rule.Values.{formIs, large, unlike, withLine}
+use Rattle.reading.specs.rule.Values.{formIs, large, unlikeAmounts, withLine}
 use Rattle.bridge.specs.Facts.{capped-limit}
 use Rattle.bridge.specs.Amounts.{written}
 
@@ -48,17 +48,17 @@ small true a e = let h = ltb-false 999999999999999 (a .size) (or-none (ltb 99999
 small false a e = let h = ltb-false 9999 (a .size) e in rw (le-ltb 1000000000000000 (a .size) (omega arith))
 
 -- ---- lines
-abbrev pub quotedAs : Text → ℕ → Quoted
+abbrev pub quotedAs : KeptText → ℕ → Quoted
 quotedAs t n = record { place = t .place; length = t .length; next = n }
 
-abbrev pub saidAs : Amount → ℕ → ℕ → ℕ → Text → ℕ → Bool → ℕ → Said
+abbrev pub saidAs : Amount → ℕ → ℕ → ℕ → KeptText → ℕ → Bool → ℕ → Said
 saidAs a x y m t k s n = record { value = written a x y m; text = quotedAs t k; special = flag s; next = n }
 
-abbrev pub lineOf : Amount → Text → Bool → Line
+abbrev pub lineOf : Amount → KeptText → Bool → Line
 lineOf a t s = record { value = a; text = t; special = s }
 
 pub data Same (d : List ℕ) : Said → Line → Type 0 where
-  same : {a : Amount} {t : Text} {s : Bool} {x y m k n : ℕ} → valueOf d x y ≡ a .size → capped (a .size) ≡ a .size
+  same : {a : Amount} {t : KeptText} {s : Bool} {x y m k n : ℕ} → valueOf d x y ≡ a .size → capped (a .size) ≡ a .size
       → Same d (saidAs a x y m t k s n) (lineOf a t s)
 
 pub data SameLines (d : List ℕ) : List Said → List Line → Type 0 where
@@ -109,7 +109,7 @@ pub record Kept (b : books.Block) (c : Block) : Type 0 where
   pub decimals : b .decimals ≡ decimalsIn (amounts c)
   pub point : b .point ≡ pointIn (amounts c)
   pub known : b .known ≡ someOf (λ (a : Amount). true) (amounts c)
-  pub unlike-some : (a : Amount) → (b .known && not (eqb (a .decimals) (b .decimals))) ≡ someOf (unlike a) (amounts c)
+  pub unlike-some : (a : Amount) → (b .known && not (eqb (a .decimals) (b .decimals))) ≡ someOf (unlikeAmounts a) (amounts c)
   pub ranged : flag (b .ranged) ≡ ranged (c .range)
   pub from : b .from ≡ fromOf (c .range)
   pub to : b .to ≡ toOf (c .range)
@@ -174,23 +174,24 @@ point-more (x ∷ l) a =
     ∙ ap (λ (e : Bool). cond (someOf (λ (a : Amount). a .point) (x ∷ l) || a .point) (cond e 2 1) 0) (each-more bare (x ∷ l) a)
     ∙ together (someOf (λ (a : Amount). a .point) (x ∷ l)) (eachOf bare (x ∷ l)) (a .point) (eqb (a .whole) 0) (each-some x l)
 
-alike : (a x : Amount) → unlike a x ≡ false → a .decimals ≡ x .decimals
+alike : (a x : Amount) → unlikeAmounts a x ≡ false → a .decimals ≡ x .decimals
 alike a x e = eqb-true (a .decimals) (x .decimals) (not-false (eqb (a .decimals) (x .decimals)) e)
 
-decimals-more : (l : List Amount) (a : Amount) → someOf (unlike a) l ≡ false → a .decimals ≡ decimalsIn (l ++ a ∷ [])
+decimals-more : (l : List Amount) (a : Amount) → someOf (unlikeAmounts a) l ≡ false → a .decimals ≡ decimalsIn (l ++ a ∷ [])
 unfolding someOf
 decimals-more [] a e = refl
-decimals-more (x ∷ l) a e = alike a x (or-none (unlike a x) (someOf (unlike a) l) e)
+decimals-more (x ∷ l) a e = alike a x (or-none (unlikeAmounts a x) (someOf (unlikeAmounts a) l) e)
 
-unlike-more : (l : List Amount) (a c : Amount) → someOf (unlike a) l ≡ false → unlike c a ≡ someOf (unlike c) (l ++ a ∷ [])
+unlike-more : (l : List Amount) (a c : Amount) → someOf (unlikeAmounts a) l ≡ false → unlikeAmounts c a
+    ≡ someOf (unlikeAmounts c) (l ++ a ∷ [])
 unfolding someOf
-unlike-more [] a c e = by (unlike c a) where
+unlike-more [] a c e = by (unlikeAmounts c a) where
   by : (q : Bool) → q ≡ (q || false)
   by true = refl
   by false = refl
 unlike-more (x ∷ l) a c e =
-    let h = alike a x (or-none (unlike a x) (someOf (unlike a) l) e) in
-    rw (← unlike-more l a c (or-neither (unlike a x) (someOf (unlike a) l) e), h) (by (unlike c x))
+    let h = alike a x (or-none (unlikeAmounts a x) (someOf (unlikeAmounts a) l) e) in
+    rw (← unlike-more l a c (or-neither (unlikeAmounts a x) (someOf (unlikeAmounts a) l) e), h) (by (unlikeAmounts c x))
   where
     by : (q : Bool) → q ≡ (q || q)
     by true = refl
@@ -204,8 +205,8 @@ amounts-more : (c : Block) (x : Line) → amounts (withLine c x) ≡ amounts c +
 unfolding amounts
 amounts-more c x = rw (map-more (c .lines) x) (sym (append-assoc (rangeEnds (c .range)) (map (λ l. l .value) (c .lines)) (x .value ∷ [])))
 
-pub kept-more : {b : books.Block} {c : Block} (a : Amount) (t : Text) (s : Bool) (x y m : ℕ) → Kept b c
-    → someOf (unlike a) (amounts c) ≡ false
+pub kept-more : {b : books.Block} {c : Block} (a : Amount) (t : KeptText) (s : Bool) (x y m : ℕ) → Kept b c
+    → someOf (unlikeAmounts a) (amounts c) ≡ false
     → Kept (lines.grownBy b (written a x y m)) (withLine c (lineOf a t s))
 unfolding lines.grownBy
 kept-more {b} {c} a t s x y m k e =
@@ -216,7 +217,7 @@ kept-more {b} {c} a t s x y m k e =
       known =
           sym (ap (someOf (λ (z : Amount). true)) more ∙ some-more (λ (z : Amount). true) (amounts c) a
           ∙ by (someOf (λ (z : Amount). true) (amounts c)));
-      unlike-some = λ z. unlike-more (amounts c) a z e ∙ sym (ap (someOf (unlike z)) more);
+      unlike-some = λ z. unlike-more (amounts c) a z e ∙ sym (ap (someOf (unlikeAmounts z)) more);
       ranged = k .ranged;
       from = k .from;
       to = k .to;

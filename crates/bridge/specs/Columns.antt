@@ -23,10 +23,10 @@ use Rattle.variables.specs.Rest.{Telling}
 use Rattle.measures.specs.Width.{flagOf, plainColumns, linesWidth, widestOf, widthOf, widened, fullColumns}
 use Rattle.measures.specs.Survey.{countedIn, columnsIn}
 use Rattle.entries.specs.Entry.{variable}
-use Rattle.survey.specs.rule.Survey.{Figure, Text, Range, Line, Block, Spread, Content, single, multiple, quantity, character, logical}
+use Rattle.survey.specs.rule.Survey.{Figure, KeptText, Range, Line, Block, Spread, Content, single, multiple, quantity, character, logical}
 use Rattle.survey.specs.rule.Width.{flag, someOf, rangeEnds, amounts, decimalsIn, pointIn, partsOf}
-use Rattle.survey.specs.rule.Width.{partWidth, subwidthOf, kindIn, widest, widthIn}
-use Rattle.survey.specs.rule.Table.{ranged, fromOf, toOf, columnsOf}
+use Rattle.survey.specs.rule.Width.{partWidth, subwidthOf, kindIn, widestAmount, widthIn}
+use Rattle.survey.specs.rule.Table.{ranged, fromOf, toOf, variableColumns}
 use Rattle.reading.specs.rule.Statement.{Position}
 use Rattle.reading.specs.rule.Variable.{room, variableOf}
 use Rattle.bridge.specs.Statements.{evenOr}
@@ -41,27 +41,27 @@ max-first (suc n) f = rw (max-first n f) (omega arith)
 -- ---- the widest number of a block
 module _ (d : List ℕ) (k : Kind) where
   lines-widest : {l : List Said} {m : List Line} → SameLines d l m
-      → maxBelow (length l) (λ i. need k (numberAt l i)) ≡ widest k (map (λ x. x .value) m)
-  unfolding numberAt numbers widest maxBelow scaledOf
+      → maxBelow (length l) (λ i. need k (numberAt l i)) ≡ widestAmount k (map (λ x. x .value) m)
+  unfolding numberAt numbers widestAmount maxBelow scaledOf
   lines-widest nothing = refl
   lines-widest (more {l = l} (same {a = a} {t = t} {s = s} {x = x} {y = y} {m = i} {k = j} {n = n} e c) r) =
       max-first (length l) (λ o. need k (numberAt (saidAs a x y i t j s n ∷ l) o)) ∙ rw c (rw (lines-widest r))
 
   block-widest : (b : books.Block) (l : List Said) (c : Block) → Kept b c → SameLines d l (c .lines)
       → max (cond (eqb (flagOf (b .ranged)) 1) (max (need k (b .from)) (need k (b .to))) 0)
-      (maxBelow (length l) (λ i. need k (numberAt l i))) ≡ widest k (amounts c)
-  unfolding amounts widest flagOf
+      (maxBelow (length l) (λ i. need k (numberAt l i))) ≡ widestAmount k (amounts c)
+  unfolding amounts widestAmount flagOf
   block-widest b l c kept h = rw (lines-widest h) (by (c .range) (b .ranged) (kept .ranged) (kept .from) (kept .to)) where
     by : (o : Option Range) (q : Bool) → flag q ≡ ranged o → b .from ≡ fromOf o → b .to ≡ toOf o
-        → max (cond (eqb (flagOf q) 1) (max (need k (b .from)) (need k (b .to))) 0) (widest k (map (λ x. x .value) (c .lines)))
-        ≡ widest k (rangeEnds o ++ map (λ x. x .value) (c .lines))
+        → max (cond (eqb (flagOf q) 1) (max (need k (b .from)) (need k (b .to))) 0) (widestAmount k (map (λ x. x .value) (c .lines)))
+        ≡ widestAmount k (rangeEnds o ++ map (λ x. x .value) (c .lines))
     by none false i u v = omega arith
     by none true i u v = absurd (omega arith)
     by (some r) true i u v = rw (u, v) (omega arith)
     by (some r) false i u v = absurd (omega arith)
 
 -- a head as the books have it
-abbrev pub headAs : Figure → Text → ℕ → Text → ℕ → ℕ → Position → ℕ → Head
+abbrev pub headAs : Figure → KeptText → ℕ → KeptText → ℕ → ℕ → Position → ℕ → Head
 headAs n name i label j k p m = record {
   ident = n .value;
   name = quotedAs name i;
@@ -83,7 +83,7 @@ pub data Exact (room : ℕ) : Content → Type 0 where
   exact-character : {n : Figure} → Exact room (character n)
   exact-logical : Exact room logical
 
-module _ (d : List ℕ) (n : Figure) (name : Text) (i : ℕ) (label : Text) (j : ℕ) (p : Position) (m before : ℕ) where
+module _ (d : List ℕ) (n : Figure) (name : KeptText) (i : ℕ) (label : KeptText) (j : ℕ) (p : Position) (m before : ℕ) where
   lines-left : (l : List Said) → before + length l - before ≡ length l
   lines-left l = omega arith
 
@@ -98,8 +98,8 @@ module _ (d : List ℕ) (n : Figure) (name : Text) (i : ℕ) (label : Text) (j :
   parts-same (fields {s = s} u v y z) (exact-fields e g) = let q = u ∙ e in (q, v ∙ ap (λ o. evenOr (room p) o (s .width)) q ∙ g)
 
   pub columns-same : {k : ℕ} {x : Telling} {c : Content} → Tells d (room p) k x c → Exact (room p) c
-      → columnsIn before (variable (headAs n name i label j k p m) x) ≡ columnsOf before (variableOf n name label p c)
-  unfolding columnsIn fullColumns widened plainColumns countedIn columnsOf widthOf widthIn kindIn kindOf rowOf widestOf linesWidth
+      → columnsIn before (variable (headAs n name i label j k p m) x) ≡ variableColumns before (variableOf n name label p c)
+  unfolding columnsIn fullColumns widened plainColumns countedIn variableColumns widthOf widthIn kindIn kindOf rowOf widestOf linesWidth
       rangeWidth amounts someOf
   columns-same {x = x} (as-single {b = b} kept h u v) e =
       rw (lines-left (x .lines))

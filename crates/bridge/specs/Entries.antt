@@ -23,9 +23,9 @@ use Rattle.measures.specs.Survey as books
 use Rattle.entries.specs.Entry.{Entry, endVariable, ended, toldThen, heldBy, restThen, headThen, entryOf}
 use Rattle.entries.specs.Entry as entry
 use Rattle.entries.proofs.Heads.{position-good}
-use Rattle.survey.specs.rule.Survey.{Figure, Text, Content, Variable}
+use Rattle.survey.specs.rule.Survey.{Figure, KeptText, Content, Variable}
 use Rattle.survey.specs.rule.Width.{someOf, blockIn, finishIn}
-use Rattle.survey.specs.rule.Table.{columnsOf, holds, linesOf, linesAll}
+use Rattle.survey.specs.rule.Table.{variableColumns, holds, linesOf, linesAll}
 use Rattle.reading.specs.rule.Result.{Result, Is, Not, Reader, bind}
 use Rattle.reading.specs.rule.Least.{_when_, named, lower, least, judged}
 use Rattle.reading.specs.rule.Token.{word}
@@ -43,7 +43,7 @@ use Rattle.bridge.specs.Columns.{headAs, Exact, columns-same}
 use Rattle.bridge.specs.Rooms.{Fate, exact, narrow, fate, holds-same}
 
 pub record SameVariable (d : List ℕ) (v : books.Variable) (w : Variable) : Type 0 where
-  pub columns : (before : ℕ) → columnsIn before v ≡ columnsOf before w
+  pub columns : (before : ℕ) → columnsIn before v ≡ variableColumns before w
   pub lines : SameLines d (linesIn v) (linesOf w)
   pub ident : v .head .ident ≡ w .ident .value
   pub finish : v .head .finish ≡ finishIn w
@@ -61,7 +61,7 @@ tells-lines (as-character g) = nothing
 tells-lines as-logical = nothing
 
 module _ (d : List ℕ) (before : ℕ) where
-  module _ (n : Figure) (name : Text) (i : ℕ) (label : Text) (j : ℕ) (p : Position) (m : ℕ) (from-one : 1 ≤ p .start .value)
+  module _ (n : Figure) (name : KeptText) (i : ℕ) (label : KeptText) (j : ℕ) (p : Position) (m : ℕ) (from-one : 1 ≤ p .start .value)
       (ordered : p .start .value ≤ Option·getD (p .finish) (p .start) .value)
       (low : Option·getD (p .finish) (p .start) .value ≤ 16384) where
     held-same : {k : ℕ} {x : Telling} {c : Content} (e : ℕ) → Tells d (room p) k x c
@@ -119,11 +119,12 @@ module _ (d : List ℕ) (before : ℕ) where
 
   -- ---- the statements before it
   module _ (x : Figure) (m : ℕ) (fits : capped (x .value) ≡ x .value) where
-    abbrev behind : Text → Text → Sort → Position → Reader Variable
+    abbrev behind : KeptText → KeptText → Sort → Position → Reader Variable
     behind name label s p o = bind (content d p before s o) λ c n′. bind (statement d END n′) λ a n′. bind (word d VARIABLE n′) λ a. held
         (variableOf x name label p c)
 
-    position-then : (name : Text) (i : ℕ) (label : Text) (j : ℕ) (s : Sort) (k : ℕ) (r : Result Position) → positionOn d (At k) ≡ toStated r
+    position-then : (name : KeptText) (i : ℕ) (label : KeptText) (j : ℕ) (s : Sort) (k : ℕ) (r : Result Position) → positionOn d (At k)
+        ≡ toStated r
         → SameEntry d (headThen
         (joinHead (joinTitles (toNumber (Is x m)) (toPhrase (Is name i)) (toPhrase (Is label j))) (toTyped (Is s k)) (toStated r))
         (restThen d before)) (bind r (behind name label s))
@@ -139,7 +140,7 @@ module _ (d : List ℕ) (before : ℕ) where
         rw (fits, u, v) (rest-same x name i label j p o (rw u at a) (rw (u, v) at b) (rw v at c) s)
     position-then name i label j s k (Not f) e = stops
 
-    type-then : (name : Text) (i : ℕ) (label : Text) (j : ℕ) (r : Result Sort)
+    type-then : (name : KeptText) (i : ℕ) (label : KeptText) (j : ℕ) (r : Result Sort)
         → SameEntry d (headThen
         (joinHead (joinTitles (toNumber (Is x m)) (toPhrase (Is name i)) (toPhrase (Is label j))) (toTyped r)
         (positionOn d (pastType (toTyped r)))) (restThen d before))
@@ -149,7 +150,7 @@ module _ (d : List ℕ) (before : ℕ) where
         rw (position-on d (Is k k)) (position-then name i label j s k (position d k) (position-on d (Is k k)))
     type-then name i label j (Not f) = stops
 
-    label-then : (name : Text) (i : ℕ) (r : Result Text)
+    label-then : (name : KeptText) (i : ℕ) (r : Result KeptText)
         → SameEntry d (headThen
         (joinHead (joinTitles (toNumber (Is x m)) (toPhrase (Is name i)) (toPhrase r)) (typeOn d (pastString (toPhrase r)))
         (positionOn d (pastType (typeOn d (pastString (toPhrase r)))))) (restThen d before))
@@ -158,7 +159,7 @@ module _ (d : List ℕ) (before : ℕ) where
     label-then name i (Is label j) = rw (type-on d (Is j j)) (type-then name i label j (type d j))
     label-then name i (Not f) = stops
 
-    name-then : (r : Result Text)
+    name-then : (r : Result KeptText)
         → SameEntry d (headThen
         (joinHead (joinTitles (toNumber (Is x m)) (toPhrase r) (textOn d (pastString (toPhrase r)) LABEL))
         (typeOn d (pastString (textOn d (pastString (toPhrase r)) LABEL)))

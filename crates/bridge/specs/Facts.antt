@@ -10,7 +10,7 @@ use lib.ListN.{length}
 use borrow.Author.Tests.{ne-eqb, lt-ltb, ltb-true}
 use Rattle.scan.specs.rule.Text.{Text, stop, sign, text, placeOf}
 use Rattle.scan.specs.rule.Loop.{Next, Again, Done}
-use Rattle.scan.specs.rule.Number.{isDigit, isSpace, runOf, bytesOf, decimalOf}
+use Rattle.scan.specs.rule.Number.{isDigit, isSpace, runOf, runBytes, decimalOf}
 use Rattle.scan.specs.Number.{capped}
 use Rattle.scan.specs.Order.{valueOf}
 use Rattle.scan.specs.rule.Word.{wordAt}
@@ -72,19 +72,19 @@ unfolding tens
 tens-grow zero p = omega arith
 tens-grow (suc j) p = let h = tens-grow j (p * 10) in omega arith
 
-below : (t : Text) (j v p : ℕ) → v < p → length (bytesOf isDigit t) ≤ j → decimalOf v (bytesOf isDigit t) < tens p j
-unfolding bytesOf decimalOf tens
+below : (t : Text) (j v p : ℕ) → v < p → length (runBytes isDigit t) ≤ j → decimalOf v (runBytes isDigit t) < tens p j
+unfolding runBytes decimalOf tens
 below (stop o) j v p h l = let g = tens-grow j p in omega arith
 below (sign o b u) j v p h l = by (isDigit b) refl j (λ j. below u j (v * 10 + (b - 48)) (p * 10)) l where
   by : (q : Bool) → isDigit b ≡ q → (j : ℕ)
-      → ((j : ℕ) → v * 10 + (b - 48) < p * 10 → length (bytesOf isDigit u) ≤ j
-      → decimalOf (v * 10 + (b - 48)) (bytesOf isDigit u) < tens (p * 10) j)
-      → length (cond q (b ∷ bytesOf isDigit u) []) ≤ j → decimalOf v (cond q (b ∷ bytesOf isDigit u) []) < tens p j
+      → ((j : ℕ) → v * 10 + (b - 48) < p * 10 → length (runBytes isDigit u) ≤ j
+      → decimalOf (v * 10 + (b - 48)) (runBytes isDigit u) < tens (p * 10) j)
+      → length (cond q (b ∷ runBytes isDigit u) []) ≤ j → decimalOf v (cond q (b ∷ runBytes isDigit u) []) < tens p j
   by true e zero ih l = absurd (omega arith)
   by true e (suc j) ih l = let g = digit-bounds b e in ih j (omega (arith, g .1)) (omega arith)
   by false e j ih l = let g = tens-grow j p in omega arith
 
-digits-few : (t : Text) → length (bytesOf isDigit t) ≤ 4 → decimalOf 0 (bytesOf isDigit t) < 10000
+digits-few : (t : Text) → length (runBytes isDigit t) ≤ 4 → decimalOf 0 (runBytes isDigit t) < 10000
 unfolding tens
 digits-few t h = below t 4 0 1 (omega arith) h
 
@@ -130,7 +130,7 @@ module _ (d : List ℕ) where
   unfolding figure
   figure-told n = by (eqb (length s) 0) where
     s : List ℕ
-    s = bytesOf isDigit (text d n)
+    s = runBytes isDigit (text d n)
 
     end : ℕ
     end = runOf isDigit n (text d n)

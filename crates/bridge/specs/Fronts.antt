@@ -23,12 +23,12 @@ use Rattle.heading.specs.Heading.{keptOf, noText, noHeading, entered, entriesFr
 use Rattle.heading.specs.Given.{Reached}
 use Rattle.heading.specs.Given as was
 use Rattle.heading.proofs.Once.{given-standard}
-use Rattle.survey.specs.rule.Survey.{Text, Heading}
+use Rattle.survey.specs.rule.Survey.{KeptText, Heading}
 use Rattle.reading.specs.rule.Result.{Result, Is, Not, Reader, bind, repeat}
 use Rattle.reading.specs.rule.Token.{onWord, here, string, letter, either}
 use Rattle.reading.specs.rule.Statement.{notes, statement}
 use Rattle.reading.specs.rule.Opening.{opening}
-use Rattle.reading.specs.rule.Whole.{Entry, texted, heading, front}
+use Rattle.reading.specs.rule.Whole.{HeadingEntry, texted, heading, front}
 use Rattle.reading.specs.rule.Whole as reading
 use Rattle.bridge.specs.Tokens.{toReading, toPhrase, here-on, string-on, letter-on}
 use Rattle.bridge.specs.Notes.{notes-on, statement-on}
@@ -41,13 +41,13 @@ pub data SameFront : Front → Result Heading → Type 0 where
 
 module _ (d : List ℕ) where
   -- an optional TITLE, RECORD and a letter
-  abbrev closing : List Entry → Reader Heading
+  abbrev closing : List HeadingEntry → Reader Heading
   closing l n = bind (either d TITLE (texted d) (λ n. Is none n) n) λ o n. bind (statement d RECORD n) λ a n. bind (letter d n) λ c n. Is
       (heading l o c) n
 
-  module _ (h : books.Heading) (l : List Entry) (reached : Reached d (items l) h) where
+  module _ (h : books.Heading) (l : List HeadingEntry) (reached : Reached d (items l) h) where
     -- RECORD and a letter
-    record-at : (q : Quoted) (o : Option Text) (s : Result Unit)
+    record-at : (q : Quoted) (o : Option KeptText) (s : Result Unit)
         → SameFront (record { heading = h; title = q; next = letterOn d (toReading s) })
         (bind s λ a n. bind (letter d n) λ c n. Is (heading l o c) n)
     record-at q o (Is a n) = rw (letter-on d (Is a n)) (by (letter d n)) where
@@ -56,7 +56,7 @@ module _ (d : List ℕ) where
       by (Not f) = stopped refl
     record-at q o (Not f) = rw (letter-on d {A = ℕ} (Not f)) (stopped refl)
 
-    record-then : (q : Quoted) (r : Result (Option Text))
+    record-then : (q : Quoted) (r : Result (Option KeptText))
         → SameFront (record { heading = h; title = q; next = recordOn d (toReading r) })
         (bind r λ o n. bind (statement d RECORD n) λ a n. bind (letter d n) λ c n. Is (heading l o c) n)
     unfolding recordOn
@@ -64,7 +64,7 @@ module _ (d : List ℕ) where
     record-then q (Not f) = rw (statement-on d {A = ℕ} (Not f) RECORD) (rw (letter-on d {A = ℕ} (Not f)) (stopped refl))
 
     -- SURVEY, an optional TITLE
-    title-read : (r : Result Text)
+    title-read : (r : Result KeptText)
         → SameFront (record { heading = h; title = keptOf noText (toPhrase r); next = recordOn d (pastString (toPhrase r)) })
         (bind (bind r λ t n. Is (some t) n) λ o n. bind (statement d RECORD n) λ a n. bind (letter d n) λ c n. Is (heading l o c) n)
     unfolding pastString
@@ -100,7 +100,7 @@ module _ (d : List ℕ) where
   pub front-on : SameFront (frontOn d) (front d (placeOf (text d 0)))
   unfolding frontOn entriesOn front
   front-on = rw (opening-on d) (at-opening (opening d (placeOf (text d 0)))) where
-    at-end : {e : Entered} {r : Result (List Entry)} → SameEntered d e r
+    at-end : {e : Entered} {r : Result (List HeadingEntry)} → SameEntered d e r
         → SameFront (frontOf d (e .heading) (e .next)) (bind r λ l n. bind (here d SURVEY n) λ a n. bind (notes d n) λ a. closing l)
     at-end (ends {h = h} {l = l} {n = n} reached) = survey-at h l reached n
     at-end (stops {h = h} {f = f}) = refused-front h f
@@ -108,7 +108,7 @@ module _ (d : List ℕ) where
     at-notes : (r : Result Unit)
         → SameFront (frontOf d (entriesFrom d (entered noHeading (toReading r)) .heading)
         (entriesFrom d (entered noHeading (toReading r)) .next))
-        (bind r λ a n. bind (repeat (suc (length d)) (reading.entered d) [] n) λ l n. bind (here d SURVEY n) λ a n. bind
+        (bind r λ a n. bind (repeat (suc (length d)) (reading.headingEntered d) [] n) λ l n. bind (here d SURVEY n) λ a n. bind
         (notes d n) λ a. closing l)
     at-notes (Is a m) = at-end (entries-turns d (suc (length d)) m noHeading [] was.none (omega arith))
     at-notes (Not f) = at-end (refused d noHeading f)
@@ -116,7 +116,7 @@ module _ (d : List ℕ) where
     at-opening : (r : Result Unit)
         → SameFront (frontOf d (entriesFrom d (entered noHeading (notesOn d (toReading r))) .heading)
         (entriesFrom d (entered noHeading (notesOn d (toReading r))) .next))
-        (bind r λ a n. bind (notes d n) λ a n. bind (repeat (suc (length d)) (reading.entered d) [] n) λ l n. bind
+        (bind r λ a n. bind (notes d n) λ a n. bind (repeat (suc (length d)) (reading.headingEntered d) [] n) λ l n. bind
         (here d SURVEY n) λ a n. bind (notes d n) λ a. closing l)
     at-opening (Is a n) = rw (notes-on d (Is a n)) (at-notes (notes d n))
     at-opening (Not f) = rw (notes-on d {A = ℕ} (Not f)) (at-notes (Not f))

@@ -28,14 +28,14 @@ use Rattle.values.specs.declared.Verdict.the-variants as verdict
 use Rattle.values.specs.Line.{Given, stateOf, saidOf, specialOr, lineRest, grownBy, endOf, endOr, moreOf, after, judgedStep}
 use Rattle.values.specs.Line as given
 use Rattle.values.specs.Order.{paperLine, paperRead, paperStep}
-use Rattle.survey.specs.rule.Survey.{Amount, Text, Line, Block}
+use Rattle.survey.specs.rule.Survey.{Amount, KeptText, Line, Block}
 use Rattle.survey.specs.rule.Width.{someOf, amounts, scaled}
 use Rattle.reading.specs.rule.Result.{Result, Is, Not, Reader, bind, repeat}
 use Rattle.reading.specs.rule.Result as reading
-use Rattle.reading.specs.rule.Least.{before, judged}
+use Rattle.reading.specs.rule.Least.{goesBefore, judged}
 use Rattle.reading.specs.rule.Token.{onWord, either, word, whether, amount, string}
 use Rattle.reading.specs.rule.Statement.{notes}
-use Rattle.reading.specs.rule.Values.{formIs, large, unlike, lineCharges, Listing, listing, withLine, endValues, line, listed}
+use Rattle.reading.specs.rule.Values.{formIs, large, unlikeAmounts, lineCharges, Listing, listing, withLine, endValues, line, listed}
 use Rattle.bridge.specs.Lowest.{chain, rising, chain-least}
 use Rattle.bridge.specs.Facts.{choose}
 use Rattle.bridge.specs.Tokens.{toReading, toPhrase, word-on, string-on}
@@ -123,10 +123,10 @@ module _ (d : List ℕ) (quantity : Bool) (first : ℕ) where
         (λ i. bind (amount d i) λ a n. Is (Again (listing (withLine c z) a)) n)
 
     charges-rise : rising (lineCharges quantity first c a) ≡ true
-    unfolding rising lineCharges before
+    unfolding rising lineCharges goesBefore
     charges-rise = rw (le-leb (a .place) (a .place) (omega arith))
 
-    line-judged : (t : Text) (i : ℕ) (s : Bool) (n : ℕ)
+    line-judged : (t : KeptText) (i : ℕ) (s : Bool) (n : ℕ)
         → Step (length l) (judgedStep d S (saidAs a x y m t i s n) (paperLine d l first quantity b v))
         (bind (judged (lineCharges quantity first c a) (lineOf a t s) n) then)
     unfolding paperLine chain lineCharges
@@ -140,10 +140,10 @@ module _ (d : List ℕ) (quantity : Bool) (first : ℕ) where
           repeated (h .lines) (scaled a),
           lines-count (h .lines),
         )
-        (by (formIs quantity a) (someOf (unlike a) (amounts c)) (someOf (λ z. eqZ (scaled (z .value)) (scaled a)) (c .lines))
+        (by (formIs quantity a) (someOf (unlikeAmounts a) (amounts c)) (someOf (λ z. eqZ (scaled (z .value)) (scaled a)) (c .lines))
         (large quantity a) (leb 4096 (first + length (c .lines))) refl refl refl refl refl))
       where
-        by : (q u r g e : Bool) → formIs quantity a ≡ q → someOf (unlike a) (amounts c) ≡ u
+        by : (q u r g e : Bool) → formIs quantity a ≡ q → someOf (unlikeAmounts a) (amounts c) ≡ u
             → someOf (λ z. eqZ (scaled (z .value)) (scaled a)) (c .lines) ≡ r → large quantity a ≡ g
             → leb 4096 (first + length (c .lines)) ≡ e
             → Step (length (c .lines)) (judgedStep d S (saidAs a x y m t i s n)
@@ -170,7 +170,7 @@ module _ (d : List ℕ) (quantity : Bool) (first : ℕ) where
     pub line-step : Step (length l) (paperStep d quantity first S) (listed d quantity first (listing c a) p)
     unfolding paperStep lineRest pastValue saidOf listed line gapOn pastString choiceOf
     line-step = rw (h .from) (rw (string-on d (Is m m)) (by (string d m))) where
-      by : (r : Result Text)
+      by : (r : Result KeptText)
           → Step (length l) (paperRead d quantity first S
           (specialOr (amounted.Is v) (toPhrase r) (gapOn d (pastString (toPhrase r)))
           (choiceOf d (gapOn d (pastString (toPhrase r))) SPECIAL)))

@@ -8,7 +8,7 @@ use lib.Dec.{eqb, ltb, leb}
 use borrow.Author.Tests.{eq-eqb, eqb-true, eqb-false, ltb-true, ltb-false, le-leb, leb-true, leb-false}
 use Rattle.tokens.specs.declared.Fault.{Fault}
 use Rattle.reading.specs.rule.Result.{Result, Is, Not}
-use Rattle.reading.specs.rule.Least.{Charge, _when_, named, before, Finding, clean, first, lower, least, found, judged}
+use Rattle.reading.specs.rule.Least.{Charge, _when_, named, goesBefore, Finding, clean, first, lower, least, found, judged}
 
 -- two numbers that are never equal prove anything: `never cc` ends a case whose answers differ
 pub never : {A : Type 0} → _≡_ {A = ℕ} 0 1 → A
@@ -22,14 +22,14 @@ chain bad good (f when q ∷ l) = cond q (bad f) (chain bad good l)
 unfoldable pub rising : List Charge → Bool
 rising [] = true
 rising (f when q ∷ []) = true
-rising (f when q ∷ g when r ∷ l) = cond (before f g) (rising (g when r ∷ l)) false
+rising (f when q ∷ g when r ∷ l) = cond (goesBefore f g) (rising (g when r ∷ l)) false
 
 pub record Sooner (f g : Fault) : Type 0 where
   pub number : f .number ≤ g .number
   pub place : f .number ≡ g .number → f .place ≤ g .place
 
-sooner : (f g : Fault) → before f g ≡ true → Sooner f g
-unfolding before
+sooner : (f g : Fault) → goesBefore f g ≡ true → Sooner f g
+unfolding goesBefore
 sooner f g = by (ltb (f .number) (g .number)) (eqb (f .number) (g .number)) (leb (f .place) (g .place)) refl refl refl where
   by : (x y z : Bool) → ltb (f .number) (g .number) ≡ x → eqb (f .number) (g .number) ≡ y → leb (f .place) (g .place) ≡ z
       → cond x true (cond y z false) ≡ true → Sooner f g
@@ -41,8 +41,8 @@ sooner f g = by (ltb (f .number) (g .number)) (eqb (f .number) (g .number)) (leb
   by false true false i j k e = never cc
   by false false z i j k e = never cc
 
-sooner-before : {f g : Fault} → Sooner f g → before f g ≡ true
-unfolding before
+sooner-before : {f g : Fault} → Sooner f g → goesBefore f g ≡ true
+unfolding goesBefore
 sooner-before {f} {g} s = by (ltb (f .number) (g .number)) refl where
   by : (x : Bool) → ltb (f .number) (g .number) ≡ x
       → cond x true (cond (eqb (f .number) (g .number)) (leb (f .place) (g .place)) false) ≡ true
@@ -80,7 +80,7 @@ leads-on s (leads t) = leads (sooner-trans s t)
 rising-tail : (f : Fault) (q : Bool) (l : List Charge) → rising (f when q ∷ l) ≡ true → rising l ≡ true
 unfolding rising
 rising-tail f q [] e = refl
-rising-tail f q (g when r ∷ l) e = by (before f g) e where
+rising-tail f q (g when r ∷ l) e = by (goesBefore f g) e where
   by : (x : Bool) → cond x (rising (g when r ∷ l)) false ≡ true → rising (g when r ∷ l) ≡ true
   by true e = e
   by false e = never cc
@@ -88,12 +88,12 @@ rising-tail f q (g when r ∷ l) e = by (before f g) e where
 rising-leads : (f : Fault) (q : Bool) (l : List Charge) → rising (f when q ∷ l) ≡ true → Leads f (least (named l))
 unfolding rising named least
 rising-leads f q [] e = alone
-rising-leads f q (g when r ∷ l) e = by (before f g) refl e (λ k. rising-leads g r l k) where
+rising-leads f q (g when r ∷ l) e = by (goesBefore f g) refl e (λ k. rising-leads g r l k) where
   on : (r : Bool) → Sooner f g → Leads g (least (named l)) → Leads f (least (cond r (g ∷ named l) (named l)))
   on true s i = rw (lower-first i) (leads s)
   on false s i = leads-on s i
 
-  by : (x : Bool) → before f g ≡ x → cond x (rising (g when r ∷ l)) false ≡ true
+  by : (x : Bool) → goesBefore f g ≡ x → cond x (rising (g when r ∷ l)) false ≡ true
       → (rising (g when r ∷ l) ≡ true → Leads g (least (named l))) → Leads f (least (cond r (g ∷ named l) (named l)))
   by true b e ih = on r (sooner f g b) (ih e)
   by false b e ih = never cc
@@ -121,7 +121,7 @@ pub data Judged {A : Type 0} (l : List Charge) (a : A) (n : ℕ) : Result A → 
 never-clean : {A : Type 0} (f : Fault) (x : Finding) → lower f x ≡ clean → A
 unfolding lower
 never-clean f clean e = never cc
-never-clean f (first g) e = by (before f g) e where
+never-clean f (first g) e = by (goesBefore f g) e where
   by : {A : Type 0} (q : Bool) → cond q (first f) (first g) ≡ clean → A
   by true e = never cc
   by false e = never cc
@@ -146,8 +146,8 @@ pub data In (f : Fault) : List Fault → Type 0 where
   here : {l : List Fault} → In f (f ∷ l)
   there : {g : Fault} {l : List Fault} → In f l → In f (g ∷ l)
 
-turned : (f g : Fault) → before f g ≡ false → Sooner g f
-unfolding before
+turned : (f g : Fault) → goesBefore f g ≡ false → Sooner g f
+unfolding goesBefore
 turned f g = by (ltb (f .number) (g .number)) (eqb (f .number) (g .number)) (leb (f .place) (g .place)) refl refl refl where
   by : (x y z : Bool) → ltb (f .number) (g .number) ≡ x → eqb (f .number) (g .number) ≡ y → leb (f .place) (g .place) ≡ z
       → cond x true (cond y z false) ≡ false → Sooner g f
@@ -182,7 +182,7 @@ least-lowest (f ∷ l) = by (least-lowest l) where
       empty e here = never cc
       empty e (there i) = never cc
 
-  choose : (g : Fault) (q : Bool) → before f g ≡ q → In g l → ((h : Fault) → In h l → Sooner g h)
+  choose : (g : Fault) (q : Bool) → goesBefore f g ≡ q → In g l → ((h : Fault) → In h l → Sooner g h)
       → Lowest (f ∷ l) (cond q (first f) (first g))
   choose g true b i s = lowest here (λ h j. on j) where
     on : {h : Fault} → In h (f ∷ l) → Sooner f h
@@ -195,4 +195,4 @@ least-lowest (f ∷ l) = by (least-lowest l) where
 
   by : {x : Finding} → Lowest l x → Lowest (f ∷ l) (lower f x)
   by (nothing e) = lowest here (only e)
-  by (lowest {f = g} i s) = choose g (before f g) refl i s
+  by (lowest {f = g} i s) = choose g (goesBefore f g) refl i s

@@ -17,7 +17,7 @@ use Rattle.statements.specs.rule.Words.{NOTE}
 use Rattle.statements.specs.Note.{pastNote, notesHere, notesOn, statementOn, textOn}
 use Rattle.statements.proofs.Notes.{note-left, notes-again, notes-done}
 use Rattle.reading.specs.rule.Result.{Result, Is, Not, bind, turn, repeat}
-use Rattle.survey.specs.rule.Survey.{Text}
+use Rattle.survey.specs.rule.Survey.{KeptText}
 use Rattle.reading.specs.rule.Token.{passed, onWord, gap, string}
 use Rattle.reading.specs.rule.Statement.{note, notes, statement, phrase}
 use Rattle.bridge.specs.Tokens.{toReading, toPhrase, past-string, gap-on, here-on, string-on}
@@ -42,7 +42,7 @@ module _ (d : List ℕ) where
     on (Is a k) l ih = ih k (omega arith)
     on (Not g) l ih = notes-refused g
 
-    behind : (m : ℕ) (s : Result Text) → pastNote d m ≡ toReading (bind s λ t. gap d) → left d (pastNote d m) < suc (length d - n)
+    behind : (m : ℕ) (s : Result KeptText) → pastNote d m ≡ toReading (bind s λ t. gap d) → left d (pastNote d m) < suc (length d - n)
         → ((k : ℕ) → length d - k < f → notesHere d (At k) ≡ toReading (repeat f (note d) tt k))
         → notesHere d (pastNote d m) ≡ toReading (bind (bind s λ t k. bind (gap d k) λ a k. Is (Again tt) k) (turn (repeat f (note d))))
     behind m (Is t k) e l ih = rw e (on (gap d k) (rw e at l) ih)

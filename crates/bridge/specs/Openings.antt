@@ -9,7 +9,7 @@ use lib.ListN.{length}
 use borrow.Author.Tests.{eq-eqb, ne-eqb, eqb-true, eqb-false, ltb-false}
 use Rattle.ascii.specs.rule.Class.{classOf, upperOf}
 use Rattle.scan.specs.rule.Text.{Text, text, placeOf}
-use Rattle.scan.specs.rule.Number.{isDigit, isSpace, isValue, runOf, bytesOf}
+use Rattle.scan.specs.rule.Number.{isDigit, isSpace, isValue, runOf, runBytes}
 use Rattle.scan.specs.rule.Word.{wordOf, wordAt}
 use Rattle.scan.specs.declared.Word.{Word}
 use Rattle.scan.specs.declared.Word.the-variants as spelled
@@ -23,7 +23,7 @@ use Rattle.statements.specs.Opening.{whole, versionHere, openingOf}
 use Rattle.reading.specs.rule.Result.{Result, Is, Not, bind}
 use Rattle.reading.specs.rule.Least.{_when_, named, lower, least, judged}
 use Rattle.reading.specs.rule.Token.{here}
-use Rattle.reading.specs.rule.Opening.{same, spaces, version, opening}
+use Rattle.reading.specs.rule.Opening.{same, spacesSkipped, version, opening}
 use Rattle.bridge.specs.Tokens.{toReading, here-on}
 use Rattle.bridge.specs.Amounts.{run-empty}
 
@@ -58,18 +58,18 @@ empty (x ∷ s) = ne-eqb (suc (length s)) 0 (λ z. omega arith)
 
 module _ (d : List ℕ) where
   word-whole : {n : ℕ} {t : Text} → From d n t → {w : List ℕ} → Plain w
-      → ends (runOf isValue n t) (wordOf n t w) ≡ same (bytesOf isValue t) w
-  unfolding wordOf runOf bytesOf same
-  word-whole {n} {t} f none = turned n (runOf isValue n t) ∙ run-empty d n f ∙ empty (bytesOf isValue t)
+      → ends (runOf isValue n t) (wordOf n t w) ≡ same (runBytes isValue t) w
+  unfolding wordOf runOf runBytes same
+  word-whole {n} {t} f none = turned n (runOf isValue n t) ∙ run-empty d n f ∙ empty (runBytes isValue t)
   word-whole {n} at-stop (one {x = x} {w = w} h v r) = refl
   word-whole {n} (at-sign {p = p} {b = b} {u = u} g l e f) (one {x = x} {w = w} h v r) =
       rw (upper-plain b x h) (by (eqb b x) refl (word-whole f r)) where
-        by : (q : Bool) → eqb b x ≡ q → ends (runOf isValue (p + 1) u) (wordOf (p + 1) u w) ≡ same (bytesOf isValue u) w
+        by : (q : Bool) → eqb b x ≡ q → ends (runOf isValue (p + 1) u) (wordOf (p + 1) u w) ≡ same (runBytes isValue u) w
             → ends (cond (isValue b) (runOf isValue (p + 1) u) n) (cond q (wordOf (p + 1) u w) spelled.Not)
-            ≡ same (cond (isValue b) (b ∷ bytesOf isValue u) []) (x ∷ w)
+            ≡ same (cond (isValue b) (b ∷ runBytes isValue u) []) (x ∷ w)
         by true i ih = let k : isValue b ≡ true = rw (eqb-true b x i) v in rw (k, i) ih
         by false i ih = other (isValue b) where
-          other : (q : Bool) → false ≡ same (cond q (b ∷ bytesOf isValue u) []) (x ∷ w)
+          other : (q : Bool) → false ≡ same (cond q (b ∷ runBytes isValue u) []) (x ∷ w)
           other true = rw i
           other false = refl
 
@@ -81,8 +81,8 @@ module _ (d : List ℕ) where
   unfolding versionHere version judged named least lower wordAt
   version-here n =
       rw (run-empty d n (from-text d n))
-      (by (eqb (length (bytesOf isValue (text d n))) 0) (wordOf n (text d n) ONE-ONE) (runOf isValue n (text d n))
-      (same (bytesOf isValue (text d n)) ONE-ONE) (word-whole (from-text d n) one-one))
+      (by (eqb (length (runBytes isValue (text d n))) 0) (wordOf n (text d n) ONE-ONE) (runOf isValue n (text d n))
+      (same (runBytes isValue (text d n)) ONE-ONE) (word-whole (from-text d n) one-one))
     where
       told : (q : Bool) (e : ℕ) → cond q (At e) (Refused (fault 4 n)) ≡ toReading (judged (fault 4 n when not q ∷ []) (tt {0}) e)
       told true e = refl
@@ -101,11 +101,12 @@ module _ (d : List ℕ) where
     p : ℕ
     p = placeOf (text d 0)
 
-    fin : (r : Result Unit) → then (spacesOn d (toReading r)) (versionHere d) ≡ toReading (bind r λ a n. bind (spaces d n) λ a. version d)
+    fin : (r : Result Unit) → then (spacesOn d (toReading r)) (versionHere d)
+        ≡ toReading (bind r λ a n. bind (spacesSkipped d n) λ a. version d)
     fin (Is a n) = version-here _
     fin (Not f) = refl
 
     by : (r : Result Unit) → then (spacesOn d (wordHere d (spacesOn d (toReading r)) VERSION)) (versionHere d)
-        ≡ toReading (bind r λ a n. bind (spaces d n) λ a n. bind (here d VERSION n) λ a n. bind (spaces d n) λ a. version d)
+        ≡ toReading (bind r λ a n. bind (spacesSkipped d n) λ a n. bind (here d VERSION n) λ a n. bind (spacesSkipped d n) λ a. version d)
     by (Is a n) = let m = placeOf (text d (runOf isSpace n (text d n))) in rw (here-on d (Is m m) VERSION) (fin (here d VERSION m))
     by (Not f) = rw (here-on d {A = ℕ} (Not f) VERSION)

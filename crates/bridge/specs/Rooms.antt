@@ -20,9 +20,9 @@ use Rattle.variables.specs.Rest.{Telling}
 use Rattle.measures.specs.Width.{plainColumns, widened, fullColumns}
 use Rattle.measures.specs.Survey.{countedIn, columnsIn, holdsIn}
 use Rattle.entries.specs.Entry.{variable}
-use Rattle.survey.specs.rule.Survey.{Figure, Text, Block, Spread, Content, single, multiple, quantity, character, logical, Variable}
+use Rattle.survey.specs.rule.Survey.{Figure, KeptText, Block, Spread, Content, single, multiple, quantity, character, logical, Variable}
 use Rattle.survey.specs.rule.Width.{partWidth, kindIn}
-use Rattle.survey.specs.rule.Table.{columnsOf, holds}
+use Rattle.survey.specs.rule.Table.{variableColumns, holds}
 use Rattle.reading.specs.rule.Statement.{Position}
 use Rattle.reading.specs.rule.Variable.{room, variableOf}
 use Rattle.bridge.specs.Statements.{evenOr}
@@ -53,21 +53,22 @@ unfolding roomGood
 narrow-room r a b l h = none-held (leb (r .width) b) (leb (r .start + a * b) (r .finish + 1))
     (lt-leb (r .start + a * b) (r .finish + 1) (omega arith))
 
-module _ (d : List ℕ) (n : Figure) (name : Text) (i : ℕ) (label : Text) (j : ℕ) (p : Position) (m before : ℕ)
+module _ (d : List ℕ) (n : Figure) (name : KeptText) (i : ℕ) (label : KeptText) (j : ℕ) (p : Position) (m before : ℕ)
     (low : Option·getD (p .finish) (p .start) .value ≤ 16384) where
   abbrev made : Content → Variable
   made c = variableOf n name label p c
 
-  kind-same : (c : Content) → kindOf (columnsOf before (made c)) ≡ kindIn (room p) c
-  unfolding kindOf columnsOf kindIn
+  kind-same : (c : Content) → kindOf (variableColumns before (made c)) ≡ kindIn (room p) c
+  unfolding kindOf variableColumns kindIn
   kind-same (single b) = refl
   kind-same (multiple s b) = refl
   kind-same (quantity b) = refl
   kind-same (character z) = refl
   kind-same logical = refl
 
-  room-before : (k : Kind) (c : Content) → roomGood k (rowOf (columnsOf before (made c))) ≡ roomGood k (rowOf (columnsOf 0 (made c)))
-  unfolding roomGood rowOf columnsOf
+  room-before : (k : Kind) (c : Content) → roomGood k (rowOf (variableColumns before (made c)))
+      ≡ roomGood k (rowOf (variableColumns 0 (made c)))
+  unfolding roomGood rowOf variableColumns
   room-before kind.Single c = refl
   room-before (kind.Multiple Bits) c = refl
   room-before (kind.Multiple (Fields a b)) c = refl
@@ -101,15 +102,15 @@ module _ (d : List ℕ) (n : Figure) (name : Text) (i : ℕ) (label : Text) (j :
   unfolding kindIn spreadOf
   kind-made s b h = rw (ne-eqb (s .count .value) 0 (λ z. omega arith))
 
-  low-made : (c : Content) → rowOf (columnsOf 0 (made c)) .finish ≤ 16384
-  unfolding columnsOf rowOf
+  low-made : (c : Content) → rowOf (variableColumns 0 (made c)) .finish ≤ 16384
+  unfolding variableColumns rowOf
   low-made c = low
 
   narrow-made : (s : Spread) (b : Block) → 1 ≤ s .count .value
       → 1000000000000000 ≤ s .count .value * partWidth (room p) (s .count) (s .width) → holds (made (multiple (some s) b)) ≡ false
   unfolding holds
   narrow-made s b h k =
-      rw (kind-made s b h) (narrow-room (rowOf (columnsOf 0 (made (multiple (some s) b)))) (s .count .value)
+      rw (kind-made s b h) (narrow-room (rowOf (variableColumns 0 (made (multiple (some s) b)))) (s .count .value)
       (partWidth (room p) (s .count) (s .width)) (low-made (multiple (some s) b)) k)
 
   -- ---- a spread is as the books have it, or too wide in both

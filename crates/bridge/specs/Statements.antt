@@ -25,7 +25,7 @@ use Rattle.statements.specs.declared.Spreading.{Spreading}
 use Rattle.statements.specs.declared.Spreading.the-variants as spreading
 use Rattle.survey.specs.rule.Survey.{Figure, Spread}
 use Rattle.reading.specs.rule.Result.{Result, Is, Not, bind}
-use Rattle.reading.specs.rule.Least.{judged, before}
+use Rattle.reading.specs.rule.Least.{judged, goesBefore}
 use Rattle.reading.specs.rule.Token.{number, optional}
 use Rattle.reading.specs.rule.Statement.{positionCharges, spreadCharges, sizeCharges, Position, statement, position, spread, size}
 use Rattle.bridge.specs.Lowest.{chain, rising, chain-least}
@@ -69,7 +69,7 @@ module _ (d : List ℕ) where
       → x .place ≤ Option·getD b x .place
       → judgePosition (belowOf d (figures (Option·getD b x) e) (figures x m)) (figures x m) (figures (Option·getD b x) e) n
       ≡ toStated (judged (positionCharges x (Option·getD b x)) (placed x b) n)
-  unfolding judgePosition chain positionCharges rising before
+  unfolding judgePosition chain positionCharges rising goesBefore
   position-least x b {m} {e} n k l h =
       let y = Option·getD b x in
       let p : judgePosition (belowOf d (figures y e) (figures x m)) (figures x m) (figures y e) n
@@ -120,7 +120,7 @@ module _ (d : List ℕ) where
   module _ (room : ℕ) (small : room < 1000000000000000) where
     even-least : (x : Figure) (m n : ℕ)
         → judgeEven (figures x m) room n ≡ toSpreading room (judged (spreadCharges room x none) (parts x none) n)
-    unfolding judgeEven chain spreadCharges rising before
+    unfolding judgeEven chain spreadCharges rising goesBefore
     even-least x m n =
         let v = x .value in
         let good = toSpreading room (Is (parts x none) n) in
@@ -131,7 +131,7 @@ module _ (d : List ℕ) where
 
     of-least : (x w : Figure) (m n : ℕ) → x .place ≤ w .place
         → judgeOf (figures x m) (figures w n) n ≡ toSpreading room (judged (spreadCharges room x (some w)) (parts x (some w)) n)
-    unfolding judgeOf chain spreadCharges rising before
+    unfolding judgeOf chain spreadCharges rising goesBefore
     of-least x w m n h =
         let k : judgeOf (figures x m) (figures w n) n
         ≡ chain spreading.Not (toSpreading room (Is (parts x (some w)) n)) (spreadCharges room x (some w)) =
@@ -165,7 +165,7 @@ module _ (d : List ℕ) where
 
   -- ---- SIZE
   size-least : (r : Result Figure) → judgeSize (toNumber r) ≡ toNumber (bind r λ n. judged (sizeCharges n) n)
-  unfolding judgeSize chain sizeCharges rising before
+  unfolding judgeSize chain sizeCharges rising goesBefore
   size-least (Is x m) =
       let k : judgeSize (toNumber (Is x m)) ≡ chain numbered.Not (toNumber (Is x m)) (sizeCharges x) =
       rw (capped-zero (x .value), capped-limit 4096 (x .value) (omega arith)) in

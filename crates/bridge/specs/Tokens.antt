@@ -9,7 +9,7 @@ use lib.ListN.{length}
 use Rattle.ascii.specs.rule.Class.{classOf}
 use Rattle.scan.specs.rule.Text.{text, stop, sign}
 use Rattle.scan.specs.rule.Text as scan
-use Rattle.scan.specs.rule.Number.{isDigit, runOf, bytesOf, decimalOf}
+use Rattle.scan.specs.rule.Number.{isDigit, runOf, runBytes, decimalOf}
 use Rattle.scan.specs.Number.{capped, digitsFrom}
 use Rattle.scan.specs.rule.Word.{wordAt}
 use Rattle.scan.specs.declared.Word.{Word}
@@ -28,11 +28,11 @@ use Rattle.tokens.specs.rule.Gap.{fault, gapAt}
 use Rattle.tokens.specs.Gap.{then, gapOn, spacesOn}
 use Rattle.tokens.specs.Token.{ofWord, wordHere, wordOn, ofDigits, numberHere, numberOn, pastNumber, ofSkip, stringIn, phraseOn, stringOn}
 use Rattle.tokens.specs.Token.{pastString, letterIn, letterOn}
-use Rattle.survey.specs.rule.Survey.{Figure, Text}
+use Rattle.survey.specs.rule.Survey.{Figure, KeptText}
 use Rattle.reading.specs.rule.Result.{Result, Is, Not, bind}
 use Rattle.reading.specs.rule.Token.{closed, quoted, passed, onWord, gap, here, word, figure, number, string, letter}
 use Rattle.reading.specs.rule.Token as reading
-use Rattle.reading.specs.rule.Opening.{spaces}
+use Rattle.reading.specs.rule.Opening.{spacesSkipped}
 
 -- ---- an answer as the code's books have it
 abbrev pub toReading : {A : Type 0} → Result A → Reading
@@ -43,7 +43,7 @@ abbrev pub toNumber : Result Figure → Number
 toNumber (Is x n) = numbered.Is (record { size = capped (x .value); count = x .digits; place = x .place; next = n })
 toNumber (Not f) = numbered.Not f
 
-abbrev pub toPhrase : Result Text → Phrase
+abbrev pub toPhrase : Result KeptText → Phrase
 toPhrase (Is t n) = phrased.Is (record { place = t .place; length = t .length; next = n })
 toPhrase (Not f) = phrased.Not f
 
@@ -52,7 +52,7 @@ unfolding pastNumber
 past-number (Is x n) = refl
 past-number (Not f) = refl
 
-pub past-string : (r : Result Text) → pastString (toPhrase r) ≡ toReading r
+pub past-string : (r : Result KeptText) → pastString (toPhrase r) ≡ toReading r
 unfolding pastString
 past-string (Is t n) = refl
 past-string (Not f) = refl
@@ -68,7 +68,7 @@ module _ (d : List ℕ) where
   gap-on (Is a n) = passed-on (gapAt d n)
   gap-on (Not f) = refl
 
-  pub spaces-on : {A : Type 0} (r : Result A) → spacesOn d (toReading r) ≡ toReading (bind r λ a. spaces d)
+  pub spaces-on : {A : Type 0} (r : Result A) → spacesOn d (toReading r) ≡ toReading (bind r λ a. spacesSkipped d)
   unfolding spacesOn
   spaces-on (Is a n) = refl
   spaces-on (Not f) = refl
@@ -93,7 +93,7 @@ module _ (d : List ℕ) where
   number-here : (n : ℕ) → numberHere d (At n) ≡ toNumber (figure d n)
   unfolding numberHere ofDigits digitsFrom figure
   number-here n =
-      let s = bytesOf isDigit (text d n) in
+      let s = runBytes isDigit (text d n) in
       rw (zero-add (length s)) (by (eqb (length s) 0) s (runOf isDigit n (text d n)))
     where
       by : (q : Bool) (s : List ℕ) (end : ℕ)

@@ -22,7 +22,7 @@ use Rattle.tokens.proofs.Aheads.{taken-less, string-left, word-left}
 use Rattle.statements.specs.Note.{pastNote}
 use Rattle.statements.proofs.Notes.{note-left, notes-left}
 use Rattle.statements.specs.rule.Words.{NOTE, STANDARD, NAMES, SPECIAL, END, VALUES, VARIABLE, NAME, LABEL}
-use Rattle.survey.specs.rule.Survey.{Figure, Amount, Text, Line, Block, Variable}
+use Rattle.survey.specs.rule.Survey.{Figure, Amount, KeptText, Line, Block, Variable}
 use Rattle.reading.specs.rule.Result.{Result, Is, Not, Reader, bind, turn, repeat}
 use Rattle.reading.specs.rule.Least.{judged}
 use Rattle.reading.specs.rule.Token.{onWord, gap, either, word, whether, number, amount, string}
@@ -30,7 +30,7 @@ use Rattle.survey.specs.rule.Table.{linesAll}
 use Rattle.reading.specs.rule.Statement.{note, notes, statement, phrase, position}
 use Rattle.reading.specs.rule.Values.{lineCharges, Listing, listing, withLine, endValues, line, listed}
 use Rattle.reading.specs.rule.Variable.{identCharges, variableOf, held, ident, type, content, variable}
-use Rattle.reading.specs.rule.Whole.{Entry, entry, given, texted, names, entered, another}
+use Rattle.reading.specs.rule.Whole.{HeadingEntry, entry, given, texted, names, headingEntered, anotherVariable}
 use Rattle.bridge.specs.Lowest.{never, clear, Judged, fine, faulty, judged-view}
 use Rattle.bridge.specs.Tokens.{toReading, string-on, word-on}
 use Rattle.bridge.specs.Notes.{past-on, notes-on}
@@ -94,13 +94,13 @@ module _ (d : List ℕ) (quantity : Bool) (first : ℕ) where
         at-notes l (notes d m) (leb-false 4096 (first + length (s .block .lines)) f)
     at-judged l m faulty = stops
 
-    at-special : (t : Text) (r : Result Bool)
+    at-special : (t : KeptText) (r : Result Bool)
         → Lined (s .block) (bind (bind r λ q. judged (lineCharges quantity first (s .block) (s .next)) (lineOf (s .next) t q)) then)
     at-special t (Is q m) = at-judged (lineOf (s .next) t q) m
         (judged-view (lineCharges quantity first (s .block) (s .next)) (lineOf (s .next) t q) m)
     at-special t (Not f) = stops
 
-    at-text : (r : Result Text)
+    at-text : (r : Result KeptText)
         → Lined (s .block) (bind
         (bind r λ t n. bind (whether d SPECIAL n) λ q. judged (lineCharges quantity first (s .block) (s .next)) (lineOf (s .next) t q))
         then)
@@ -157,8 +157,8 @@ module _ (d : List ℕ) where
       bind (content d p (linesAll l) s i) λ c i. bind (statement d END i) λ a i. bind (word d VARIABLE i) λ a. held
       (variableOf x name label p c)
 
-  variable-goes : (l : List Variable) (n : ℕ) → Listed l (another d l n)
-  unfolding another variable
+  variable-goes : (l : List Variable) (n : ℕ) → Listed l (anotherVariable d l n)
+  unfolding anotherVariable variable
   variable-goes l n = at-ident (ident-few l n) where
     at-end : (v : Variable) (k : ℕ) (w : Word) → length l < 512
         → Listed l (onWord (λ e. Is (Done (l ++ v ∷ [])) e) (λ i. Is (Again (l ++ v ∷ [])) i) k w)
@@ -181,19 +181,20 @@ module _ (d : List ℕ) where
     at-ident (headed {n = x} {m = i} h) = at-variable (behind l x i) h
     at-ident unheaded = stops
 
-  variable-less : (l k : List Variable) (n m : ℕ) → another d l n ≡ Is (Again k) m → 512 - length k < 512 - length l
+  variable-less : (l k : List Variable) (n m : ℕ) → anotherVariable d l n ≡ Is (Again k) m → 512 - length k < 512 - length l
   variable-less l k n m e = by (variable-goes l n) e where
     by : {r : Result (Next (List Variable) (List Variable))} → Listed l r → r ≡ Is (Again k) m → 512 - length k < 512 - length l
     by (on v h) e = let q : l ++ v ∷ [] ≡ k = cc in rw (← q) (rw (length-append l (v ∷ [])) (omega arith))
     by over e = never cc
     by stops e = never cc
 
-  pub variables-enough : (f : ℕ) (l : List Variable) (n : ℕ) → 512 < f → repeat f (another d) l n ≡ repeat 513 (another d) l n
-  variables-enough f l n h = enough (another d) (λ l n. 512 - length l) variable-less f 513 l n (omega arith) (omega arith)
+  pub variables-enough : (f : ℕ) (l : List Variable) (n : ℕ) → 512 < f → repeat f (anotherVariable d) l n
+      ≡ repeat 513 (anotherVariable d) l n
+  variables-enough f l n h = enough (anotherVariable d) (λ l n. 512 - length l) variable-less f 513 l n (omega arith) (omega arith)
 
 -- ---- notes and the heading: each leads on in the file
 module _ (d : List ℕ) where
-  string-on-less : (j : ℕ) {t : Text} {k : ℕ} → string d j ≡ Is t k → left d (At k) ≤ left d (At j)
+  string-on-less : (j : ℕ) {t : KeptText} {k : ℕ} → string d j ≡ Is t k → left d (At k) ≤ left d (At j)
   unfolding pastString
   string-on-less j e = rw (string-on d (Is j j), e) at (string-left d (At j))
 
@@ -220,7 +221,7 @@ module _ (d : List ℕ) where
     on j (Is a k) p l e = let q : k ≡ m = cc in rw (← q) (rw p at l)
     on j (Not f) p l e = never cc
 
-    text : (j : ℕ) (r : Result Text) → pastNote d j ≡ toReading (bind r λ t. gap d) → left d (pastNote d j) < left d (At n)
+    text : (j : ℕ) (r : Result KeptText) → pastNote d j ≡ toReading (bind r λ t. gap d) → left d (pastNote d j) < left d (At n)
         → bind r (λ t k. bind (gap d k) λ a. againAt) ≡ Is (Again t) m → left d (At m) < left d (At n)
     text j (Is x k) p l e = on j (gap d k) p l e
     text j (Not f) p l e = never cc
@@ -239,49 +240,49 @@ module _ (d : List ℕ) where
   notes-enough f n h = enough (note d) (λ s n. length d - n) note-on f (suc (length d)) tt n h (omega arith)
 
   -- a statement of the heading
-  module _ (l k : List Entry) (n m : ℕ) where
+  module _ (l k : List HeadingEntry) (n m : ℕ) where
     abbrev Less : Type 0
     Less = left d (At m) < left d (At n)
 
-    abbrev behind-item : ℕ → Reader (Option Text) → Reader (Next (List Entry) (List Entry))
+    abbrev behind-item : ℕ → Reader (Option KeptText) → Reader (Next (List HeadingEntry) (List HeadingEntry))
     behind-item i p = cond (given i l) (λ m. Not (fault 2 n)) (λ m. bind (p m) λ t m. bind (notes d m) λ a m. Is (Again (entry i t ∷ l)) m)
 
-    abbrev onwardAt : ℕ → Option Text → Reader (Next (List Entry) (List Entry))
+    abbrev onwardAt : ℕ → Option KeptText → Reader (Next (List HeadingEntry) (List HeadingEntry))
     onwardAt i t o = Is (Again (entry i t ∷ l)) o
 
-    item-less : (i : ℕ) (p : Reader (Option Text)) (j : ℕ) → left d (At j) < left d (At n)
-        → ((t : Option Text) (o : ℕ) → p j ≡ Is t o → left d (At o) ≤ left d (At j)) → behind-item i p j ≡ Is (Again k) m → Less
+    item-less : (i : ℕ) (p : Reader (Option KeptText)) (j : ℕ) → left d (At j) < left d (At n)
+        → ((t : Option KeptText) (o : ℕ) → p j ≡ Is t o → left d (At o) ≤ left d (At j)) → behind-item i p j ≡ Is (Again k) m → Less
     item-less i p j h less = by (given i l) where
-      at-notes : (t : Option Text) (o : ℕ) → left d (At o) ≤ left d (At j) → (r : Result Unit) → notes d o ≡ r
+      at-notes : (t : Option KeptText) (o : ℕ) → left d (At o) ≤ left d (At j) → (r : Result Unit) → notes d o ≡ r
           → bind r (λ a. onwardAt i t) ≡ Is (Again k) m → Less
       at-notes t o g (Is a z) q e = let u : z ≡ m = cc in let v = notes-on-less o q in rw (← u) (omega arith)
       at-notes t o g (Not f) q e = never cc
 
-      at-text : (r : Result (Option Text)) → p j ≡ r → bind r (λ t m. bind (notes d m) λ a. onwardAt i t) ≡ Is (Again k) m → Less
+      at-text : (r : Result (Option KeptText)) → p j ≡ r → bind r (λ t m. bind (notes d m) λ a. onwardAt i t) ≡ Is (Again k) m → Less
       at-text (Is t o) q e = at-notes t o (less t o q) (notes d o) refl e
       at-text (Not f) q e = never cc
 
-      by : (q : Bool) → cond {A = Reader (Next (List Entry) (List Entry))} q (λ m. Not (fault 2 n))
+      by : (q : Bool) → cond {A = Reader (Next (List HeadingEntry) (List HeadingEntry))} q (λ m. Not (fault 2 n))
           (λ m. bind (p m) λ t m. bind (notes d m) λ a m. Is (Again (entry i t ∷ l)) m) j ≡ Is (Again k) m → Less
       by true e = never cc
       by false e = at-text (p j) refl e
 
-    texted-less : (j : ℕ) (t : Option Text) (o : ℕ) → texted d j ≡ Is t o → left d (At o) ≤ left d (At j)
+    texted-less : (j : ℕ) (t : Option KeptText) (o : ℕ) → texted d j ≡ Is t o → left d (At o) ≤ left d (At j)
     texted-less j t o = by (string d j) refl where
-      by : (r : Result Text) → string d j ≡ r → bind r (λ t m. Is (some t) m) ≡ Is t o → left d (At o) ≤ left d (At j)
+      by : (r : Result KeptText) → string d j ≡ r → bind r (λ t m. Is (some t) m) ≡ Is t o → left d (At o) ≤ left d (At j)
       by (Is x z) q e = let u : z ≡ o = cc in rw (← u) (string-on-less j q)
       by (Not f) q e = never cc
 
-    abbrev noneAt : Reader (Option Text)
+    abbrev noneAt : Reader (Option KeptText)
     noneAt o = Is none o
 
-    names-less : (j : ℕ) (t : Option Text) (o : ℕ) → names d j ≡ Is t o → left d (At o) ≤ left d (At j)
+    names-less : (j : ℕ) (t : Option KeptText) (o : ℕ) → names d j ≡ Is t o → left d (At o) ≤ left d (At j)
     names-less j t o = by (word d NAMES j) refl where
       by : (r : Result Unit) → word d NAMES j ≡ r → bind r (λ a. noneAt) ≡ Is t o → left d (At o) ≤ left d (At j)
       by (Is a z) q e = let u : z ≡ o = cc in rw (← u) (names-on-less j q)
       by (Not f) q e = never cc
 
-    text-or : (i x : ℕ) (w : List ℕ) (z : Reader (Next (List Entry) (List Entry))) → (z n ≡ Is (Again k) m → Less)
+    text-or : (i x : ℕ) (w : List ℕ) (z : Reader (Next (List HeadingEntry) (List HeadingEntry))) → (z n ≡ Is (Again k) m → Less)
         → onWord (behind-item i (texted d)) z n (wordAt d n (x ∷ w)) ≡ Is (Again k) m → Less
     text-or i x w z or-else = by (wordAt d n (x ∷ w)) refl where
       by : (y : Word) → wordAt d n (x ∷ w) ≡ y → onWord (behind-item i (texted d)) z n y ≡ Is (Again k) m → Less
@@ -294,8 +295,8 @@ module _ (d : List ℕ) where
       by (spelled.Matched j) q e = item-less 4 (names d) j (taken-on n 83 (84 ∷ 65 ∷ 78 ∷ 68 ∷ 65 ∷ 82 ∷ 68 ∷ []) q) (names-less j) e
       by spelled.Not q e = never cc
 
-    entry-less : entered d l n ≡ Is (Again k) m → length d - m < length d - n
-    unfolding entered left
+    entry-less : headingEntered d l n ≡ Is (Again k) m → length d - m < length d - n
+    unfolding headingEntered left
     entry-less e =
         let h : Less =
         text-or 0 68 (65 ∷ 84 ∷ 69 ∷ []) _
@@ -304,6 +305,6 @@ module _ (d : List ℕ) where
         (text-or 3 85 (83 ∷ 69 ∷ 82 ∷ []) _ names-or))) e
         in omega arith
 
-  pub entries-enough : (f : ℕ) (l : List Entry) (n : ℕ) → length d - n < f
-      → repeat f (entered d) l n ≡ repeat (suc (length d)) (entered d) l n
-  entries-enough f l n h = enough (entered d) (λ l n. length d - n) entry-less f (suc (length d)) l n h (omega arith)
+  pub entries-enough : (f : ℕ) (l : List HeadingEntry) (n : ℕ) → length d - n < f
+      → repeat f (headingEntered d) l n ≡ repeat (suc (length d)) (headingEntered d) l n
+  entries-enough f l n h = enough (headingEntered d) (λ l n. length d - n) entry-less f (suc (length d)) l n h (omega arith)

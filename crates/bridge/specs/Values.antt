@@ -36,10 +36,11 @@ use Rattle.survey.specs.rule.Survey.{Amount, Range, Block}
 use Rattle.survey.specs.rule.Width.{flag, someOf, eachOf, amounts, scaled}
 use Rattle.survey.specs.rule.Table.{ranged}
 use Rattle.reading.specs.rule.Result.{Result, Is, Not, Reader, bind, repeat}
-use Rattle.reading.specs.rule.Least.{before, judged}
+use Rattle.reading.specs.rule.Least.{goesBefore, judged}
 use Rattle.reading.specs.rule.Token.{passed, here, word, optional, amount, value, string}
 use Rattle.reading.specs.rule.Statement.{notes, statement}
-use Rattle.reading.specs.rule.Values.{line, listed, formIs, large, unlike, rangeCharges, listing, rangeFrom, unlisted, endValues, lines}
+use Rattle.reading.specs.rule.Values.{line, listed, formIs, large, unlikeAmounts, rangeCharges, listing, rangeFrom, unlisted, endValues}
+use Rattle.reading.specs.rule.Values.{lines}
 use Rattle.reading.specs.rule.Values.{range, rangeOr, values}
 use Rattle.bridge.specs.Lowest.{chain, rising, chain-least}
 use Rattle.bridge.specs.Facts.{gap-ahead, word-ahead, choose}
@@ -66,7 +67,7 @@ said a b = record {
   point = pointsOf (own a) (own b);
 }
 
-range-kept : (a b : Amount) → unlike a b ≡ false → capped (a .size) ≡ a .size → capped (b .size) ≡ b .size
+range-kept : (a b : Amount) → unlikeAmounts a b ≡ false → capped (a .size) ≡ a .size → capped (b .size) ≡ b .size
     → Kept (said a b) (unlisted (some (rangeFrom a b)))
 unfolding amounts someOf eachOf scaledOf
 range-kept a b u i j =
@@ -75,7 +76,7 @@ range-kept a b u i j =
       decimals = refl;
       point = by (a .point) (eqb (a .whole) 0) (b .point) (eqb (b .whole) 0);
       known = refl;
-      unlike-some = λ c. rw (← e) (twice (unlike c a));
+      unlike-some = λ c. rw (← e) (twice (unlikeAmounts c a));
       ranged = refl;
       from = rw i;
       to = rw j;
@@ -173,7 +174,7 @@ module _ (d : List ℕ) (quantity : Bool) (first : ℕ) where
     vb = written b x′ y′ m′
 
     charges-rise : rising (rangeCharges quantity a b) ≡ true
-    unfolding rising rangeCharges before
+    unfolding rising rangeCharges goesBefore
     charges-rise = rw (le-leb (a .place) (b .place) rises, le-leb (b .place) (b .place) (omega arith))
 
     abbrev judge : Bool → Bool → Bool → Bool → Bool → Bool → Judged
@@ -205,7 +206,7 @@ module _ (d : List ℕ) (quantity : Bool) (first : ℕ) where
             (cond (not q) (Not (fault 6 (b .place))) (cond (not e) (Not (fault 6 (b .place))) (cond v (Not (fault 6 (b .place)))
             (cond g (Not (fault 8 (a .place))) (cond h (Not (fault 8 (b .place))) (Is (rangeFrom a b) n))))))) (onward w))
         by true true true false false false i1 i2 i3 i4 i5 i6 j reached =
-            let u : unlike a b ≡ false = rw i3 in
+            let u : unlikeAmounts a b ≡ false = rw i3 in
             let r = reached (said a b) (rw j) in
             rw j (range-then (said a b) (rangeFrom a b) (range-kept a b u (small quantity a i5) (small quantity b i6)) w n r)
         by true true true false false true i1 i2 i3 i4 i5 i6 j reached = rw j refuses

@@ -26,7 +26,7 @@ use Rattle.variables.specs.Ident.{wrongIdent, judgeIdent, identOn}
 use Rattle.survey.specs.rule.Survey.{Figure, Variable}
 use Rattle.survey.specs.rule.Width.{someOf}
 use Rattle.reading.specs.rule.Result.{Result, Is, Not, Reader, bind, give, due}
-use Rattle.reading.specs.rule.Least.{before, judged}
+use Rattle.reading.specs.rule.Least.{goesBefore, judged}
 use Rattle.reading.specs.rule.Token.{passed, onWord, gap, either, number}
 use Rattle.reading.specs.rule.Statement.{statement}
 use Rattle.reading.specs.rule.Variable.{identCharges, Sort, Single, Multiple, Quantity, Character, Logical, ident, type}
@@ -103,7 +103,7 @@ module _ (d : List ℕ) where
 
     ident-least : {k : ℕ} (r : Result Figure) → Told d k r
         → judgeIdent met (length earlier) (toNumber r) ≡ toNumber (bind r λ n. judged (identCharges earlier n) n)
-    unfolding judgeIdent wrongIdent chain identCharges rising before
+    unfolding judgeIdent wrongIdent chain identCharges rising goesBefore
     ident-least (Is x m) (told k) =
         by (ltb 4 (x .digits)) refl
         ∙ chain-least toNumber x m (identCharges earlier x) (rw (le-leb (x .place) (x .place) (omega arith))) where

@@ -18,11 +18,11 @@ use Rattle.reading.specs.rule.Whole.{surveyOf}
 use Rattle.values.specs.Room.{Unless}
 use Rattle.laying.specs.declared.Rooms.the-variants as rooms
 use Rattle.bridge.specs.Lowest.{never}
-use Rattle.laying.specs.rule.Begins.{begins}
+use Rattle.laying.specs.rule.Begins.{beginsTable}
 use Rattle.definition.specs.declared.Against.{Against}
 use Rattle.definition.specs.declared.Against.the-variants.{Same, Other, Refused}
-use Rattle.definition.specs.rule.Definition.{Outcome, Built, Refusal, outcomeOf}
-use Rattle.definition.specs.rule.Against.{held, againstOf}
+use Rattle.definition.specs.rule.Definition.{SssOutcome, Built, Refusal, sssOutcome}
+use Rattle.definition.specs.rule.Against.{sssHeld, sssAgainst}
 use Rattle.grammar_laws.specs.Outcome.{Settles, read, too-long, stopped, misnamed, no-room, outcome-exactly}
 use Rattle.grammar_laws.specs.Whole.{survey-is, definition-exactly}
 use Rattle.sink.specs.rule.Sent.{Sent}
@@ -32,7 +32,7 @@ use Rattle.fronts.specs.Front.{wholeText}
 use Rattle.front_laws.specs.Read.{read-clean}
 use Rattle.clean.specs.declared.Written.{Written}
 use Rattle.clean.specs.declared.Written.the-variants as written
-use Rattle.clean.specs.rule.Written.{Writing, Text, fitted, cleaned, writtenOf, outAfter}
+use Rattle.clean.specs.rule.Written.{Writing, Text, cleanFitted, cleaned, cleanWritten, outAfter}
 use Rattle.clean.specs.rule.Written as rule
 use Rattle.clean.specs.Most.{clean-most}
 
@@ -75,19 +75,19 @@ within s r m h = by (lt-or-le 1048576 (length s)) where
 
 -- ---- 41, 42, and the text
 module _ (s : List ℕ) (n r : ℕ) (m : Measured s r) where
-  pub too-large : 1048576 < r → fitted n s ≡ rule.Refusal 41 0
-  unfolding fitted
+  pub too-large : 1048576 < r → cleanFitted n s ≡ rule.Refusal 41 0
+  unfolding cleanFitted
   too-large h = rw (lt-ltb 1048576 (length s) (large s r m h))
 
-  pub too-short : r ≤ 1048576 → n < r → fitted n s ≡ rule.Refusal 42 0
-  unfolding fitted
+  pub too-short : r ≤ 1048576 → n < r → cleanFitted n s ≡ rule.Refusal 42 0
+  unfolding cleanFitted
   too-short h g =
       let l = within s r m h in
       let e = m .within l in
       rw (le-ltb 1048576 (length s) l, lt-ltb n (length s) (omega arith))
 
-  pub fits : r ≤ 1048576 → r ≤ n → (fitted n s ≡ Text s) × (r ≡ length s)
-  unfolding fitted
+  pub fits : r ≤ 1048576 → r ≤ n → (cleanFitted n s ≡ Text s) × (r ≡ length s)
+  unfolding cleanFitted
   fits h g =
       let l = within s r m h in
       let e = m .within l in
@@ -99,7 +99,7 @@ stored {s = s} {out = out} a b e h = a .stored (omega arith) (omega arith) ∙ s
 
 -- the same without measuring, where m bytes are enough for the text, are no 41 and have room
 pub ample-stored : (s : List ℕ) {out out′ : List ℕ} {m r : ℕ} → Sent (m + 1) out 0 s out′ r → length s ≤ m → m ≤ 1048576 → m ≤ length out
-    → (fitted (length out) s ≡ Text s) × (r ≡ length s) × (out′ ≡ s ++ drop (length s) out)
+    → (cleanFitted (length out) s ≡ Text s) × (r ≡ length s) × (out′ ≡ s ++ drop (length s) out)
 ample-stored s {out = out} a h l g = (
   fits s (length out) (length s) (record { within = λ i. refl; beyond = λ i. i }) (omega arith) (omega arith) .0,
   (let e = a .within (omega arith) in omega (arith, e)),
@@ -107,29 +107,30 @@ ample-stored s {out = out} a h l g = (
 )
 
 -- ---- a table that is the definition's own: it was read, and its clean text is what is sent
-read-survey : (d : List ℕ) (n : ℕ) {l : List Variable} {A : Type 0} → outcomeOf d n ≡ Built l
+read-survey : (d : List ℕ) (n : ℕ) {l : List Variable} {A : Type 0} → sssOutcome d n ≡ Built l
     → ((s : Survey) (m : ℕ) → surveyOf d ≡ Is s m → l ≡ s .variables → A) → A
 read-survey d n {l} {A} e f = by (outcome-exactly d n (Built l) .0 e) refl where
-  by : {o : Outcome} → Settles d n o → o ≡ Built l → A
+  by : {o : SssOutcome} → Settles d n o → o ≡ Built l → A
   by (too-long h) q = never cc
   by (stopped h z) q = never cc
   by (misnamed h x y z) q = never cc
   by (no-room h x y z) q = never cc
   by (read {s = s} {m = m} h x w k) q = f s m (survey-is d x) cc
 
-pub same-clean : (d : List ℕ) (t : List ℤ) (n : ℕ) → againstOf d t ≡ Same → cleaned d n (surveyOf d) ≡ fitted n (wholeText d)
-unfolding againstOf
-same-clean d t n e = by (outcomeOf d (lineBase mostRows mostLines)) refl e where
-  by : (o : Outcome) → outcomeOf d (lineBase mostRows mostLines) ≡ o → held o t ≡ Same → cleaned d n (surveyOf d) ≡ fitted n (wholeText d)
+pub same-clean : (d : List ℕ) (t : List ℤ) (n : ℕ) → sssAgainst d t ≡ Same → cleaned d n (surveyOf d) ≡ cleanFitted n (wholeText d)
+unfolding sssAgainst
+same-clean d t n e = by (sssOutcome d (lineBase mostRows mostLines)) refl e where
+  by : (o : SssOutcome) → sssOutcome d (lineBase mostRows mostLines) ≡ o → sssHeld o t ≡ Same → cleaned d n (surveyOf d)
+      ≡ cleanFitted n (wholeText d)
   by (Built l) i j =
       read-survey d (lineBase mostRows mostLines) i λ s m q k.
       rw (q, read-clean d (lineBase mostRows mostLines) q (i ∙ ap Built k))
   by (Refusal k p) i j = never cc
 
-pub same-most : (d : List ℕ) (t : List ℤ) → againstOf d t ≡ Same → length (wholeText d) ≤ 3 * length d
-unfolding againstOf
-same-most d t e = by (outcomeOf d (lineBase mostRows mostLines)) refl e where
-  by : (o : Outcome) → outcomeOf d (lineBase mostRows mostLines) ≡ o → held o t ≡ Same → length (wholeText d) ≤ 3 * length d
+pub same-most : (d : List ℕ) (t : List ℤ) → sssAgainst d t ≡ Same → length (wholeText d) ≤ 3 * length d
+unfolding sssAgainst
+same-most d t e = by (sssOutcome d (lineBase mostRows mostLines)) refl e where
+  by : (o : SssOutcome) → sssOutcome d (lineBase mostRows mostLines) ≡ o → sssHeld o t ≡ Same → length (wholeText d) ≤ 3 * length d
   by (Built l) i j =
       read-survey d (lineBase mostRows mostLines) i λ s m q k.
       rw (read-clean d (lineBase mostRows mostLines) q (i ∙ ap Built k)) (clean-most d (definition-exactly d s m .0 q .0))

@@ -27,18 +27,19 @@ use Rattle.token_laws.specs.Opening as spaces
 use Rattle.fieldlaws.specs.NumberLaws.{length-padded}
 use Rattle.statements.specs.rule.Words.{SSS, VERSION, ONE-ONE, DATE, TIME, ORIGIN, USER, STANDARD, NAMES, SURVEY, TITLE, RECORD, VARIABLE}
 use Rattle.statements.specs.rule.Words.{NAME, LABEL, TYPE, POSITION, TO, SPREAD, OF, SIZE, VALUES, WITH, SPECIAL, END}
-use Rattle.survey.specs.rule.Survey.{Figure, Amount, Text, Range, Line, Block, Content, Variable, Survey}
+use Rattle.survey.specs.rule.Survey.{Figure, Amount, KeptText, Range, Line, Block, Content, Variable, Survey}
 use Rattle.survey.specs.rule.Survey as survey
 use Rattle.survey.specs.rule.Width.{someOf}
-use Rattle.reading.specs.rule.Token.{amountOf}
+use Rattle.reading.specs.rule.Token.{amountRead}
 use Rattle.reading.specs.rule.Variable.{Sort}
-use Rattle.reading.specs.rule.Whole.{Entry, given, heading}
+use Rattle.reading.specs.rule.Whole.{HeadingEntry, given, heading}
 use Rattle.reading.specs.rule.Whole as reading
 use Rattle.grammar.specs.Token.{Gap, Here, Keyword, Run, Number, Value, String, Letter, Notes, Statement, Phrase, End, Optional}
 use Rattle.grammar.specs.Token as token
 use Rattle.grammar.specs.Grammar as says
 use Rattle.clean_text.specs.rule.Span.{upTo, spanOf}
-use Rattle.clean_text.specs.rule.Clean.{Token, lineOf, textOf, plainDigits, figure, amount, quoted, perhaps, marked, valueLine, someLine}
+use Rattle.clean_text.specs.rule.Clean.{Token, lineOf, cleanText, plainDigits, figureToken, amountToken, quotedToken, perhaps, marked}
+use Rattle.clean_text.specs.rule.Clean.{valueLine, someLine}
 use Rattle.clean_text.specs.rule.Clean.{rangeLine, valuesLines, spreadLine, typeWord, contentLines, positions, variableLines, eachVariable}
 use Rattle.clean_text.specs.rule.Clean.{standardLine, headLines, cleanLines, cleanOf}
 use Rattle.page_laws.specs.Values.{text-append}
@@ -77,29 +78,29 @@ line-four a b c e = omega (arith, line-more a b (c ∷ e ∷ []), line-three b c
 
 -- how many bytes lines have
 unfoldable size : List (List Token) → ℕ
-size l = length (textOf l)
+size l = length (cleanText l)
 
 size-none : size [] ≡ 0
-unfolding size textOf
+unfolding size cleanText
 size-none = refl
 
 size-more : (a : List Token) (l : List (List Token)) → size (a ∷ l) ≡ length (lineOf a) + size l
-unfolding size textOf
-size-more a l = length-append (lineOf a) (textOf l)
+unfolding size cleanText
+size-more a l = length-append (lineOf a) (cleanText l)
 
 size-one : (a : List Token) → size (a ∷ []) ≡ length (lineOf a)
 size-one a = omega (arith, size-more a [], size-none)
 
 size-both : (a b : List (List Token)) → size (a ++ b) ≡ size a + size b
 unfolding size
-size-both a b = ap length (text-append a b) ∙ length-append (textOf a) (textOf b)
+size-both a b = ap length (text-append a b) ∙ length-append (cleanText a) (cleanText b)
 
 module _ (d : List ℕ) where
   span-most : (a e : ℕ) → length (spanOf d a e) ≤ e - a
   unfolding spanOf text
   span-most a e = up-most (drop a d) a e
 
-  quoted-size : (t : Text) → length (quoted d t) ≡ length (spanOf d (t .place) (t .place + t .length)) + 2
+  quoted-size : (t : KeptText) → length (quotedToken d t) ≡ length (spanOf d (t .place) (t .place + t .length)) + 2
   quoted-size t = let e = length-append (34 ∷ spanOf d (t .place) (t .place + t .length)) (34 ∷ []) in omega (arith, e)
 
   -- ---- what is derived from n to m stands between them
@@ -146,14 +147,14 @@ module _ (d : List ℕ) where
   keyword-on : {w : List ℕ} {n m : ℕ} → Keyword d w n m → n + length w ≤ m
   keyword-on (token.keyword g h) = omega (arith, gap-on g, here-on h)
 
-  number-on : {n m : ℕ} {x : Figure} → Number d n x m → n + length (figure d x) ≤ m
+  number-on : {n m : ℕ} {x : Figure} → Number d n x m → n + length (figureToken d x) ≤ m
   number-on (token.number {p = p} {m = m} g r) = omega (arith, gap-on g, run-on r (from-text d p), span-most p m)
 
-  value-on : {n m : ℕ} {a : Amount} → Value d n a m → n + length (amount d a) ≤ m
-  unfolding amountOf
+  value-on : {n m : ℕ} {a : Amount} → Value d n a m → n + length (amountToken d a) ≤ m
+  unfolding amountRead
   value-on (token.value {n = n} {m = m} r) = omega (arith, run-on r (from-text d n), span-most n m)
 
-  string-on : {n m : ℕ} {t : Text} → String d n t m → n + length (quoted d t) ≤ m
+  string-on : {n m : ℕ} {t : KeptText} → String d n t m → n + length (quotedToken d t) ≤ m
   string-on {t = t} (token.string {p = p} {m = m} g e s) =
       let b = ahead (string-ahead d (from-text d (p + 1)) Plain) (string-complete s) in
       omega (arith, gap-on g, sign-on e, b, quoted-size t, span-most (p + 1) (p + 1 + (m - (p + 1) - 1)))
@@ -172,12 +173,12 @@ module _ (d : List ℕ) where
   end-on (token.end s k) = omega (arith, statement-on s, keyword-on k)
 
   -- ---- statements of a word and a text, or a word and a number
-  phrase-fits : {w : List ℕ} {n m : ℕ} {t : Text} → Phrase d w n t m → length (lineOf (w ∷ quoted d t ∷ [])) + 3 * n ≤ 3 * m
-  phrase-fits {w} {t = t} (token.phrase s x) = omega (arith, line-two w (quoted d t), quoted-size t, statement-on s, string-on x)
+  phrase-fits : {w : List ℕ} {n m : ℕ} {t : KeptText} → Phrase d w n t m → length (lineOf (w ∷ quotedToken d t ∷ [])) + 3 * n ≤ 3 * m
+  phrase-fits {w} {t = t} (token.phrase s x) = omega (arith, line-two w (quotedToken d t), quoted-size t, statement-on s, string-on x)
 
   number-fits : {w : List ℕ} {n k m : ℕ} {x : Figure} → 2 ≤ length w → Statement d w n k → Number d k x m
-      → length (lineOf (w ∷ figure d x ∷ [])) + 3 * n ≤ 3 * m
-  number-fits {w} {x = x} h s y = omega (arith, h, line-two w (figure d x), statement-on s, number-on y)
+      → length (lineOf (w ∷ figureToken d x ∷ [])) + 3 * n ≤ 3 * m
+  number-fits {w} {x = x} h s y = omega (arith, h, line-two w (figureToken d x), statement-on s, number-on y)
 
   end-fits : {w : List ℕ} {n m : ℕ} → End d w n m → length (lineOf (END ∷ w ∷ [])) + 3 * n + 3 ≤ 3 * m
   end-fits {w} e = omega (arith, line-two END w, end-on e)
@@ -185,21 +186,29 @@ module _ (d : List ℕ) where
   -- ---- VALUES
   line-fits : {n m : ℕ} {l : Line} → says.Line d n l m → length (lineOf (valueLine d l)) + 3 * n ≤ 3 * m
   line-fits (says.line {a = a} {t = t} r v x (token.yes k)) =
-      omega (arith, line-three (amount d a) (quoted d t) SPECIAL, quoted-size t, notes-on r, value-on v, string-on x, keyword-on k)
+      omega (
+        arith,
+        line-three (amountToken d a) (quotedToken d t) SPECIAL,
+        quoted-size t,
+        notes-on r,
+        value-on v,
+        string-on x,
+        keyword-on k,
+      )
   line-fits (says.line {a = a} {t = t} r v x (token.no g o)) =
-      omega (arith, line-two (amount d a) (quoted d t), quoted-size t, notes-on r, value-on v, string-on x, gap-on g)
+      omega (arith, line-two (amountToken d a) (quotedToken d t), quoted-size t, notes-on r, value-on v, string-on x, gap-on g)
 
   lines-fits : {n m : ℕ} {l : List Line} → says.Lines d n l m → size (map (valueLine d) l) + 3 * n + 27 ≤ 3 * m
   lines-fits (says.last {l = l} x e) = omega (arith, size-one (valueLine d l), line-fits x, end-on e)
   lines-fits (says.more {l = l} {ls = ls} x y) = omega (arith, size-more (valueLine d l) (map (valueLine d) ls), line-fits x, lines-fits y)
 
   range-size : (r : Range) (q : Bool)
-      → length (lineOf (amount d (r .from) ∷ TO ∷ amount d (r .to) ∷ marked d q WITH)) ≤ length (amount d (r .from))
-      + length (amount d (r .to)) + 11
-  range-size r true = omega (arith, line-four (amount d (r .from)) TO (amount d (r .to)) WITH)
-  range-size r false = omega (arith, line-three (amount d (r .from)) TO (amount d (r .to)))
+      → length (lineOf (amountToken d (r .from) ∷ TO ∷ amountToken d (r .to) ∷ marked d q WITH)) ≤ length (amountToken d (r .from))
+      + length (amountToken d (r .to)) + 11
+  range-size r true = omega (arith, line-four (amountToken d (r .from)) TO (amountToken d (r .to)) WITH)
+  range-size r false = omega (arith, line-three (amountToken d (r .from)) TO (amountToken d (r .to)))
 
-  bounds-on : {n m : ℕ} {r : Range} → says.Bounds d n r m → n + length (amount d (r .from)) + length (amount d (r .to)) + 2 ≤ m
+  bounds-on : {n m : ℕ} {r : Range} → says.Bounds d n r m → n + length (amountToken d (r .from)) + length (amountToken d (r .to)) + 2 ≤ m
   bounds-on (says.bounds x a k g b) = omega (arith, notes-on x, value-on a, keyword-on k, gap-on g, value-on b)
 
   values-size : (b : Block) → size (valuesLines d b) ≡ 20 + size (rangeLine d (b .range) (b .lines)) + size (map (valueLine d) (b .lines))
@@ -224,7 +233,7 @@ module _ (d : List ℕ) where
         arith,
         values-size b,
         size-none,
-        size-one (amount d (r .from) ∷ TO ∷ amount d (r .to) ∷ []),
+        size-one (amountToken d (r .from) ∷ TO ∷ amountToken d (r .to) ∷ []),
         range-size r false,
         statement-on s,
         bounds-on x,
@@ -235,7 +244,7 @@ module _ (d : List ℕ) where
       omega (
         arith,
         values-size b,
-        size-one (amount d (r .from) ∷ TO ∷ amount d (r .to) ∷ marked d (someLine d l) WITH),
+        size-one (amountToken d (r .from) ∷ TO ∷ amountToken d (r .to) ∷ marked d (someLine d l) WITH),
         range-size r (someLine d l),
         statement-on s,
         bounds-on x,
@@ -246,11 +255,11 @@ module _ (d : List ℕ) where
   -- ---- POSITION, SPREAD, and what a type has
 
   position-fits : {n m : ℕ} {a : Figure} {b : Option Figure} → says.Position d n a b m
-      → length (lineOf (POSITION ∷ figure d a ∷ TO ∷ figure d (Option·getD b a) ∷ [])) + 3 * n ≤ 3 * m
+      → length (lineOf (POSITION ∷ figureToken d a ∷ TO ∷ figureToken d (Option·getD b a) ∷ [])) + 3 * n ≤ 3 * m
   position-fits {a = a} (says.position s x (token.given {a = b} k y)) =
-      omega (arith, line-four POSITION (figure d a) TO (figure d b), statement-on s, number-on x, keyword-on k, number-on y)
+      omega (arith, line-four POSITION (figureToken d a) TO (figureToken d b), statement-on s, number-on x, keyword-on k, number-on y)
   position-fits {a = a} (says.position s x (token.absent g o)) =
-      omega (arith, line-four POSITION (figure d a) TO (figure d a), statement-on s, number-on x, gap-on g)
+      omega (arith, line-four POSITION (figureToken d a) TO (figureToken d a), statement-on s, number-on x, gap-on g)
 
   digits-size : (n : ℕ) → length (plainDigits n) ≤ 16
   unfolding plainDigits
@@ -260,8 +269,8 @@ module _ (d : List ℕ) where
   spread-fits room (says.spread {x = x} s y (token.given {a = w} k z)) =
       omega (
         arith,
-        size-one (SPREAD ∷ figure d x ∷ OF ∷ figure d w ∷ []),
-        line-four SPREAD (figure d x) OF (figure d w),
+        size-one (SPREAD ∷ figureToken d x ∷ OF ∷ figureToken d w ∷ []),
+        line-four SPREAD (figureToken d x) OF (figureToken d w),
         statement-on s,
         number-on y,
         keyword-on k,
@@ -271,8 +280,8 @@ module _ (d : List ℕ) where
       let each = plainDigits (room / x .value) in
       omega (
         arith,
-        size-one (SPREAD ∷ figure d x ∷ OF ∷ each ∷ []),
-        line-four SPREAD (figure d x) OF each,
+        size-one (SPREAD ∷ figureToken d x ∷ OF ∷ each ∷ []),
+        line-four SPREAD (figureToken d x) OF each,
         digits-size (room / x .value),
         statement-on s,
         number-on y,
@@ -285,7 +294,7 @@ module _ (d : List ℕ) where
   rest-fits room (says.multiple {s = s} {b = b} x v) =
       omega (arith, size-both (spreadLine d room s) (valuesLines d b), spread-fits room x, values-fits v)
   rest-fits room (says.quantity v) = omega (arith, values-fits v)
-  rest-fits room (says.character {x = x} s y) = omega (arith, size-one (SIZE ∷ figure d x ∷ []), number-fits (omega arith) s y)
+  rest-fits room (says.character {x = x} s y) = omega (arith, size-one (SIZE ∷ figureToken d x ∷ []), number-fits (omega arith) s y)
   rest-fits room says.logical = omega (arith, size-none)
 
   -- ---- a variable
@@ -303,11 +312,11 @@ module _ (d : List ℕ) where
   variable-fits : {n m : ℕ} {v : Variable} → says.Variable d n v m → size (variableLines d v) + 3 * n ≤ 3 * m
   unfolding variableLines
   variable-fits {v = v} (says.variable {t = t} s x name label y k p r e) =
-      let ident = VARIABLE ∷ figure d (v .ident) ∷ [] in
-      let named = NAME ∷ quoted d (v .name) ∷ [] in
-      let labelled = LABEL ∷ quoted d (v .label) ∷ [] in
+      let ident = VARIABLE ∷ figureToken d (v .ident) ∷ [] in
+      let named = NAME ∷ quotedToken d (v .name) ∷ [] in
+      let labelled = LABEL ∷ quotedToken d (v .label) ∷ [] in
       let typed = TYPE ∷ typeWord d (v .content) ∷ [] in
-      let placed = POSITION ∷ figure d (v .start) ∷ TO ∷ figure d (Option·getD (v .finish) (v .start)) ∷ [] in
+      let placed = POSITION ∷ figureToken d (v .start) ∷ TO ∷ figureToken d (Option·getD (v .finish) (v .start)) ∷ [] in
       let rest = contentLines d (positions d v) (v .content) in
       omega (
         arith,
@@ -334,19 +343,19 @@ module _ (d : List ℕ) where
       omega (arith, size-both (variableLines d v) (eachVariable d l), variable-fits x, variables-fits y)
 
   -- ---- the heading: its statements in any order
-  unfoldable itemsSize : List Entry → ℕ
+  unfoldable itemsSize : List HeadingEntry → ℕ
   itemsSize l =
-      size (perhaps d DATE (reading.textOf 0 l))
-      + size (perhaps d TIME (reading.textOf 1 l))
-      + size (perhaps d ORIGIN (reading.textOf 2 l))
-      + size (perhaps d USER (reading.textOf 3 l))
+      size (perhaps d DATE (reading.enteredText 0 l))
+      + size (perhaps d TIME (reading.enteredText 1 l))
+      + size (perhaps d ORIGIN (reading.enteredText 2 l))
+      + size (perhaps d USER (reading.enteredText 3 l))
       + size (standardLine d (given 4 l))
 
-  perhaps-fits : {w : List ℕ} {n m : ℕ} {t : Text} → Phrase d w n t m → size (perhaps d w (some t)) + 3 * n ≤ 3 * m
-  perhaps-fits {w} {t = t} x = omega (arith, size-one (w ∷ quoted d t ∷ []), phrase-fits x)
+  perhaps-fits : {w : List ℕ} {n m : ℕ} {t : KeptText} → Phrase d w n t m → size (perhaps d w (some t)) + 3 * n ≤ 3 * m
+  perhaps-fits {w} {t = t} x = omega (arith, size-one (w ∷ quotedToken d t ∷ []), phrase-fits x)
 
-  item-fits : {n m : ℕ} {e : Entry} (l : List Entry) → says.Item d n e m → itemsSize (e ∷ l) + 3 * n ≤ itemsSize l + 3 * m
-  unfolding itemsSize reading.textOf given someOf
+  item-fits : {n m : ℕ} {e : HeadingEntry} (l : List HeadingEntry) → says.Item d n e m → itemsSize (e ∷ l) + 3 * n ≤ itemsSize l + 3 * m
+  unfolding itemsSize reading.enteredText given someOf
   item-fits l (says.date x) = omega (arith, perhaps-fits x)
   item-fits l (says.time x) = omega (arith, perhaps-fits x)
   item-fits l (says.origin x) = omega (arith, perhaps-fits x)
@@ -354,28 +363,29 @@ module _ (d : List ℕ) where
   item-fits l (says.standard-names s k) =
       omega (arith, size-one (STANDARD ∷ NAMES ∷ []), line-two STANDARD NAMES, statement-on s, keyword-on k)
 
-  items-fits : {n m : ℕ} {l k : List Entry} → says.Items d l n k m → itemsSize k + 3 * n ≤ itemsSize l + 3 * m
+  items-fits : {n m : ℕ} {l k : List HeadingEntry} → says.Items d l n k m → itemsSize k + 3 * n ≤ itemsSize l + 3 * m
   items-fits says.no-more = omega arith
   items-fits {l = l} (says.more x q y) = omega (arith, item-fits l x, items-fits y)
 
   items-none : itemsSize [] ≡ 0
-  unfolding itemsSize reading.textOf given someOf
+  unfolding itemsSize reading.enteredText given someOf
   items-none = omega (arith, size-none)
 
-  title-fits : {n m : ℕ} {t : Option Text} → says.Title d n t m → size (perhaps d TITLE t) + 3 * n ≤ 3 * m
+  title-fits : {n m : ℕ} {t : Option KeptText} → says.Title d n t m → size (perhaps d TITLE t) + 3 * n ≤ 3 * m
   title-fits (says.title x) = perhaps-fits x
   title-fits says.untitled = omega (arith, size-none)
 
   opening-on : {m : ℕ} → says.Opening d m → 10 ≤ m
   opening-on (says.opening {e = e} h s w r x) = omega (arith, here-on h, spaces-on s, here-on w, spaces-on r, run-on x (from-text d e))
 
-  head-size : (l : List Entry) (t : Option Text) (x : ℕ) → size (headLines d (heading l t x)) ≡ itemsSize l + size (perhaps d TITLE t) + 36
+  head-size : (l : List HeadingEntry) (t : Option KeptText) (x : ℕ) → size (headLines d (heading l t x)) ≡ itemsSize l
+      + size (perhaps d TITLE t) + 36
   unfolding headLines itemsSize
   head-size l t x =
-      let a = perhaps d DATE (reading.textOf 0 l) in
-      let b = perhaps d TIME (reading.textOf 1 l) in
-      let c = perhaps d ORIGIN (reading.textOf 2 l) in
-      let e = perhaps d USER (reading.textOf 3 l) in
+      let a = perhaps d DATE (reading.enteredText 0 l) in
+      let b = perhaps d TIME (reading.enteredText 1 l) in
+      let c = perhaps d ORIGIN (reading.enteredText 2 l) in
+      let e = perhaps d USER (reading.enteredText 3 l) in
       let f = standardLine d (given 4 l) in
       let g = perhaps d TITLE t in
       let begun = (SSS ∷ []) ∷ (VERSION ∷ ONE-ONE ∷ []) ∷ a in

@@ -11,9 +11,9 @@ ghost use Prim.Native.Nat.{_*_, _≤_};
 ghost use Rattle.ascii.specs.Class.{Classes};
 ghost use Rattle.ascii.specs.rule.Tens.{Tens};
 ghost use lib.ListN.{length};
-ghost use Rattle.definition.specs.rule.Against.{againstOf};
+ghost use Rattle.definition.specs.rule.Against.{sssAgainst};
 ghost use Rattle.fronts.specs.Front.{wholeText};
-ghost use Rattle.clean.specs.rule.Written.{DefinitionWritten, fitted, writtenOf, outAfter};
+ghost use Rattle.clean.specs.rule.Written.{DefinitionWritten, cleanFitted, cleanWritten, outAfter};
 ghost use Rattle.clean.specs.Law.{Measured, Perhaps};
 
 // The outcome: how long the clean text is; or the refusal's number and place.
@@ -34,8 +34,9 @@ fn measure(classes: &[u8; 256], powers: &[u64; 16], d: &[u8]) -> usize
 
 // 41, 42, or the clean text of a definition that was read.
 fn write_clean(d: &[u8], out: &mut [u8]) -> Written
-    ensures { λ r. ⌜ r ≡ writtenOf (fitted (length (now (out .entry))) (wholeText (now (d .entry)))) ⌝ }
-    ensures { λ r. ⌜ now (out .exit) ≡ outAfter (fitted (length (now (out .entry))) (wholeText (now (d .entry)))) (now (out .entry)) ⌝ }
+    ensures { λ r. ⌜ r ≡ cleanWritten (cleanFitted (length (now (out .entry))) (wholeText (now (d .entry)))) ⌝ }
+    ensures { λ r. ⌜ now (out .exit) ≡ outAfter (cleanFitted (length (now (out .entry))) (wholeText (now (d .entry))))
+        (now (out .entry)) ⌝ }
 {
     let classes = ascii::classes();
     let powers = ascii::powers();
@@ -70,8 +71,9 @@ fn ample(bytes: usize, room: usize) -> bool
 fn write_once(d: &[u8], out: &mut [u8]) -> Written
     requires { ⌜ length (wholeText (now d)) ≤ 3 * length (now d) ⌝ }
     requires { ⌜ (3 * length (now d) ≤ 1048576) × (3 * length (now d) ≤ length (now out)) ⌝ }
-    ensures { λ r. ⌜ r ≡ writtenOf (fitted (length (now (out .entry))) (wholeText (now (d .entry)))) ⌝ }
-    ensures { λ r. ⌜ now (out .exit) ≡ outAfter (fitted (length (now (out .entry))) (wholeText (now (d .entry)))) (now (out .entry)) ⌝ }
+    ensures { λ r. ⌜ r ≡ cleanWritten (cleanFitted (length (now (out .entry))) (wholeText (now (d .entry)))) ⌝ }
+    ensures { λ r. ⌜ now (out .exit) ≡ outAfter (cleanFitted (length (now (out .entry))) (wholeText (now (d .entry))))
+        (now (out .entry)) ⌝ }
 {
     let classes = ascii::classes();
     let powers = ascii::powers();
@@ -83,8 +85,9 @@ fn write_once(d: &[u8], out: &mut [u8]) -> Written
 // The clean text, measured first where the output may be too short for it.
 fn write_read(d: &[u8], out: &mut [u8]) -> Written
     requires { ⌜ length (wholeText (now d)) ≤ 3 * length (now d) ⌝ }
-    ensures { λ r. ⌜ r ≡ writtenOf (fitted (length (now (out .entry))) (wholeText (now (d .entry)))) ⌝ }
-    ensures { λ r. ⌜ now (out .exit) ≡ outAfter (fitted (length (now (out .entry))) (wholeText (now (d .entry)))) (now (out .entry)) ⌝ }
+    ensures { λ r. ⌜ r ≡ cleanWritten (cleanFitted (length (now (out .entry))) (wholeText (now (d .entry)))) ⌝ }
+    ensures { λ r. ⌜ now (out .exit) ≡ outAfter (cleanFitted (length (now (out .entry))) (wholeText (now (d .entry))))
+        (now (out .entry)) ⌝ }
 {
     if ample(d.len(), out.len()) {
         return write_once(d, out);
@@ -103,7 +106,7 @@ const FEW_LINES: usize = Line::SIZE * 512;
 // A table held against a definition with few rows and lines; 0 where it has more.
 fn judge_few(d: &[u8], t: &[i64]) -> Against
     requires { ⌜ length (now d) ≤ 1048576 ⌝ }
-    ensures { λ r. ⌜ Perhaps (r ≡ Against.Refused 0 0) (r ≡ againstOf (now (d .entry)) (now (t .entry))) ⌝ }
+    ensures { λ r. ⌜ Perhaps (r ≡ Against.Refused 0 0) (r ≡ sssAgainst (now (d .entry)) (now (t .entry))) ⌝ }
 {
     let classes = ascii::classes();
     let powers = ascii::powers();
@@ -127,7 +130,7 @@ fn judge_few(d: &[u8], t: &[i64]) -> Against
 
 // The same, 0 for a definition that is not short.
 fn judge_short(d: &[u8], t: &[i64]) -> Against
-    ensures { λ r. ⌜ Perhaps (r ≡ Against.Refused 0 0) (r ≡ againstOf (now (d .entry)) (now (t .entry))) ⌝ }
+    ensures { λ r. ⌜ Perhaps (r ≡ Against.Refused 0 0) (r ≡ sssAgainst (now (d .entry)) (now (t .entry))) ⌝ }
 {
     if SHORT < d.len() {
         return Against::Refused {
@@ -140,7 +143,7 @@ fn judge_short(d: &[u8], t: &[i64]) -> Against
 
 // A table held against any definition.
 fn judge(d: &[u8], t: &[i64]) -> Against
-    ensures { λ r. ⌜ r ≡ againstOf (now (d .entry)) (now (t .entry)) ⌝ }
+    ensures { λ r. ⌜ r ≡ sssAgainst (now (d .entry)) (now (t .entry)) ⌝ }
 {
     match judge_short(d, t) {
         Against::Same => Against::Same,

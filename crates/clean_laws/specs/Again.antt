@@ -5,7 +5,7 @@ use mathlib.Core.List.{List, map}
 use mathlib.Core.Option.{Option}
 use Prim.Native.Nat.{ℕ, _-_}
 use Rattle.statements.specs.rule.Words.{DATE, TIME, ORIGIN, USER, TITLE}
-use Rattle.survey.specs.rule.Survey.{Text, Range, Line, Block, Spread, Content, Variable, Heading, Survey}
+use Rattle.survey.specs.rule.Survey.{KeptText, Range, Line, Block, Spread, Content, Variable, Heading, Survey}
 use Rattle.survey.specs.rule.Width.{roomIn}
 use Rattle.clean_text.specs.rule.Clean.{Token, perhaps, valueLine, someLine, rangeLine, valuesLines, spreadLine, typeWord}
 use Rattle.clean_text.specs.rule.Clean.{contentLines, variableLines, eachVariable, standardLine, headLines, cleanLines, cleanOf}
@@ -15,7 +15,7 @@ use Rattle.clean_laws.specs.Same.{SameVariable, SameHeading, SameSurvey}
 use Rattle.clean_laws.specs.Same as same
 
 module _ (d p : List ℕ) where
-  perhaps-again : (w : Token) {o o′ : Option Text} → Both (SameText d p) o o′ → perhaps p w o′ ≡ perhaps d w o
+  perhaps-again : (w : Token) {o o′ : Option KeptText} → Both (SameText d p) o o′ → perhaps p w o′ ≡ perhaps d w o
   perhaps-again w neither = refl
   perhaps-again w (either r) = rw (r .span)
 

@@ -14,21 +14,21 @@ use borrow.Author.Tests.{lt-ltb, le-ltb}
 use Rattle.below.specs.Below.{lt-or-le}
 use Rattle.cells.specs.rule.Cell.{cell, pasted}
 use Rattle.rows.specs.rule.Cells.{headerCells}
-use Rattle.survey.specs.rule.Survey.{Text, Line, Variable, Survey}
+use Rattle.survey.specs.rule.Survey.{KeptText, Line, Variable, Survey}
 use Rattle.survey.specs.rule.Table.{linesAll, headerFor, tableOf}
 use Rattle.definition.specs.declared.Answer.{Answer}
-use Rattle.definition.specs.rule.Definition.{Refusal, outcomeOf, answerOf, tableAfter, DefinitionRead}
+use Rattle.definition.specs.rule.Definition.{Refusal, sssOutcome, sssAnswer, sssTableAfter, SssRead}
 use Rattle.text_laws.specs.Stand.{Each, nil, more}
 use Rattle.text_laws.specs.Decoded.{Decodes, VariableDecodes, texts-decode}
 use Rattle.clean_text.specs.rule.Clean.{cleanOf}
 use Rattle.clean_laws.specs.rule.Texts.{textAt, decodedText, decodedTexts}
-use Rattle.clean_laws.specs.rule.Reads.{signsOf, headTexts, Reads}
+use Rattle.clean_laws.specs.rule.Reads.{textSigns, headTexts, Reads}
 use Rattle.clean_laws.specs.Masked.{masked}
 use Rattle.clean_laws.specs.Reads.{variableTexts, CleanReads, clean-reads}
 
 -- ---- as decoded by the places and lengths of the tables
 lines-decoded : {d : List ℕ} {l : List Line} → Each (λ (s : Line). Decodes d (s .text)) l
-    → map (λ l. decodedText d (l .text)) l ≡ map (λ l. signsOf d (l .text)) l
+    → map (λ l. decodedText d (l .text)) l ≡ map (λ l. textSigns d (l .text)) l
 lines-decoded nil = refl
 lines-decoded (more h r) = rw (h .decodes, lines-decoded r)
 
@@ -115,9 +115,9 @@ module _ {d : List ℕ} {s : Survey} (r : Reads d s) (c : CleanReads d s) (t : L
       pasted-cell t (tableOf l′) k (lt-or-le k (length (tableOf l′)))
       ∙ rw (c .long, c .cells k e) (sym (pasted-cell t (tableOf l) k (lt-or-le k (length (tableOf l)))))
 
-  pub clean-called : {t₁ t₂ : List ℤ} {a₁ a₂ : Answer} → DefinitionRead d t t₁ a₁ → DefinitionRead (cleanOf d s) t t₂ a₂
+  pub clean-called : {t₁ t₂ : List ℤ} {a₁ a₂ : Answer} → SssRead d t t₁ a₁ → SssRead (cleanOf d s) t t₂ a₂
       → (a₂ ≡ a₁) × ((k : ℕ) → textAt (length l) k ≡ false → cell t₂ k ≡ cell t₁ k)
-  unfolding answerOf tableAfter
+  unfolding sssAnswer sssTableAfter
   clean-called p q =
       let e = r .built (length t) room in
       let f = c .reads .built (length t) (rw (c .long) room) in
@@ -128,7 +128,7 @@ module _ {d : List ℕ} {s : Survey} (r : Reads d s) (c : CleanReads d s) (t : L
       (a₂ ∙ rw (counts-same .0, counts-same .1) (sym a₁), λ k h. rw (t₁, t₂) (laid-same k h))
 
 -- REFUSED BY NONE OF 1 TO 9: a definition that is read is refused with 10 alone, where the lent table is too short
-pub reads-refused : {d : List ℕ} {s : Survey} → Reads d s → (n number place : ℕ) → outcomeOf d n ≡ Refusal number place
+pub reads-refused : {d : List ℕ} {s : Survey} → Reads d s → (n number place : ℕ) → sssOutcome d n ≡ Refusal number place
     → (number ≡ 10) × (place ≡ 0)
 reads-refused {d} {s} r n number place e = by (lt-or-le n (length (tableOf (s .variables)))) where
   by : (n < length (tableOf (s .variables))) ⊎ (length (tableOf (s .variables)) ≤ n) → (number ≡ 10) × (place ≡ 0)

@@ -16,11 +16,11 @@ use Rattle.statements.specs.rule.Words.{DATE, TIME, ORIGIN, USER, TITLE}
 use Rattle.statements.specs.rule.Words.{WITH, SPECIAL}
 use Rattle.fields.specs.rule.Number.{padded}
 use Rattle.fieldlaws.specs.NumberLaws.{padded-digits}
-use Rattle.survey.specs.rule.Survey.{Figure, Amount, Text, Range, Line, Block}
+use Rattle.survey.specs.rule.Survey.{Figure, Amount, KeptText, Range, Line, Block}
 use Rattle.survey.specs.rule.Survey.{Spread, Content, single, multiple, quantity, character, logical}
 use Rattle.survey.specs.rule.Survey.{Variable, Heading, Survey}
 use Rattle.clean_text.specs.rule.Span.{upTo, spanOf}
-use Rattle.clean_text.specs.rule.Clean.{Token, figure, amount, quoted, perhaps}
+use Rattle.clean_text.specs.rule.Clean.{Token, figureToken, amountToken, quotedToken, perhaps}
 use Rattle.clean_text.specs.rule.Clean.{marked, valueLine, someLine, rangeLine, valuesLines, plainDigits}
 use Rattle.clean_text.specs.rule.Clean.{spreadWidth, spreadLine, typeWord, contentLines}
 use Rattle.clean_text.specs.rule.Clean.{variableLines, eachVariable, standardLine, headLines}
@@ -71,19 +71,19 @@ lines-tokens nil = nil
 lines-tokens (more h r) = more (tokens-clear h) (lines-tokens r)
 
 module _ (d : List ℕ) where
-  quoted-clear : (t : Text) → Clear (quoted d t)
+  quoted-clear : (t : KeptText) → Clear (quotedToken d t)
   unfolding each plain classOf
   quoted-clear t =
       let k = spanOf d (t .place) (t .place + t .length) in
       each-cons plain 34 (k ++ 34 ∷ []) refl (each-append plain k (34 ∷ []) (span-clear d (t .place) (t .place + t .length)) refl)
 
-  figure-clear : (x : Figure) → Clear (figure d x)
+  figure-clear : (x : Figure) → Clear (figureToken d x)
   figure-clear x = span-clear d (x .place) (x .end)
 
-  amount-clear : (a : Amount) → Clear (amount d a)
+  amount-clear : (a : Amount) → Clear (amountToken d a)
   amount-clear a = span-clear d (a .place) (a .end)
 
-  perhaps-clear : (w : Token) (o : Option Text) → Clear w → Lines (perhaps d w o)
+  perhaps-clear : (w : Token) (o : Option KeptText) → Clear w → Lines (perhaps d w o)
   perhaps-clear w none h = nil
   perhaps-clear w (some t) h = more (words h (more (quoted-clear t) nil)) nil
 

@@ -13,8 +13,8 @@ use Rattle.layout.specs.declared.Kind.the-variants.{Single, Multiple, Quantity}
 use Rattle.widths.specs.rule.Width.{need}
 use Rattle.survey.specs.rule.Survey.{Amount, Range, Line, Block, Spread, Content, Variable}
 use Rattle.survey.specs.rule.Width.{someOf, eachOf, rangeEnds, amounts, scaled, decimalsIn, bare, pointIn, blockIn, roomIn, partsOf}
-use Rattle.survey.specs.rule.Width.{subwidthOf, kindIn, widest, widthIn}
-use Rattle.survey.specs.rule.Table.{typeOf, spreadIn, ranged, fromOf, toOf, columnsOf, holds}
+use Rattle.survey.specs.rule.Width.{subwidthOf, kindIn, widestAmount, widthIn}
+use Rattle.survey.specs.rule.Table.{typeOf, spreadIn, ranged, fromOf, toOf, variableColumns, holds}
 use Rattle.printed.specs.Runs.{bareAmount}
 use Rattle.clean_laws.specs.Same.{Alike, nil, more, Both, neither, either, SameAmount, SameLine, SameRange, SameBlock, SameSpread}
 use Rattle.clean_laws.specs.Same.{SameContent, SameVariable}
@@ -44,8 +44,8 @@ point-bare l =
     let f = each-bare bare (λ a. refl) l in
     rw (e, f)
 
-widest-bare : (k : Kind) (l : List Amount) → widest k (map bareAmount l) ≡ widest k l
-unfolding widest bareAmount
+widest-bare : (k : Kind) (l : List Amount) → widestAmount k (map bareAmount l) ≡ widestAmount k l
+unfolding widestAmount bareAmount
 widest-bare k [] = refl
 widest-bare k (a ∷ l) = ap (λ (n : ℕ). max (need k (scaled a)) n) (widest-bare k l)
 
@@ -113,8 +113,8 @@ module _ (d p : List ℕ) where
     point-same : pointIn (amounts b′) ≡ pointIn (amounts b)
     point-same = told pointIn point-bare (amounts b) (amounts b′) (amounts-same s)
 
-    widest-same : (k : Kind) → widest k (amounts b′) ≡ widest k (amounts b)
-    widest-same k = told (widest k) (widest-bare k) (amounts b) (amounts b′) (amounts-same s)
+    widest-same : (k : Kind) → widestAmount k (amounts b′) ≡ widestAmount k (amounts b)
+    widest-same k = told (widestAmount k) (widest-bare k) (amounts b) (amounts b′) (amounts-same s)
 
   pub shape-same : {room : ℕ} {c c′ : Content} → SameContent d p room c c′ → SameShape room c c′
   unfolding kindIn widthIn
@@ -223,8 +223,8 @@ module _ (d p : List ℕ) where
     pub shape : SameShape d p (roomIn v) (v .content) (v′ .content)
     shape = shape-same d p (s .content)
 
-    pub columns-same : (before : ℕ) → untexted (columnsOf before v′) ≡ untexted (columnsOf before v)
-    unfolding untexted columnsOf
+    pub columns-same : (before : ℕ) → untexted (variableColumns before v′) ≡ untexted (variableColumns before v)
+    unfolding untexted variableColumns
     columns-same before =
         rw (room-again d p s, s .ident .value, s .finish .value, s .start .value, shape .kind, shape .width)
         (rw (shape .decimals, shape .point, shape .subfields, shape .subwidth)
@@ -237,6 +237,6 @@ module _ (d p : List ℕ) where
     pub holds-same : holds v′ ≡ holds v
     unfolding holds
     holds-same =
-        let e : rowOf (columnsOf 0 v′) ≡ rowOf (columnsOf 0 v) =
-        sym (row-untexted (columnsOf 0 v′)) ∙ ap rowOf (columns-same 0) ∙ row-untexted (columnsOf 0 v) in
+        let e : rowOf (variableColumns 0 v′) ≡ rowOf (variableColumns 0 v) =
+        sym (row-untexted (variableColumns 0 v′)) ∙ ap rowOf (columns-same 0) ∙ row-untexted (variableColumns 0 v) in
         rw (e, room-again d p s, shape .form)

@@ -17,7 +17,7 @@ use Rattle.survey.specs.rule.Width.{someOf, amounts, scaled, roomIn}
 use Rattle.survey.specs.rule.Table.{linesAll}
 use Rattle.reading.specs.rule.Least.{Charge, _when_, named}
 use Rattle.reading.specs.rule.Statement.{positionCharges, spreadCharges, sizeCharges}
-use Rattle.reading.specs.rule.Values.{formIs, large, unlike, rangeCharges, lineCharges, withLine, unlisted}
+use Rattle.reading.specs.rule.Values.{formIs, large, unlikeAmounts, rangeCharges, lineCharges, withLine, unlisted}
 use Rattle.reading.specs.rule.Variable.{identCharges}
 use Rattle.grammar.specs.Faults.{Clean, rangeFaults, lineFaults, blockFaults, spreadFaults, contentFaults, widthFaults, variableFaults}
 use Rattle.grammar.specs.Faults.{variablesFaults, faultsOf}
@@ -92,11 +92,11 @@ module _ (d p : List ℕ) where
   form-same q s = (ap (λ (x : Amount). formIs q x) (s .says), ap (λ (x : Amount). large q x) (s .says))
 
   unlike-some : {a a′ : Amount} {b b′ : Block} → SameAmount d p a a′ → SameBlock d p b b′
-      → someOf (unlike a′) (amounts b′) ≡ someOf (unlike a) (amounts b)
+      → someOf (unlikeAmounts a′) (amounts b′) ≡ someOf (unlikeAmounts a) (amounts b)
   unfolding bareAmount
   unlike-some {a} {a′} {b} {b′} s r =
-      ap (λ (x : Amount). someOf (unlike x) (amounts b′)) (s .says)
-      ∙ told (someOf (unlike a)) (some-bare (unlike a) (λ x. refl)) (amounts b) (amounts b′) (amounts-same d p r)
+      ap (λ (x : Amount). someOf (unlikeAmounts x) (amounts b′)) (s .says)
+      ∙ told (someOf (unlikeAmounts a)) (some-bare (unlikeAmounts a) (λ x. refl)) (amounts b) (amounts b′) (amounts-same d p r)
 
   repeats-some : {l l′ : List Line} {a a′ : Amount} → SameAmount d p a a′ → Alike (SameLine d p) l l′
       → someOf (λ x. eqZ (scaled (x .value)) (scaled a′)) l′ ≡ someOf (λ x. eqZ (scaled (x .value)) (scaled a)) l

@@ -10,9 +10,9 @@ use Rattle.scan.specs.rule.Text.{text, placeOf}
 use Rattle.scan.specs.rule.Number.{isDigit, isValue}
 use Rattle.token_laws.specs.Opening.{Spaces, byte, space}
 use Rattle.statements.specs.rule.Words.{SSS, VERSION, ONE-ONE, DATE, TIME, ORIGIN, USER, SURVEY, TITLE, RECORD}
-use Rattle.survey.specs.rule.Survey.{Text, Heading}
+use Rattle.survey.specs.rule.Survey.{KeptText, Heading}
 use Rattle.survey.specs.rule.Width.{someOf}
-use Rattle.reading.specs.rule.Whole.{Entry, entry, given, textOf, heading}
+use Rattle.reading.specs.rule.Whole.{HeadingEntry, entry, given, enteredText, heading}
 use Rattle.clean_text.specs.rule.Clean.{perhaps, standardLine, headLines}
 use Rattle.grammar.specs.Token.{Here, Phrase, Letter, letter, Statement}
 use Rattle.grammar.specs.Grammar.{Opening, opening, Item, Items, Title, standard-names}
@@ -63,109 +63,109 @@ module _ (p : List ℕ) where
       ends (opening x y z w r) l
 
 -- ---- the statements given, as a list: the later first
-abbrev item : ℕ → Option Text → List Entry → List Entry
+abbrev item : ℕ → Option KeptText → List HeadingEntry → List HeadingEntry
 item k none l = l
 item k (some t) l = entry k (some t) ∷ l
 
-abbrev named : Bool → List Entry → List Entry
+abbrev named : Bool → List HeadingEntry → List HeadingEntry
 named true l = entry 4 none ∷ l
 named false l = l
 
-item-given : (k j : ℕ) (o : Option Text) (l : List Entry) → eqb k j ≡ false → given k (item j o l) ≡ given k l
+item-given : (k j : ℕ) (o : Option KeptText) (l : List HeadingEntry) → eqb k j ≡ false → given k (item j o l) ≡ given k l
 unfolding given someOf
 item-given k j none l e = refl
 item-given k j (some t) l e = rw e
 
-item-other : (k j : ℕ) (o : Option Text) (l : List Entry) → eqb k j ≡ false → textOf k (item j o l) ≡ textOf k l
-unfolding textOf
+item-other : (k j : ℕ) (o : Option KeptText) (l : List HeadingEntry) → eqb k j ≡ false → enteredText k (item j o l) ≡ enteredText k l
+unfolding enteredText
 item-other k j none l e = refl
 item-other k j (some t) l e = rw e
 
-item-this : (k : ℕ) (o : Option Text) (l : List Entry) → eqb k k ≡ true → textOf k l ≡ none → textOf k (item k o l) ≡ o
-unfolding textOf
+item-this : (k : ℕ) (o : Option KeptText) (l : List HeadingEntry) → eqb k k ≡ true → enteredText k l ≡ none → enteredText k (item k o l) ≡ o
+unfolding enteredText
 item-this k none l e h = h
 item-this k (some t) l e h = rw e
 
-named-other : (k : ℕ) (q : Bool) (l : List Entry) → eqb k 4 ≡ false → textOf k (named q l) ≡ textOf k l
-unfolding textOf
+named-other : (k : ℕ) (q : Bool) (l : List HeadingEntry) → eqb k 4 ≡ false → enteredText k (named q l) ≡ enteredText k l
+unfolding enteredText
 named-other k true l e = rw e
 named-other k false l e = refl
 
-named-given : (q : Bool) (l : List Entry) → given 4 l ≡ false → given 4 (named q l) ≡ q
+named-given : (q : Bool) (l : List HeadingEntry) → given 4 l ≡ false → given 4 (named q l) ≡ q
 unfolding given someOf
 named-given true l h = refl
 named-given false l h = h
 
 -- none of the statements from k on is given yet
-abbrev upTo3 : Option Text → Option Text → Option Text → List Entry
+abbrev upTo3 : Option KeptText → Option KeptText → Option KeptText → List HeadingEntry
 upTo3 a b c = item 2 c (item 1 b (item 0 a []))
 
-module _ (a b c e : Option Text) (q : Bool) where
-  abbrev allItems : List Entry
+module _ (a b c e : Option KeptText) (q : Bool) where
+  abbrev allItems : List HeadingEntry
   allItems = named q (item 3 e (upTo3 a b c))
 
-  all-date : textOf 0 allItems ≡ a
-  unfolding textOf
+  all-date : enteredText 0 allItems ≡ a
+  unfolding enteredText
   all-date =
       named-other 0 q (item 3 e (upTo3 a b c)) refl ∙ item-other 0 3 e (upTo3 a b c) refl
       ∙ (item-other 0 2 c (item 1 b (item 0 a [])) refl ∙ item-other 0 1 b (item 0 a []) refl ∙ item-this 0 a [] refl refl)
 
-  all-time : textOf 1 allItems ≡ b
-  unfolding textOf
+  all-time : enteredText 1 allItems ≡ b
+  unfolding enteredText
   all-time =
       named-other 1 q (item 3 e (upTo3 a b c)) refl ∙ item-other 1 3 e (upTo3 a b c) refl
       ∙ (item-other 1 2 c (item 1 b (item 0 a [])) refl ∙ item-this 1 b (item 0 a []) refl (item-other 1 0 a [] refl))
 
-  all-origin : textOf 2 allItems ≡ c
-  unfolding textOf
+  all-origin : enteredText 2 allItems ≡ c
+  unfolding enteredText
   all-origin =
       named-other 2 q (item 3 e (upTo3 a b c)) refl ∙ item-other 2 3 e (upTo3 a b c) refl
       ∙ item-this 2 c (item 1 b (item 0 a [])) refl (item-other 2 1 b (item 0 a []) refl ∙ item-other 2 0 a [] refl)
 
-  all-user : textOf 3 allItems ≡ e
-  unfolding textOf
+  all-user : enteredText 3 allItems ≡ e
+  unfolding enteredText
   all-user =
       named-other 3 q (item 3 e (upTo3 a b c)) refl
       ∙ item-this 3 e (upTo3 a b c) refl
       (item-other 3 2 c (item 1 b (item 0 a [])) refl ∙ item-other 3 1 b (item 0 a []) refl ∙ item-other 3 0 a [] refl)
 
 -- none of them is given before its turn
-time-new : (a : Option Text) → given 1 (item 0 a []) ≡ false
+time-new : (a : Option KeptText) → given 1 (item 0 a []) ≡ false
 unfolding given someOf
 time-new a = item-given 1 0 a [] refl
 
-origin-new : (a b : Option Text) → given 2 (item 1 b (item 0 a [])) ≡ false
+origin-new : (a b : Option KeptText) → given 2 (item 1 b (item 0 a [])) ≡ false
 unfolding given someOf
 origin-new a b = item-given 2 1 b (item 0 a []) refl ∙ item-given 2 0 a [] refl
 
-user-new : (a b c : Option Text) → given 3 (upTo3 a b c) ≡ false
+user-new : (a b c : Option KeptText) → given 3 (upTo3 a b c) ≡ false
 unfolding given someOf
 user-new a b c =
     item-given 3 2 c (item 1 b (item 0 a [])) refl ∙ item-given 3 1 b (item 0 a []) refl ∙ item-given 3 0 a [] refl
 
-names-new : (a b c e : Option Text) → given 4 (item 3 e (upTo3 a b c)) ≡ false
+names-new : (a b c e : Option KeptText) → given 4 (item 3 e (upTo3 a b c)) ≡ false
 unfolding given someOf
 names-new a b c e =
     item-given 4 3 e (upTo3 a b c) refl ∙ item-given 4 2 c (item 1 b (item 0 a [])) refl
     ∙ (item-given 4 1 b (item 0 a []) refl ∙ item-given 4 0 a [] refl)
 
-all-names : (a b c e : Option Text) (q : Bool) → given 4 (allItems a b c e q) ≡ q
+all-names : (a b c e : Option KeptText) (q : Bool) → given 4 (allItems a b c e q) ≡ q
 all-names a b c e q = named-given q (item 3 e (upTo3 a b c)) (names-new a b c e)
 
 module _ (d p : List ℕ) where
   -- ---- a statement that may be absent, before the others
-  data ItemThere (k n : ℕ) (l : List Entry) (o : Option Text) (u : List ℕ) : Type 0 where
-    item-there : {o′ : Option Text} {m : ℕ} → ((j : List Entry) (i : ℕ) → Items p (item k o′ l) m j i → Items p l n j i)
+  data ItemThere (k n : ℕ) (l : List HeadingEntry) (o : Option KeptText) (u : List ℕ) : Type 0 where
+    item-there : {o′ : Option KeptText} {m : ℕ} → ((j : List HeadingEntry) (i : ℕ) → Items p (item k o′ l) m j i → Items p l n j i)
         → Both (SameText d p) o o′ → Left p m u → ItemThere k n l o u
 
-  itemed : {k n : ℕ} {l : List Entry} {o : Option Text} {u : List ℕ} {C : Type 0} → ItemThere k n l o u
-      → ((o′ : Option Text) (m : ℕ) → ((j : List Entry) (i : ℕ) → Items p (item k o′ l) m j i → Items p l n j i)
+  itemed : {k n : ℕ} {l : List HeadingEntry} {o : Option KeptText} {u : List ℕ} {C : Type 0} → ItemThere k n l o u
+      → ((o′ : Option KeptText) (m : ℕ) → ((j : List HeadingEntry) (i : ℕ) → Items p (item k o′ l) m j i → Items p l n j i)
       → Both (SameText d p) o o′ → Left p m u → C)
       → C
   itemed (item-there {o′ = o′} {m = m} f r l) g = g o′ m f r l
 
-  item-printed : (k : ℕ) {b n : ℕ} {w u : List ℕ} {o : Option Text} {l : List Entry} → solid b ≡ true
-      → ((n m : ℕ) (t : Text) → Phrase p (b ∷ w) n t m → Item p n (entry k (some t)) m) → given k l ≡ false → TextsSaid d o
+  item-printed : (k : ℕ) {b n : ℕ} {w u : List ℕ} {o : Option KeptText} {l : List HeadingEntry} → solid b ≡ true
+      → ((n m : ℕ) (t : KeptText) → Phrase p (b ∷ w) n t m → Item p n (entry k (some t)) m) → given k l ≡ false → TextsSaid d o
       → Left p n (inksThen (perhaps d (b ∷ w) o) u) → ItemThere k n l o u
   unfolding inksThen inkThen
   item-printed k h c g silent x = item-there (λ j i y. y) neither x
@@ -174,14 +174,15 @@ module _ (d p : List ℕ) where
       item-there (λ j i y. Items.more (c n m a z) g y) (either r) x
 
   -- STANDARD NAMES
-  data NamesThere (n : ℕ) (l : List Entry) (q : Bool) (u : List ℕ) : Type 0 where
-    names-there : {m : ℕ} → ((j : List Entry) (i : ℕ) → Items p (named q l) m j i → Items p l n j i) → Left p m u → NamesThere n l q u
+  data NamesThere (n : ℕ) (l : List HeadingEntry) (q : Bool) (u : List ℕ) : Type 0 where
+    names-there : {m : ℕ} → ((j : List HeadingEntry) (i : ℕ) → Items p (named q l) m j i → Items p l n j i) → Left p m u
+        → NamesThere n l q u
 
-  namely : {n : ℕ} {l : List Entry} {q : Bool} {u : List ℕ} {C : Type 0} → NamesThere n l q u
-      → ((m : ℕ) → ((j : List Entry) (i : ℕ) → Items p (named q l) m j i → Items p l n j i) → Left p m u → C) → C
+  namely : {n : ℕ} {l : List HeadingEntry} {q : Bool} {u : List ℕ} {C : Type 0} → NamesThere n l q u
+      → ((m : ℕ) → ((j : List HeadingEntry) (i : ℕ) → Items p (named q l) m j i → Items p l n j i) → Left p m u → C) → C
   namely (names-there {m = m} f l) g = g m f l
 
-  names-printed : (q : Bool) {n : ℕ} {l : List Entry} {u : List ℕ} → given 4 l ≡ false → Left p n (inksThen (standardLine d q) u)
+  names-printed : (q : Bool) {n : ℕ} {l : List HeadingEntry} {u : List ℕ} → given 4 l ≡ false → Left p n (inksThen (standardLine d q) u)
       → NamesThere n l q u
   unfolding inksThen inkThen solid
   names-printed true g x =
@@ -191,7 +192,7 @@ module _ (d p : List ℕ) where
   names-printed false g x = names-there (λ j i y. y) x
 
   -- TITLE
-  title-printed : {n : ℕ} {u : List ℕ} {o : Option Text} → TextsSaid d o → Left p n (inksThen (perhaps d TITLE o) u)
+  title-printed : {n : ℕ} {u : List ℕ} {o : Option KeptText} → TextsSaid d o → Left p n (inksThen (perhaps d TITLE o) u)
       → Yields p (Title p n) (Both (SameText d p) o) u
   unfolding inksThen inkThen solid
   title-printed silent x = yields grammar.untitled neither x
@@ -211,7 +212,7 @@ module _ (d p : List ℕ) where
   head-ink h u = simp inks-append
 
   -- what begins behind the version goes on with no value
-  item-begins : (b : ℕ) (w : List ℕ) (o : Option Text) (u : List ℕ) → stops isValue (b ∷ []) ≡ true → stops isValue u ≡ true
+  item-begins : (b : ℕ) (w : List ℕ) (o : Option KeptText) (u : List ℕ) → stops isValue (b ∷ []) ≡ true → stops isValue u ≡ true
       → stops isValue (inksThen (perhaps d (b ∷ w) o) u) ≡ true
   unfolding inksThen inkThen stops
   item-begins b w none u e f = f
@@ -231,7 +232,8 @@ module _ (d p : List ℕ) where
       (item-begins 85 (83 ∷ 69 ∷ 82 ∷ []) (h .user) _ refl (names-begin (h .standard) _ refl))))
 
   pub data FrontThere (h : Heading) (u : List ℕ) : Type 0 where
-    front-there : {a b c e f g : ℕ} {l : List Entry} {t : Option Text} {x : ℕ} → Opening p a → Items p [] a l b → Statement p SURVEY b c
+    front-there : {a b c e f g : ℕ} {l : List HeadingEntry} {t : Option KeptText} {x : ℕ} → Opening p a → Items p [] a l b
+        → Statement p SURVEY b c
         → Title p c t e → Statement p RECORD e f → Letter p f x g → SameHeading d p h (heading l t x) → Left p g u → FrontThere h u
 
   pub front-printed : {h : Heading} {u : List ℕ} → HeadingSaid d h → Left p 0 (inksThen (headLines d h) u) → FrontThere h u

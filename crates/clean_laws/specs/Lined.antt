@@ -10,7 +10,7 @@ use lib.ListN.{length}
 use borrow.Author.Tests.{ltb-false}
 use Rattle.ascii.specs.rule.Class.{classOf}
 use Rattle.survey.specs.rule.Survey.{Survey}
-use Rattle.clean_text.specs.rule.Clean.{Token, lineOf, textOf, cleanLines, cleanOf}
+use Rattle.clean_text.specs.rule.Clean.{Token, lineOf, cleanText, cleanLines, cleanOf}
 use Rattle.printed.specs.Left.{no, both, plain}
 use Rattle.printed.specs.Lines.{All, nil, more, all-append, Clear}
 use Rattle.clean_laws.specs.rule.Lined.{Shown, over, byte, Lined, none, line}
@@ -64,12 +64,12 @@ line-of (words {w = w} {v = v} {ws = ws} h r) = by (bytes-of (v ∷ ws) r) where
   by (bytes {s = s} k e) =
       some-byte w s (all-append (clear-from w h) (more (omega arith) k)) (rw e (sym (append-assoc w (32 ∷ s) (13 ∷ 10 ∷ []))))
 
-lined-of : (ls : List (List Token)) → All ClearLine ls → Lined (length ls) (textOf ls)
-unfolding textOf
+lined-of : (ls : List (List Token)) → All ClearLine ls → Lined (length ls) (cleanText ls)
+unfolding cleanText
 lined-of [] nil = none
 lined-of (l ∷ ls) (more h r) = by (line-of h) (lined-of ls r) where
-  by : OneLine l → Lined (length ls) (textOf ls) → Lined (suc (length ls)) (lineOf l ++ textOf ls)
-  by (one-line {b = b} {s = s} k e) t = rw (e, append-assoc (b ∷ s) (13 ∷ 10 ∷ []) (textOf ls)) (line (all-shown k) t)
+  by : OneLine l → Lined (length ls) (cleanText ls) → Lined (suc (length ls)) (lineOf l ++ cleanText ls)
+  by (one-line {b = b} {s = s} k e) t = rw (e, append-assoc (b ∷ s) (13 ∷ 10 ∷ []) (cleanText ls)) (line (all-shown k) t)
 
 -- THE LINES: as many as statements
 pub clean-lined : (d : List ℕ) {s : Survey} → SurveySaid d s → Lined (length (cleanLines d s)) (cleanOf d s)

@@ -10,11 +10,11 @@ use lib.IntN.{ℤ}
 use lib.ListN.{length}
 use Rattle.cells.specs.rule.Cell.{cell}
 use Rattle.signs.specs.declared.Sign.{Sign}
-use Rattle.survey.specs.rule.Survey.{Text, Line, Variable, Heading, Survey}
+use Rattle.survey.specs.rule.Survey.{KeptText, Line, Variable, Heading, Survey}
 use Rattle.survey.specs.rule.Table.{linesOf, tableOf}
 use Rattle.reading.specs.rule.Result.{Is}
 use Rattle.reading.specs.rule.Whole.{surveyOf}
-use Rattle.definition.specs.rule.Definition.{Outcome, Built, Refusal, outcomeOf}
+use Rattle.definition.specs.rule.Definition.{SssOutcome, Built, Refusal, sssOutcome}
 use Rattle.grammar.specs.Grammar.{Definition}
 use Rattle.grammar.specs.Faults.{Clean, faultsOf}
 use Rattle.grammar.specs.Refusal.{sound}
@@ -29,7 +29,7 @@ use Rattle.clean_laws.specs.Said.{survey-says}
 use Rattle.clean_laws.specs.Same.{Alike, nil, more, Both, neither, either, SameLine, SameVariable, SameHeading, SameSurvey}
 use Rattle.clean_laws.specs.Derived.{clean-derived}
 use Rattle.clean_laws.specs.rule.Texts.{textAt}
-use Rattle.clean_laws.specs.rule.Reads.{signsOf, perhapsSigns, headTexts, Reads}
+use Rattle.clean_laws.specs.rule.Reads.{textSigns, perhapsSigns, headTexts, Reads}
 use Rattle.clean_laws.specs.rule.Lined.{Lined}
 use Rattle.clean_laws.specs.Lined.{clean-lined}
 use Rattle.clean_laws.specs.Again.{clean-again}
@@ -41,7 +41,7 @@ use Rattle.clean_laws.specs.Faults.{survey-clean, survey-short}
 
 -- ---- a variable's name, label and value texts, decoded
 unfoldable pub variableTexts : List ℕ → Variable → List (List Sign)
-variableTexts d v = signsOf d (v .name) ∷ signsOf d (v .label) ∷ map (λ l. signsOf d (l .text)) (linesOf v)
+variableTexts d v = textSigns d (v .name) ∷ textSigns d (v .label) ∷ map (λ l. textSigns d (l .text)) (linesOf v)
 
 -- THE PROMISE: what the clean text of d, of the survey s, says when it is read
 pub record CleanReads (d : List ℕ) (s : Survey) : Type 0 where
@@ -61,7 +61,7 @@ pub record CleanReads (d : List ℕ) (s : Survey) : Type 0 where
   pub again : cleanOf (cleanOf d s) survey ≡ cleanOf d s
 
 module _ (d p : List ℕ) where
-  perhaps-same : {o o′ : Option Text} → Both (SameText d p) o o′ → perhapsSigns p o′ ≡ perhapsSigns d o
+  perhaps-same : {o o′ : Option KeptText} → Both (SameText d p) o o′ → perhapsSigns p o′ ≡ perhapsSigns d o
   perhaps-same neither = refl
   perhaps-same (either s) = rw (s .decoded)
 
@@ -70,7 +70,7 @@ module _ (d p : List ℕ) where
   head-same s =
       rw (perhaps-same (s .date), perhaps-same (s .time), perhaps-same (s .origin), perhaps-same (s .user), perhaps-same (s .title))
 
-  lines-same : {l l′ : List Line} → Alike (SameLine d p) l l′ → map (λ l. signsOf p (l .text)) l′ ≡ map (λ l. signsOf d (l .text)) l
+  lines-same : {l l′ : List Line} → Alike (SameLine d p) l l′ → map (λ l. textSigns p (l .text)) l′ ≡ map (λ l. textSigns d (l .text)) l
   lines-same nil = refl
   lines-same (more s r) = rw (s .text .decoded, lines-same r)
 
@@ -124,9 +124,9 @@ data Derived (d : List ℕ) (l : List Variable) : Type 0 where
   derived : {s : Survey} {m : ℕ} → length d ≤ 1048576 → Definition d s m → Clean (faultsOf s) → NamesStand d s → s .variables ≡ l
       → Derived d l
 
-built-derived : (d : List ℕ) (n : ℕ) (l : List Variable) → outcomeOf d n ≡ Built l → Derived d l
-built-derived d n l e = by (outcome-exactly d n (outcomeOf d n) .0 refl) e where
-  by : {o : Outcome} → Settles d n o → o ≡ Built l → Derived d l
+built-derived : (d : List ℕ) (n : ℕ) (l : List Variable) → sssOutcome d n ≡ Built l → Derived d l
+built-derived d n l e = by (outcome-exactly d n (sssOutcome d n) .0 refl) e where
+  by : {o : SssOutcome} → Settles d n o → o ≡ Built l → Derived d l
   by (outcome.too-long h) e = never cc
   by (outcome.stopped h z) e = never cc
   by (outcome.misnamed h x q w) e = never cc
@@ -137,7 +137,7 @@ built-derived d n l e = by (outcome-exactly d n (outcomeOf d n) .0 refl) e where
 pub data ReadAs (d : List ℕ) (l : List Variable) : Type 0 where
   read-as : {s : Survey} → Reads d s → s .variables ≡ l → ReadAs d l
 
-pub built-reads : (d : List ℕ) (n : ℕ) (l : List Variable) → outcomeOf d n ≡ Built l → ReadAs d l
+pub built-reads : (d : List ℕ) (n : ℕ) (l : List Variable) → sssOutcome d n ≡ Built l → ReadAs d l
 built-reads d n l e = by (built-derived d n l e) where
   by : Derived d l → ReadAs d l
   by (derived h x c w q) = read-as (reads-is d h x c w) q

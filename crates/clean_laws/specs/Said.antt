@@ -6,10 +6,10 @@ use mathlib.Core.Option.{Option, none, some, Option·getD}
 use Prim.Native.Nat.{ℕ, _/_, _^_, _<_}
 use lib.Dec.{eqb}
 use Rattle.ascii.specs.rule.Class.{classOf}
-use Rattle.survey.specs.rule.Survey.{Figure, Text, Range, Line, Block, Spread, Content, single, multiple, quantity, character, logical}
+use Rattle.survey.specs.rule.Survey.{Figure, KeptText, Range, Line, Block, Spread, Content, single, multiple, quantity, character, logical}
 use Rattle.survey.specs.rule.Survey.{Variable, Heading, Survey}
 use Rattle.survey.specs.rule.Width.{roomIn}
-use Rattle.reading.specs.rule.Whole.{Entry, given, textOf, heading}
+use Rattle.reading.specs.rule.Whole.{HeadingEntry, given, enteredText, heading}
 use Rattle.grammar.specs.Token as token
 use Rattle.grammar.specs.Grammar as grammar
 use Rattle.printed.specs.Runs.{FigureSaid, number-said, AmountSaid, value-said}
@@ -57,9 +57,9 @@ module _ (d : List ℕ) where
     pub content : ContentSaid (roomIn v) (v .content)
 
   -- ---- the heading
-  pub data TextsSaid : Option Text → Type 0 where
+  pub data TextsSaid : Option KeptText → Type 0 where
     silent : TextsSaid none
-    says : {t : Text} → TextSaid d t → TextsSaid (some t)
+    says : {t : KeptText} → TextSaid d t → TextsSaid (some t)
 
   pub record HeadingSaid (h : Heading) : Type 0 where
     pub date : TextsSaid (h .date)
@@ -115,7 +115,7 @@ module _ (d : List ℕ) where
   finish-said (grammar.position s a (token.given k b)) = (number-said d a, number-said d b)
   finish-said (grammar.position s a (token.absent g z)) = (number-said d a, number-said d a)
 
-  phrase-said : {w : List ℕ} {n m : ℕ} {t : Text} → token.Phrase d w n t m → TextSaid d t
+  phrase-said : {w : List ℕ} {n m : ℕ} {t : KeptText} → token.Phrase d w n t m → TextSaid d t
   phrase-said (token.phrase s x) = string-said d x
 
   pub variable-said : {n m : ℕ} {v : Variable} → Short (roomIn v) → grammar.Variable d n v m → VariableSaid v
@@ -129,26 +129,26 @@ module _ (d : List ℕ) where
   }
 
   -- ---- the heading: of the statements given, each has its text said
-  entries-said : {l k : List Entry} {n m : ℕ} → All (λ (e : Entry). TextsSaid (e .text)) l → grammar.Items d l n k m
-      → All (λ (e : Entry). TextsSaid (e .text)) k
+  entries-said : {l k : List HeadingEntry} {n m : ℕ} → All (λ (e : HeadingEntry). TextsSaid (e .text)) l → grammar.Items d l n k m
+      → All (λ (e : HeadingEntry). TextsSaid (e .text)) k
   entries-said h grammar.Items.no-more = h
   entries-said h (grammar.Items.more i g r) = entries-said (more (by i) h) r where
-    by : {n m : ℕ} {e : Entry} → grammar.Item d n e m → TextsSaid (e .text)
+    by : {n m : ℕ} {e : HeadingEntry} → grammar.Item d n e m → TextsSaid (e .text)
     by (grammar.date x) = says (phrase-said x)
     by (grammar.time x) = says (phrase-said x)
     by (grammar.origin x) = says (phrase-said x)
     by (grammar.user x) = says (phrase-said x)
     by (grammar.standard-names s k) = silent
 
-  entry-said : (k : ℕ) {l : List Entry} → All (λ (e : Entry). TextsSaid (e .text)) l → TextsSaid (textOf k l)
-  unfolding textOf
+  entry-said : (k : ℕ) {l : List HeadingEntry} → All (λ (e : HeadingEntry). TextsSaid (e .text)) l → TextsSaid (enteredText k l)
+  unfolding enteredText
   entry-said k nil = silent
   entry-said k (more {a = e} {l = l} x r) = by (eqb k (e .item)) (entry-said k r) where
-    by : (q : Bool) → TextsSaid (textOf k l) → TextsSaid (cond q (e .text) (textOf k l))
+    by : (q : Bool) → TextsSaid (enteredText k l) → TextsSaid (cond q (e .text) (enteredText k l))
     by true y = x
     by false y = y
 
-  title-said : {n m : ℕ} {t : Option Text} → grammar.Title d n t m → TextsSaid t
+  title-said : {n m : ℕ} {t : Option KeptText} → grammar.Title d n t m → TextsSaid t
   title-said (grammar.title x) = says (phrase-said x)
   title-said grammar.untitled = silent
 

@@ -7,7 +7,7 @@ use Prim.Native.Nat.{ℕ, _/_}
 use Rattle.survey.specs.rule.Survey.{Figure, Amount, Range, Line, Block, Spread, Content, single, multiple, quantity, character, logical}
 use Rattle.survey.specs.rule.Survey.{Variable, Heading, Survey}
 use Rattle.survey.specs.rule.Width.{roomIn}
-use Rattle.clean_text.specs.rule.Clean.{figure, amount, plainDigits}
+use Rattle.clean_text.specs.rule.Clean.{figureToken, amountToken, plainDigits}
 use Rattle.printed.specs.Runs.{bareAmount}
 use Rattle.printed.specs.Strings.{SameText}
 
@@ -22,12 +22,12 @@ pub data Both {A : Type 0} (R : A → A → Type 0) : Option A → Option A → 
 
 module _ (d p : List ℕ) where
   pub record SameFigure (x x′ : Figure) : Type 0 where
-    pub span : figure p x′ ≡ figure d x
+    pub span : figureToken p x′ ≡ figureToken d x
     pub digits : x′ .digits ≡ x .digits
     pub value : x′ .value ≡ x .value
 
   pub record SameAmount (a a′ : Amount) : Type 0 where
-    pub span : amount p a′ ≡ amount d a
+    pub span : amountToken p a′ ≡ amountToken d a
     pub says : bareAmount a′ ≡ bareAmount a
 
   pub record SameLine (l l′ : Line) : Type 0 where
@@ -48,7 +48,7 @@ module _ (d p : List ℕ) where
     undivided : SameSpread room none none
     stated : {x w x′ w′ : Figure} → SameFigure x x′ → SameFigure w w′
         → SameSpread room (some (record { count = x; width = some w })) (some (record { count = x′; width = some w′ }))
-    even : {x x′ w′ : Figure} → SameFigure x x′ → figure p w′ ≡ plainDigits (room / x .value) → w′ .value ≡ room / x .value
+    even : {x x′ w′ : Figure} → SameFigure x x′ → figureToken p w′ ≡ plainDigits (room / x .value) → w′ .value ≡ room / x .value
         → SameSpread room (some (record { count = x; width = none })) (some (record { count = x′; width = some w′ }))
 
   pub data SameContent (room : ℕ) : Content → Content → Type 0 where

@@ -16,8 +16,8 @@ use Rattle.scan.specs.rule.Number.{isDigit, isValue, decimalOf}
 use Rattle.statements.specs.rule.Words.{POSITION, TO, SIZE}
 use Rattle.fields.specs.rule.Number.{padded, decimalFrom, digitsOnly}
 use Rattle.fieldlaws.specs.NumberLaws.{padded-digits, decimal-padded, length-padded}
-use Rattle.survey.specs.rule.Survey.{Figure, Amount, Text, Spread}
-use Rattle.clean_text.specs.rule.Clean.{figure, amount, quoted, plainDigits, spreadLine}
+use Rattle.survey.specs.rule.Survey.{Figure, Amount, KeptText, Spread}
+use Rattle.clean_text.specs.rule.Clean.{figureToken, amountToken, quotedToken, plainDigits, spreadLine}
 use Rattle.grammar.specs.Token.{Number, Value, Statement, Phrase, phrase, given}
 use Rattle.grammar.specs.Grammar.{Position, position, spread}
 use Rattle.grammar.specs.Grammar as grammar
@@ -64,7 +64,7 @@ plain-digits n h = record {
 
 module _ (d p : List ℕ) where
   -- ---- a number, a value, a word and a text as d has them
-  pub figure-there : {x : Figure} {n : ℕ} {u : List ℕ} → FigureSaid d x → stops isDigit u ≡ true → Left p n (32 ∷ figure d x ++ u)
+  pub figure-there : {x : Figure} {n : ℕ} {u : List ℕ} → FigureSaid d x → stops isDigit u ≡ true → Left p n (32 ∷ figureToken d x ++ u)
       → Yields p (Number p n) (SameFigure d p x) u
   figure-there {n = n} {u = u} (figure-said i h) k l =
       taking p (number-there p h k (rw (i .span) at l)) λ y m z r l.
@@ -74,13 +74,14 @@ module _ (d p : List ℕ) where
         value = r .value ∙ sym (i .value);
       }) l
 
-  pub amount-there : {a : Amount} {n : ℕ} {u : List ℕ} → AmountSaid d a → stops isValue u ≡ true → Left p n (amount d a ++ u)
+  pub amount-there : {a : Amount} {n : ℕ} {u : List ℕ} → AmountSaid d a → stops isValue u ≡ true → Left p n (amountToken d a ++ u)
       → Yields p (Value p n) (SameAmount d p a) u
   amount-there (amount-said i h) k l =
       taking p (value-there p h k (rw (i .span) at l)) λ y m z r l.
       yields z (record { span = r .span ∙ sym (i .span); says = r .says ∙ sym (i .says) }) l
 
-  pub phrase-there : {b n : ℕ} {w u : List ℕ} {t : Text} → solid b ≡ true → TextSaid d t → Left p n ((b ∷ w) ++ (32 ∷ quoted d t ++ u))
+  pub phrase-there : {b n : ℕ} {w u : List ℕ} {t : KeptText} → solid b ≡ true → TextSaid d t
+      → Left p n ((b ∷ w) ++ (32 ∷ quotedToken d t ++ u))
       → Yields p (Phrase p (b ∷ w) n) (SameText d p t) u
   phrase-there h x l =
       after p (statement-there p h l) λ k s l.
@@ -93,7 +94,7 @@ module _ (d p : List ℕ) where
         → PositionThere n x y u
 
   pub position-printed : {x y : Figure} {n : ℕ} {u : List ℕ} → FigureSaid d x → FigureSaid d y → stops isDigit u ≡ true
-      → Left p n (POSITION ++ (32 ∷ figure d x ++ (32 ∷ TO ++ (32 ∷ figure d y ++ u)))) → PositionThere n x y u
+      → Left p n (POSITION ++ (32 ∷ figureToken d x ++ (32 ∷ TO ++ (32 ∷ figureToken d y ++ u)))) → PositionThere n x y u
   unfolding solid stops isDigit classOf
   position-printed x y h l =
       after p (statement-there p refl l) λ j s l.
@@ -108,7 +109,7 @@ module _ (d p : List ℕ) where
 
   -- ---- SPREAD n OF w
   width-there : (n k : ℕ) (s u : List ℕ) → PlainDigits k s → stops isDigit u ≡ true → Left p n (32 ∷ s ++ u)
-      → Yields p (Number p n) (λ (w : Figure). (figure p w ≡ s) × (w .value ≡ k)) u
+      → Yields p (Number p n) (λ (w : Figure). (figureToken p w ≡ s) × (w .value ≡ k)) u
   width-there n k [] u x h l = let y = x .some in absurd (omega arith)
   width-there n k (b ∷ s) u x h l =
       taking p (number-there p (x .digits) h l) λ w m z r l.
@@ -135,7 +136,8 @@ module _ (d p : List ℕ) where
   pub data SizeThere (n : ℕ) (x : Figure) (u : List ℕ) : Type 0 where
     size-there : {k m : ℕ} {a : Figure} → Statement p SIZE n k → Number p k a m → SameFigure d p x a → Left p m u → SizeThere n x u
 
-  pub size-printed : {x : Figure} {n : ℕ} {u : List ℕ} → FigureSaid d x → stops isDigit u ≡ true → Left p n (SIZE ++ (32 ∷ figure d x ++ u))
+  pub size-printed : {x : Figure} {n : ℕ} {u : List ℕ} → FigureSaid d x → stops isDigit u ≡ true
+      → Left p n (SIZE ++ (32 ∷ figureToken d x ++ u))
       → SizeThere n x u
   unfolding solid
   size-printed x h l =

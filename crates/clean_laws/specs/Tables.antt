@@ -12,7 +12,8 @@ use Rattle.layout.specs.declared.Columns.{Columns}
 use Rattle.layout.specs.declared.Header.{Header}
 use Rattle.rows.specs.rule.Cells.{rowCells, headerCells}
 use Rattle.survey.specs.rule.Survey.{Line, Variable}
-use Rattle.survey.specs.rule.Table.{columnsOf, linesOf, linesAll, highestIn, headerFor, rowsFrom, lineCells, cellsOf, allLines, tableOf}
+use Rattle.survey.specs.rule.Table.{variableColumns, linesOf, linesAll, highestIn, headerFor, rowsFrom, lineCells, cellsOf, allLines}
+use Rattle.survey.specs.rule.Table.{tableOf}
 use Rattle.definition.specs.rule.Definition.{namesOf}
 use Rattle.clean_laws.specs.Masked.{maskedLines, maskedRow, maskedRows, masked}
 use Rattle.clean_laws.specs.Same.{Alike, nil, more, SameLine, SameVariable}
@@ -40,9 +41,9 @@ module _ (d p : List ℕ) where
   row-masked c = refl
 
   row-same : {v v′ : Variable} (before : ℕ) → SameVariable d p v v′
-      → maskedRow (rowCells (columnsOf before v′)) ≡ maskedRow (rowCells (columnsOf before v))
+      → maskedRow (rowCells (variableColumns before v′)) ≡ maskedRow (rowCells (variableColumns before v))
   row-same {v} {v′} before s =
-      row-masked (columnsOf before v′) ∙ ap rowCells (columns-same d p s before) ∙ sym (row-masked (columnsOf before v))
+      row-masked (variableColumns before v′) ∙ ap rowCells (columns-same d p s before) ∙ sym (row-masked (variableColumns before v))
 
   rows-step : (c : Columns) (n : ℕ) (t : List ℤ) → maskedRows (suc n) (rowCells c ++ t) ≡ maskedRow (rowCells c) ++ maskedRows n t
   unfolding maskedRows rowCells
@@ -55,11 +56,11 @@ module _ (d p : List ℕ) where
   rows-same t t′ before (more {a = v} {b = v′} {l = l} {m = l′} s r) e =
       let k = length-same d p (lines-of s) in
       let f = rows-same t t′ (before + length (linesOf v)) r e in
-      let g = append-assoc (rowCells (columnsOf before v)) (rowsFrom (before + length (linesOf v)) l) t in
-      let g′ = append-assoc (rowCells (columnsOf before v′)) (rowsFrom (before + length (linesOf v)) l′) t′ in
+      let g = append-assoc (rowCells (variableColumns before v)) (rowsFrom (before + length (linesOf v)) l) t in
+      let g′ = append-assoc (rowCells (variableColumns before v′)) (rowsFrom (before + length (linesOf v)) l′) t′ in
       rw (k, g, g′)
-      (rows-step (columnsOf before v′) (length l′) (rowsFrom (before + length (linesOf v)) l′ ++ t′)
-      ∙ rw (row-same before s, f) (sym (rows-step (columnsOf before v) (length l) (rowsFrom (before + length (linesOf v)) l ++ t))))
+      (rows-step (variableColumns before v′) (length l′) (rowsFrom (before + length (linesOf v)) l′ ++ t′)
+      ∙ rw (row-same before s, f) (sym (rows-step (variableColumns before v) (length l) (rowsFrom (before + length (linesOf v)) l ++ t))))
 
   -- ---- the header
   pub lines-all-same : {l l′ : List Variable} → Alike (SameVariable d p) l l′ → linesAll l′ ≡ linesAll l

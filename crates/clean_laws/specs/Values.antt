@@ -9,7 +9,7 @@ use Rattle.ascii.specs.rule.Class.{classOf}
 use Rattle.scan.specs.rule.Number.{isDigit, isValue}
 use Rattle.statements.specs.rule.Words.{TO, VALUES, SPECIAL, END}
 use Rattle.survey.specs.rule.Survey.{Amount, Range, Line, Block}
-use Rattle.clean_text.specs.rule.Clean.{amount, quoted, marked, valueLine, valuesLines}
+use Rattle.clean_text.specs.rule.Clean.{amountToken, quotedToken, marked, valueLine, valuesLines}
 use Rattle.grammar.specs.Token.{Gap, Whether, yes}
 use Rattle.grammar.specs.Token as token
 use Rattle.grammar.specs.Grammar.{Bounds, bounds, Lines, last, Values}
@@ -38,16 +38,18 @@ value-unlike b e = by (eqb b 83) (eqb b 115) refl refl where
   by false false h i = refl
 
 module _ (d p : List ℕ) where
-  amount-follows : {a : Amount} (u : List ℕ) → AmountSaid d a → Follows (amount d a ++ u)
+  amount-follows : {a : Amount} (u : List ℕ) → AmountSaid d a → Follows (amountToken d a ++ u)
   amount-follows u (amount-said {b = b} {s = s} i h) =
       let c = both isValue b s h .0 in rw (i .span) (follows (value-solid b c) (value-unlike b c))
 
   -- a gap before a value: none, or a space
-  gap-amount : {a : Amount} {n : ℕ} (u : List ℕ) → AmountSaid d a → Left p n (amount d a ++ u) → Ends p (Gap p n) (amount d a ++ u)
+  gap-amount : {a : Amount} {n : ℕ} (u : List ℕ) → AmountSaid d a → Left p n (amountToken d a ++ u)
+      → Ends p (Gap p n) (amountToken d a ++ u)
   gap-amount u (amount-said {b = b} {s = s} i h) l =
       rw (i .span) (gap-none p (value-solid b (both isValue b s h .0)) (rw (i .span) at l))
 
-  space-amount : {a : Amount} {n : ℕ} (u : List ℕ) → AmountSaid d a → Left p n (32 ∷ amount d a ++ u) → Ends p (Gap p n) (amount d a ++ u)
+  space-amount : {a : Amount} {n : ℕ} (u : List ℕ) → AmountSaid d a → Left p n (32 ∷ amountToken d a ++ u)
+      → Ends p (Gap p n) (amountToken d a ++ u)
   space-amount u (amount-said {b = b} {s = s} i h) l =
       rw (i .span) (gap-space p (value-solid b (both isValue b s h .0)) (rw (i .span) at l))
 
@@ -60,11 +62,11 @@ module _ (d p : List ℕ) where
 
   -- the printed line, its SPECIAL behind it
   line-ink : (l : Line) (u : List ℕ)
-      → inkThen (valueLine d l) u ≡ amount d (l .value) ++ (32 ∷ quoted d (l .text) ++ cond (l .special) (32 ∷ SPECIAL ++ u) u)
+      → inkThen (valueLine d l) u ≡ amountToken d (l .value) ++ (32 ∷ quotedToken d (l .text) ++ cond (l .special) (32 ∷ SPECIAL ++ u) u)
   unfolding inkThen
   line-ink l u = by (l .special) where
-    by : (q : Bool) → inkThen (amount d (l .value) ∷ quoted d (l .text) ∷ marked d q SPECIAL) u
-        ≡ amount d (l .value) ++ (32 ∷ quoted d (l .text) ++ cond q (32 ∷ SPECIAL ++ u) u)
+    by : (q : Bool) → inkThen (amountToken d (l .value) ∷ quotedToken d (l .text) ∷ marked d q SPECIAL) u
+        ≡ amountToken d (l .value) ++ (32 ∷ quotedToken d (l .text) ++ cond q (32 ∷ SPECIAL ++ u) u)
     by true = refl
     by false = refl
 
@@ -102,7 +104,7 @@ module _ (d p : List ℕ) where
 
   -- ---- the range, and what stands behind it
   bounds-there : {r : Range} {n : ℕ} {u : List ℕ} → RangeSaid d r → stops isValue u ≡ true
-      → Left p n (amount d (r .from) ++ (32 ∷ TO ++ (32 ∷ amount d (r .to) ++ u))) → Yields p (Bounds p n) (SameRange d p r) u
+      → Left p n (amountToken d (r .from) ++ (32 ∷ TO ++ (32 ∷ amountToken d (r .to) ++ u))) → Yields p (Bounds p n) (SameRange d p r) u
   unfolding stops isValue isDigit classOf solid
   bounds-there s h x =
       after p (gap-amount _ (s .from) x) λ k g x.

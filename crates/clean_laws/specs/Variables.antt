@@ -10,7 +10,8 @@ use Rattle.statements.specs.rule.Words.{VARIABLE, NAME, LABEL, TYPE, POSITION, 
 use Rattle.survey.specs.rule.Survey.{Figure, Block, Content, single, multiple, quantity, character, logical, Variable}
 use Rattle.survey.specs.rule.Width.{roomIn}
 use Rattle.reading.specs.rule.Variable.{Sort, Single, Multiple, Quantity, Character, Logical}
-use Rattle.clean_text.specs.rule.Clean.{figure, quoted, typeWord, contentLines, spreadLine, valuesLines, variableLines, eachVariable}
+use Rattle.clean_text.specs.rule.Clean.{figureToken, quotedToken, typeWord, contentLines, spreadLine, valuesLines, variableLines}
+use Rattle.clean_text.specs.rule.Clean.{eachVariable}
 use Rattle.grammar.specs.Token.{Keyword}
 use Rattle.grammar.specs.Grammar.{Rest, variable, Variables, one}
 use Rattle.grammar.specs.Grammar as grammar
@@ -83,11 +84,11 @@ module _ (d p : List ℕ) where
 
   abbrev lead : Variable → List ℕ → List ℕ
   lead v u =
-      VARIABLE ++ (32 ∷ figure d (v .ident)
-      ++ (NAME ++ (32 ∷ quoted d (v .name)
-      ++ (LABEL ++ (32 ∷ quoted d (v .label)
+      VARIABLE ++ (32 ∷ figureToken d (v .ident)
+      ++ (NAME ++ (32 ∷ quotedToken d (v .name)
+      ++ (LABEL ++ (32 ∷ quotedToken d (v .label)
       ++ (TYPE ++ (32 ∷ typeWord d (v .content)
-      ++ (POSITION ++ (32 ∷ figure d (v .start) ++ (32 ∷ TO ++ (32 ∷ figure d (Option·getD (v .finish) (v .start)) ++ u)))))))))))
+      ++ (POSITION ++ (32 ∷ figureToken d (v .start) ++ (32 ∷ TO ++ (32 ∷ figureToken d (Option·getD (v .finish) (v .start)) ++ u)))))))))))
 
   variable-ink : (v : Variable) (u : List ℕ)
       → inksThen (variableLines d v) u ≡ lead v (inksThen (contentLines d (roomIn v) (v .content)) (ending u))

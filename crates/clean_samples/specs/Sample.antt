@@ -11,7 +11,7 @@ use Rattle.rows.specs.rule.Cells.{rowCells, headerCells}
 use Rattle.survey.specs.rule.Survey.{Survey}
 use Rattle.reading.specs.rule.Result.{Result, Is, Not}
 use Rattle.reading.specs.rule.Whole.{surveyOf}
-use Rattle.definition.specs.rule.Definition.{outcomeOf, tableAfter}
+use Rattle.definition.specs.rule.Definition.{sssOutcome, sssTableAfter}
 use Rattle.clean_text.specs.rule.Clean.{cleanOf}
 use Rattle.definition_samples.specs.Bytes.{bytes}
 use Rattle.definition_samples.specs.Definitions.{definitions}
@@ -146,7 +146,7 @@ linesWith a b long x =
 
 -- the lent table of 58 numbers, once a definition is read into it
 abbrev tableFrom : List ℕ → List ℤ
-tableFrom d = tableAfter (outcomeOf d 58) (replicate 58 (pos 99))
+tableFrom d = sssTableAfter (sssOutcome d 58) (replicate 58 (pos 99))
 
 pub messy-read :
     tableFrom messy ≡ headerCells header ++ rowCells (q1 147 158) ++ rowCells (q2 290 301) ++ linesWith 228 241 6 337

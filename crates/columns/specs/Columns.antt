@@ -14,7 +14,8 @@ use Rattle.fields.specs.rule.Legal.{legal}
 use Rattle.fields.specs.rule.Field.{Field}
 use Rattle.fields.specs.rule.Row.{defined, readingOf}
 use Rattle.matrix.specs.declared.Entry.{Entry}
-use Rattle.columns.specs.rule.Columns.{Column, ofRow, ofCategory, ofCategories, columnsBy, rowColumns, columnsFrom, decimalsBy}
+use Rattle.columns.specs.rule.Columns.{Column, ofRow, ofCategory, ofCategories, columnsBy, rowColumns, columnsFrom}
+use Rattle.widths.specs.rule.Width.{decimalsOf}
 use Rattle.columns.specs.rule.Columns.{numberEntry, memberEntry}
 use Rattle.columns.specs.rule.Columns.{entryOf, entriesOf}
 use Rattle.columns.specs.Reach.{shapeOf}
@@ -73,7 +74,7 @@ module _ (t : List ℤ) (v : ℕ) (bytes : List ℕ) where
   entries-members i (c ∷ cs) = ap (λ (l : List Entry). memberEntry c (readingOf t v (rowAt t i) bytes) ∷ l) (entries-members i cs)
 
   pub entries-one : (i : ℕ) → entriesOf t v bytes (ofRow i ∷ [])
-      ≡ numberEntry (10 ^ decimalsBy (rowAt t i .kind)) (readingOf t v (rowAt t i) bytes) ∷ []
+      ≡ numberEntry (10 ^ decimalsOf (rowAt t i .kind)) (readingOf t v (rowAt t i) bytes) ∷ []
   unfolding entriesOf entryOf
   entries-one i = refl
 

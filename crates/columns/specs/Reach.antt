@@ -24,7 +24,7 @@ use Rattle.layout.specs.declared.Kind.the-variants.{Single, Multiple, Quantity,
 use Rattle.layout.specs.declared.Spread.{Spread}
 use Rattle.layout.specs.declared.Spread.the-variants.{Bits, Fields}
 use Rattle.cells.specs.rule.Cell.{signedOf}
-use Rattle.widths.specs.rule.Width.{sizeOf, need, highest}
+use Rattle.widths.specs.rule.Width.{sizeOf, need, highest, decimalsOf}
 use Rattle.widths.specs.Width.{size-small}
 use Rattle.fields.specs.rule.Legal.{legal}
 use Rattle.fields.specs.rule.Field.{missing, number, members, text, truth, Field, holds, illegal}
@@ -41,7 +41,7 @@ use Rattle.files.specs.Tested.{tested-rows, tested-length}
 use Rattle.quotient.specs.Limits as limits
 use Rattle.quotient.specs.Exact.{power-of-ten}
 use Rattle.matrix.specs.Entry.{EntryGood}
-use Rattle.columns.specs.rule.Columns.{decimalsBy, numberEntry}
+use Rattle.columns.specs.rule.Columns.{numberEntry}
 
 -- a row that a record of so many bytes is long enough for
 pub record Readable (t : List ℤ) (v : ℕ) (r : Row) (size : ℕ) : Type 0 where
@@ -210,12 +210,12 @@ module _ {t : List ℤ} {v : ℕ} {r : Row} {size : ℕ} (q : Readable t v r siz
       go illegal e = tt
 
 -- the powers that rows have
-pub power-good : {t : List ℤ} {v : ℕ} {r : Row} {size : ℕ} → Readable t v r size → (decimalsBy (r .kind) < 16)
-    × limits.Power (10 ^ decimalsBy (r .kind))
-unfolding decimalsBy
+pub power-good : {t : List ℤ} {v : ℕ} {r : Row} {size : ℕ} → Readable t v r size → (decimalsOf (r .kind) < 16)
+    × limits.Power (10 ^ decimalsOf (r .kind))
+unfolding decimalsOf
 power-good {t} {v} {r} q = go (r .kind) (q .facts .kind)
   where
-    go : (k : Kind) → KindFacts k r → (decimalsBy k < 16) × limits.Power (10 ^ decimalsBy k)
+    go : (k : Kind) → KindFacts k r → (decimalsOf k < 16) × limits.Power (10 ^ decimalsOf k)
     go Single f = (omega arith, power-of-ten 0 (omega arith))
     go (Multiple s) f = (omega arith, power-of-ten 0 (omega arith))
     go (Quantity x) f = let d = f .decimals in (omega arith, power-of-ten (x .decimals) (omega arith))

@@ -14,7 +14,8 @@ use Rattle.fields.specs.rule.Legal.{legal}
 use Rattle.fields.specs.rule.Row.{defined, readingOf}
 use Rattle.sets.specs.Marks.{Marks}
 use Rattle.matrix.specs.declared.Entry.{Entry}
-use Rattle.columns.specs.rule.Columns.{columnsBy, rowColumns, decimalsBy, numberEntry, entriesOf}
+use Rattle.columns.specs.rule.Columns.{columnsBy, rowColumns, numberEntry, entriesOf}
+use Rattle.widths.specs.rule.Width.{decimalsOf}
 use Rattle.columns.specs.Reach.{shapeOf, Covered}
 use Rattle.columns.specs.Marked.{memberEntries}
 use Rattle.columns.specs.Columns.{entries-one, entries-members, length-categories, length-members}
@@ -22,11 +23,11 @@ use Rattle.columns.specs.Ones.{Marked}
 
 -- the entries of a row by its kind, and how many they are
 unfoldable pub entriesBy : Kind → List ℤ → ℕ → Row → List ℕ → List Entry
-entriesBy Single t v r bytes = numberEntry (10 ^ decimalsBy (r .kind)) (readingOf t v r bytes) ∷ []
+entriesBy Single t v r bytes = numberEntry (10 ^ decimalsOf (r .kind)) (readingOf t v r bytes) ∷ []
 entriesBy (Multiple s) t v r bytes = memberEntries (readingOf t v r bytes) (defined (legal t v r) 1 9999)
-entriesBy (Quantity f) t v r bytes = numberEntry (10 ^ decimalsBy (r .kind)) (readingOf t v r bytes) ∷ []
+entriesBy (Quantity f) t v r bytes = numberEntry (10 ^ decimalsOf (r .kind)) (readingOf t v r bytes) ∷ []
 entriesBy Character t v r bytes = []
-entriesBy Logical t v r bytes = numberEntry (10 ^ decimalsBy (r .kind)) (readingOf t v r bytes) ∷ []
+entriesBy Logical t v r bytes = numberEntry (10 ^ decimalsOf (r .kind)) (readingOf t v r bytes) ∷ []
 
 unfoldable pub countBy : Kind → List ℤ → ℕ → Row → ℕ
 countBy Single t v r = 1
@@ -64,11 +65,11 @@ module _ (t : List ℤ) (v : ℕ) (r : Row) where
       go Logical e = absurd (omega arith)
 
   pub by-one : (bytes : List ℕ) → shapeOf (r .kind) ≡ 1
-      → entriesBy (r .kind) t v r bytes ≡ numberEntry (10 ^ decimalsBy (r .kind)) (readingOf t v r bytes) ∷ []
+      → entriesBy (r .kind) t v r bytes ≡ numberEntry (10 ^ decimalsOf (r .kind)) (readingOf t v r bytes) ∷ []
   unfolding shapeOf entriesBy
   by-one bytes = go (r .kind)
     where
-      go : (k : Kind) → shapeOf k ≡ 1 → entriesBy k t v r bytes ≡ numberEntry (10 ^ decimalsBy (r .kind)) (readingOf t v r bytes) ∷ []
+      go : (k : Kind) → shapeOf k ≡ 1 → entriesBy k t v r bytes ≡ numberEntry (10 ^ decimalsOf (r .kind)) (readingOf t v r bytes) ∷ []
       go Single e = refl
       go (Multiple s) e = absurd (omega arith)
       go (Quantity f) e = refl

@@ -26,7 +26,8 @@ use Rattle.readings.proofs.Laws.{as-single, as-quantity, as-truth}
 use Rattle.matrix.specs.declared.Entry.{Entry}
 use Rattle.matrix.specs.declared.Entry.the-variants.{Absent, Scaled}
 use Rattle.matrix.specs.Entry.{EntryGood}
-use Rattle.columns.specs.rule.Columns.{decimalsBy, numberEntry}
+use Rattle.columns.specs.rule.Columns.{numberEntry}
+use Rattle.widths.specs.rule.Width.{decimalsOf}
 use Rattle.columns.specs.Reach.{shapeOf, Readable, entry-good, power-good}
 use Rattle.columns.specs.Room.{Room}
 use Rattle.columns.specs.Rows.{entriesBy, MarkedRow, by-one, count-few}
@@ -92,17 +93,17 @@ module _ {t : List ℤ} {v : ℕ} {r : Row} {size : ℕ} (q : Readable t v r siz
     unfolding shapeOf
     single-shape = rw e
 
-    single-made : numberEntry (10 ^ decimalsBy (r .kind)) (readingOf t v r bytes) ≡ singleEntry code
-    unfolding decimalsBy
+    single-made : numberEntry (10 ^ decimalsOf (r .kind)) (readingOf t v r bytes) ≡ singleEntry code
+    unfolding decimalsOf
     single-made =
         let f = singleSays (legal t v r) code in
-        ap (λ (x : Field). numberEntry (10 ^ decimalsBy (r .kind)) x) (as-single t v r bytes e)
-        ∙ ap (λ (k : Kind). numberEntry (10 ^ decimalsBy k) f) e
+        ap (λ (x : Field). numberEntry (10 ^ decimalsOf (r .kind)) x) (as-single t v r bytes e)
+        ∙ ap (λ (k : Kind). numberEntry (10 ^ decimalsOf k) f) e
         ∙ ap (λ (p : ℕ). numberEntry p f) (pow-zero 10)
         ∙ single-is (legal t v r) code (rw (as-single t v r bytes e) at good)
 
     pub single-good : EntryGood (singleEntry code)
-    single-good = rw single-made at (entry-good q bytes (10 ^ decimalsBy (r .kind)) (power-good q .1))
+    single-good = rw single-made at (entry-good q bytes (10 ^ decimalsOf (r .kind)) (power-good q .1))
 
     pub single-row : entriesBy (r .kind) t v r bytes ≡ singleEntry code ∷ []
     single-row = by-one t v r bytes single-shape ∙ ap (λ (x : Entry). x ∷ []) single-made
@@ -115,15 +116,15 @@ module _ {t : List ℤ} {v : ℕ} {r : Row} {size : ℕ} (q : Readable t v r siz
     unfolding shapeOf
     amount-shape = rw e
 
-    amount-made : numberEntry (10 ^ decimalsBy (r .kind)) (readingOf t v r bytes) ≡ amountEntry (10 ^ f .decimals) amount
-    unfolding decimalsBy
+    amount-made : numberEntry (10 ^ decimalsOf (r .kind)) (readingOf t v r bytes) ≡ amountEntry (10 ^ f .decimals) amount
+    unfolding decimalsOf
     amount-made =
-        ap (λ (x : Field). numberEntry (10 ^ decimalsBy (r .kind)) x) (as-quantity t v r bytes f e)
-        ∙ ap (λ (k : Kind). numberEntry (10 ^ decimalsBy k) (quantitySays (legal t v r) amount)) e
+        ap (λ (x : Field). numberEntry (10 ^ decimalsOf (r .kind)) x) (as-quantity t v r bytes f e)
+        ∙ ap (λ (k : Kind). numberEntry (10 ^ decimalsOf k) (quantitySays (legal t v r) amount)) e
         ∙ amount-is (legal t v r) (10 ^ f .decimals) amount (rw (as-quantity t v r bytes f e) at good)
 
     pub amount-good : EntryGood (amountEntry (10 ^ f .decimals) amount)
-    amount-good = rw amount-made at (entry-good q bytes (10 ^ decimalsBy (r .kind)) (power-good q .1))
+    amount-good = rw amount-made at (entry-good q bytes (10 ^ decimalsOf (r .kind)) (power-good q .1))
 
     pub amount-row : entriesBy (r .kind) t v r bytes ≡ amountEntry (10 ^ f .decimals) amount ∷ []
     amount-row = by-one t v r bytes amount-shape ∙ ap (λ (x : Entry). x ∷ []) amount-made
@@ -134,12 +135,12 @@ module _ {t : List ℤ} {v : ℕ} {r : Row} {size : ℕ} (q : Readable t v r siz
     truth-shape = rw e
 
     pub truth-row : entriesBy (r .kind) t v r bytes ≡ numberEntry 1 (truthField (getD bytes (r .finish - 1) 0 ∷ [])) ∷ []
-    unfolding decimalsBy
+    unfolding decimalsOf
     truth-row =
         let f = truthField (getD bytes (r .finish - 1) 0 ∷ []) in
         by-one t v r bytes truth-shape
-        ∙ ap (λ (x : Field). numberEntry (10 ^ decimalsBy (r .kind)) x ∷ []) (as-truth t v r bytes e)
-        ∙ ap (λ (k : Kind). numberEntry (10 ^ decimalsBy k) f ∷ []) e
+        ∙ ap (λ (x : Field). numberEntry (10 ^ decimalsOf (r .kind)) x ∷ []) (as-truth t v r bytes e)
+        ∙ ap (λ (k : Kind). numberEntry (10 ^ decimalsOf k) f ∷ []) e
         ∙ ap (λ (p : ℕ). numberEntry p f ∷ []) (pow-zero 10)
 
   pub text-shape : r .kind ≡ Character → shapeOf (r .kind) ≡ 0

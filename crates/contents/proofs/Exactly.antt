@@ -23,10 +23,11 @@ use Rattle.pairs.proofs.Lies.{Lies, lies-none, lies-cut, lies-within}
 use Rattle.pairs.proofs.Given.{first-none, first-join}
 use Rattle.pairs.proofs.Tags.{TagRead, tag-complete}
 use Rattle.pairs.proofs.Ends.{EndAt, Closing, ends-complete}
-use Rattle.contents.specs.rule.Grammar.{br, text, lang, Piece, plain, line, return, refer, note, alone, pair, unsaid, Text, end, more}
+use Rattle.contents.specs.rule.Grammar.{br, text, lang, ContentPiece, plain, line, return, refer, note, alone, pair, unsaid}
+use Rattle.contents.specs.rule.Grammar.{ContentText, end, more}
 use Rattle.contents.specs.rule.Grammar.{language}
 use Rattle.contents.specs.rule.Step.{modeIn, closeAt, markAt, stepOf}
-use Rattle.contents.specs.rule.Content.{begun, contentFrom, contentOf, signsOf, signsFrom, textFrom, textOf}
+use Rattle.contents.specs.rule.Content.{begun, contentFrom, contentOf, signsOf, signsFrom, textFrom, isText}
 use Rattle.contents.specs.declared.Going.{Going}
 use Rattle.contents.specs.declared.Said.{Said}
 use Rattle.contents.specs.declared.Said.the-variants as said
@@ -89,7 +90,8 @@ module _ (l bad : Bool) (d : List ℕ) (m : ℕ) (w : List ℕ) where
       ∙ step-language l bad d m w (stand false u p) (p + 5) n a false
       (tag-complete bad lang d p (p + 5) 1 false (omega arith) b (λ z. refl) n lt)
 
-  pub text-goes : {k p b : ℕ} {v : List ℕ} {ds : List Sign} → Text l k p v ds b → (i : Bool) (u q : ℕ) → modeIn m i ≡ k → Lies d p q v
+  pub text-goes : {k p b : ℕ} {v : List ℕ} {ds : List Sign} → ContentText l k p v ds b → (i : Bool) (u q : ℕ) → modeIn m i ≡ k
+      → Lies d p q v
       → Stop (drop q d)
       → Goes l bad d m w (stand i u p) (stand i (firstOf u b) q) (cond i [] ds)
   unfolding signsOf
@@ -121,7 +123,7 @@ module _ (l bad : Bool) (d : List ℕ) (m : ℕ) (w : List ℕ) where
 pub record ContentAt (l : Bool) (d : List ℕ) (m : ℕ) (w : List ℕ) (at e n u : ℕ) : Type 0 where
   pub bytes : List ℕ
   pub signs : List Sign
-  pub text : Text l m at bytes signs u
+  pub text : ContentText l m at bytes signs u
   pub lies : Lies d at e bytes
   pub ends : EndAt d w e n
 
@@ -184,7 +186,7 @@ unfolding stepOf
 step-past d g h = rw (le-leb (length d) (g .next) h)
 
 -- a text whose mode allows less is one of those that allow all
-wider-piece : {l : Bool} {m p a : ℕ} {b s : List ℕ} {x : List Sign} → Piece l m p b s x a → Piece l 2 p b s x a
+wider-piece : {l : Bool} {m p a : ℕ} {b s : List ℕ} {x : List Sign} → ContentPiece l m p b s x a → ContentPiece l 2 p b s x a
 wider-piece (plain x y z e) = plain x y z e
 wider-piece (line e) = line e
 wider-piece (return e) = return e
@@ -194,7 +196,7 @@ wider-piece (alone h b) = alone refl b
 wider-piece (pair h b e) = pair refl b e
 wider-piece (unsaid h b) = unsaid refl b
 
-pub wider : {l : Bool} {m p u : ℕ} {s : List ℕ} {cs : List Sign} → Text l m p s cs u → Text l 2 p s cs u
+pub wider : {l : Bool} {m p u : ℕ} {s : List ℕ} {cs : List Sign} → ContentText l m p s cs u → ContentText l 2 p s cs u
 wider end = end
 wider (more p t) = more (wider-piece p) (wider t)
 wider (language h b x e t) = language refl b x e (wider t)
@@ -202,7 +204,7 @@ wider (language h b x e t) = language refl b x e (wider t)
 stop-end : (d : List ℕ) (q : ℕ) → length d ≤ q → Stop (drop q d)
 stop-end d q h = rw (drop-of-length-le d h) nothing
 
-text-signs : (l : Bool) (d : List ℕ) {p u : ℕ} {s : List ℕ} {cs : List Sign} → Text l 2 p s cs u → Lies d p (length d) s
+text-signs : (l : Bool) (d : List ℕ) {p u : ℕ} {s : List ℕ} {cs : List Sign} → ContentText l 2 p s cs u → Lies d p (length d) s
     → signsFrom l d (begun p) ≡ cs
 text-signs l d {p} {u} {s} {cs} t li =
     let g = text-goes l false d 2 [] t false 0 (length d) refl li (stop-end d (length d) (omega arith)) in
@@ -235,7 +237,7 @@ decode-content l d m w at e n u h c = text-signs l (take e d) (wider (c .text)) 
 pub record TextAt (l : Bool) (d : List ℕ) (at : ℕ) : Type 0 where
   pub legal : firstBad l d at ≡ length d
   pub signs : List Sign
-  pub text : Text l 2 at (drop at d) signs 0
+  pub text : ContentText l 2 at (drop at d) signs 0
 
 record Whole (l : Bool) (d : List ℕ) (g : Going) : Type 0 where
   pub last : Going
@@ -277,8 +279,8 @@ module _ (l : Bool) (d : List ℕ) where
     side ih true k = at-end g (leb-true (length d) (g .next) k) i e
     side ih false k = by (leb-false (length d) (g .next) k) ih (stepOf false d 2 [] g) refl
 
-  text-sound : (at : ℕ) → at ≤ length d → textOf l d at ≡ true → TextAt l d at
-  unfolding textOf
+  text-sound : (at : ℕ) → at ≤ length d → isText l d at ≡ true → TextAt l d at
+  unfolding isText
   text-sound at h e = by (whole (length d) (begun at) (omega arith) h
       (and-right (eqb (firstBad l d at) (length d)) (textFrom d (begun at)) e)) where
         good : firstBad l d at ≡ length d
@@ -312,8 +314,8 @@ module _ (l : Bool) (d : List ℕ) where
   goes-text {g} {k} (on {h = x} {s = s} e r) h = let o = step-on false d 2 [] g x s e in
       text-next d g x s (omega (arith, o .0, o .1)) e ∙ goes-text r h
 
-  text-complete : (at : ℕ) → at ≤ length d → TextAt l d at → textOf l d at ≡ true
-  unfolding textOf
+  text-complete : (at : ℕ) → at ≤ length d → TextAt l d at → isText l d at ≡ true
+  unfolding isText
   text-complete at h t =
       let li : Lies d at (length d) (drop at d) = record {
         split = sym (append-nil (drop at d)) ∙ ap (λ (x : List ℕ). drop at d ++ x) (sym (drop-length d));
@@ -326,7 +328,7 @@ module _ (l : Bool) (d : List ℕ) where
 
 -- TEXT: a stretch is content as of a label exactly when its characters are legal, and it is characters, references, comments, breaks and
 -- whole <text> elements, with no unknown attribute; its signs are those that the grammar says
-pub text-exactly : (l : Bool) (d : List ℕ) (at : ℕ) → at ≤ length d → (textOf l d at ≡ true) ↔ TextAt l d at
+pub text-exactly : (l : Bool) (d : List ℕ) (at : ℕ) → at ≤ length d → (isText l d at ≡ true) ↔ TextAt l d at
 text-exactly l d at h = (text-sound l d at h, text-complete l d at h)
 
 pub text-says : (l : Bool) (d : List ℕ) (at : ℕ) → at ≤ length d → (t : TextAt l d at) → signsFrom l d (begun at) ≡ t .signs

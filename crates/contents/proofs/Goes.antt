@@ -13,7 +13,7 @@ use Rattle.signs.specs.declared.Sign.{Sign}
 use Rattle.pairs.specs.rule.Grammar.{Ends, ends, Behind, firstOf}
 use Rattle.pairs.proofs.Lies.{Lies, lies-none, lies-join}
 use Rattle.pairs.proofs.Given.{first-none, first-join}
-use Rattle.contents.specs.rule.Grammar.{text, lang, Piece, Text, end, more, language}
+use Rattle.contents.specs.rule.Grammar.{text, lang, ContentPiece, ContentText, end, more, language}
 use Rattle.contents.specs.rule.Step.{heardOf, modeIn, stepOf}
 use Rattle.contents.specs.rule.Content.{begun, onStep, contentFrom, signsOf, saidBy, signsBy, signsFrom, onText, textStep, textFrom}
 use Rattle.contents.specs.declared.Going.{Going}
@@ -115,8 +115,9 @@ pub data Goes (l bad : Bool) (d : List ℕ) (m : ℕ) (w : List ℕ) : Going →
 
 -- what a state still owes: the rest of a text, inside <text> the rest of that first
 pub data Rest (l : Bool) (m : ℕ) : Bool → ℕ → List ℕ → List Sign → ℕ → Type 0 where
-  outer : {p u : ℕ} {s : List ℕ} {cs : List Sign} → Text l m p s cs u → Rest l m false p s cs u
-  inner : {p b u : ℕ} {v e s : List ℕ} {ds cs : List Sign} → Text l 1 p v ds b → Ends text e → Text l m (p + length v + length e) s cs u
+  outer : {p u : ℕ} {s : List ℕ} {cs : List Sign} → ContentText l m p s cs u → Rest l m false p s cs u
+  inner : {p b u : ℕ} {v e s : List ℕ} {ds cs : List Sign} → ContentText l 1 p v ds b → Ends text e
+      → ContentText l m (p + length v + length e) s cs u
       → Rest l m true p (v ++ (e ++ s)) cs (firstOf b u)
 
 -- from g to n it lies, and the first attribute that isn't known stands at a
@@ -132,7 +133,7 @@ ends-stop u (ends x) = mark
 
 module _ (l : Bool) (d : List ℕ) (m : ℕ) where
   -- a text at a place that is told otherwise
-  text-at : {k p q u : ℕ} {s : List ℕ} {cs : List Sign} → p ≡ q → Text l k p s cs u → Text l k q s cs u
+  text-at : {k p q u : ℕ} {s : List ℕ} {cs : List Sign} → p ≡ q → ContentText l k p s cs u → ContentText l k q s cs u
   text-at e t = rw (← e) t
 
   record Onto (i : Bool) (p n : ℕ) (cs : List Sign) (a : ℕ) : Type 0 where
@@ -141,7 +142,7 @@ module _ (l : Bool) (d : List ℕ) (m : ℕ) where
     pub lies : Lies d p n bytes
 
   piece-on : (i : Bool) {p h n a u : ℕ} {b t : List ℕ} {cs : List Sign} (s : Said) → Rest l m i h t cs u
-      → ((t r : List ℕ) → drop h d ≡ t ++ r → Stop r → Piece l (modeIn m i) p b t (signsOf l s) a)
+      → ((t r : List ℕ) → drop h d ≡ t ++ r → Stop r → ContentPiece l (modeIn m i) p b t (signsOf l s) a)
       → Lies d p h b → Lies d h n t → Stop (drop n d) → Onto i p n (signsOf l (heardOf i s) ++ cs) (firstOf a u)
   unfolding signsOf
   piece-on false {p} {h} {n} {b = b} {t} s (outer x) pc y z o =

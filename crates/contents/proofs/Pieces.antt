@@ -14,7 +14,7 @@ use Rattle.utf.specs.rule.Chars.{encode}
 use Rattle.utf.proofs.Strides.{drop-1}
 use Rattle.markup.specs.rule.Bytes.{ofKind, isName, isDigit, startsName, stands}
 use Rattle.markup.specs.rule.Reference.{referenceOf}
-use Rattle.markup.specs.rule.Gap.{commentOf}
+use Rattle.markup.specs.rule.Gap.{xmlComment}
 use Rattle.markup.specs.rule.Grammar.{Each, no-more, each, Ref, Note}
 use Rattle.markup.specs.declared.Char.the-variants as char
 use Rattle.markup.specs.declared.Skip.the-variants as skip
@@ -32,9 +32,11 @@ use Rattle.pairs.proofs.Lies.{Lies, lies-none, lies-join, lies-byte, lies-cut, 
 use Rattle.pairs.proofs.Given.{first-none, first-join}
 use Rattle.pairs.proofs.Tags.{TagRead, tag-complete}
 use Rattle.pairs.proofs.Ends.{Edge, edge, behind-edge, start-complete, Closing, ends-complete, pair-exactly}
-use Rattle.contents.specs.rule.Grammar.{br, text, lang, bytesOf, byteOf, Piece, plain, line, return, refer, note, alone, pair, unsaid}
-use Rattle.contents.specs.rule.Grammar.{Text, end, more, language}
-use Rattle.contents.specs.rule.Step.{heardOf, goOn, bracketAt, returnAt, referAt, noteAt, pairAt, breakAt, languageAt, modeIn, kindOf}
+use Rattle.contents.specs.rule.Grammar.{br, text, lang, byteSigns, byteOf, ContentPiece, plain, line, return, refer, note, alone}
+use Rattle.contents.specs.rule.Grammar.{pair, unsaid}
+use Rattle.contents.specs.rule.Grammar.{ContentText, end, more, language}
+use Rattle.contents.specs.rule.Step.{heardOf, goOnSaying, bracketAt, returnAt, referAt, noteAt, pairAt, breakAt, languageAt, modeIn}
+use Rattle.contents.specs.rule.Step.{stepKind}
 use Rattle.contents.specs.rule.Step.{startAt, closeAt, markAt, stepOf}
 use Rattle.contents.specs.rule.Content.{signsOf}
 use Rattle.contents.specs.declared.Going.{Going}
@@ -71,7 +73,8 @@ module _ (l bad : Bool) (d : List ℕ) (m : ℕ) (w : List ℕ) where
   heard-signs false s x e = e
 
   -- on without an attribute that isn't known
-  go-to : (i : Bool) (u p n : ℕ) (s : Said) (x : List Sign) → stepOf bad d m w (stand i u p) ≡ goOn (stand i u p) n s → signsOf l s ≡ x
+  go-to : (i : Bool) (u p n : ℕ) (s : Said) (x : List Sign) → stepOf bad d m w (stand i u p) ≡ goOnSaying (stand i u p) n s → signsOf l s
+      ≡ x
       → StepTo (stand i u p) (stand i (firstOf u 0) n) (cond i [] x)
   go-to i u p n s x e f =
       let k : u ≡ firstOf u 0 = first-none u in
@@ -79,39 +82,39 @@ module _ (l bad : Bool) (d : List ℕ) (m : ℕ) (w : List ℕ) where
 
   -- ---- bytes and references
   step-93 : (g : Going) → g .next < length d → getD d (g .next) 0 ≡ 93 → stands (93 ∷ 93 ∷ 62 ∷ []) (drop (g .next) d) ≡ false
-      → stepOf bad d m w g ≡ goOn g (g .next + 1) (said.Byte 93)
+      → stepOf bad d m w g ≡ goOnSaying g (g .next + 1) (said.Byte 93)
   unfolding stepOf bracketAt
   step-93 g h f e = rw (lt-leb (length d) (g .next) h, f, e)
 
   pub step-byte : (g : Going) (b : ℕ) → g .next < length d → getD d (g .next) 0 ≡ b → (b ≡ 38 → ⊥) → (b ≡ 60 → ⊥) → (b ≡ 13 → ⊥) → eqb b 93
-      ≡ false → stepOf bad d m w g ≡ goOn g (g .next + 1) (said.Byte b)
+      ≡ false → stepOf bad d m w g ≡ goOnSaying g (g .next + 1) (said.Byte b)
   unfolding stepOf
   step-byte g b h f x y z e = rw (lt-leb (length d) (g .next) h, f, ne-eqb b 60 y, ne-eqb b 38 x, e, ne-eqb b 13 z)
 
   step-plain : (g : Going) (b : ℕ) (s r : List ℕ) → g .next < length d → getD d (g .next) 0 ≡ b → (b ≡ 38 → ⊥) → (b ≡ 60 → ⊥) → (b ≡ 13 → ⊥)
       → stands (93 ∷ 93 ∷ 62 ∷ []) (b ∷ s) ≡ false
-      → drop (g .next + 1) d ≡ s ++ r → Stop r → stepOf bad d m w g ≡ goOn g (g .next + 1) (said.Byte b)
+      → drop (g .next + 1) d ≡ s ++ r → Stop r → stepOf bad d m w g ≡ goOnSaying g (g .next + 1) (said.Byte b)
   step-plain g b s r h f x y z e k o = by (eqb b 93) refl where
     none : stands (93 ∷ 93 ∷ 62 ∷ []) (drop (g .next) d) ≡ false
     none = ap (stands (93 ∷ 93 ∷ 62 ∷ [])) (drop-1 d (g .next) h ∙ rw (f, k)) ∙ bracket-same b s o ∙ e
 
-    by : (q : Bool) → eqb b 93 ≡ q → stepOf bad d m w g ≡ goOn g (g .next + 1) (said.Byte b)
+    by : (q : Bool) → eqb b 93 ≡ q → stepOf bad d m w g ≡ goOnSaying g (g .next + 1) (said.Byte b)
     by true i = let c = eqb-true b 93 i in step-93 g h (f ∙ c) none ∙ rw c
     by false i = step-byte g b h f x y z i
 
   pub step-return : (g : Going) (q : Bool) → g .next < length d → getD d (g .next) 0 ≡ 13 → stands (10 ∷ []) (drop (g .next + 1) d) ≡ q
-      → stepOf bad d m w g ≡ goOn g (g .next + 1) (cond q said.Nothing (said.Byte 10))
+      → stepOf bad d m w g ≡ goOnSaying g (g .next + 1) (cond q said.Nothing (said.Byte 10))
   unfolding stepOf returnAt
   step-return g q h f e = rw (lt-leb (length d) (g .next) h, f, e)
 
   pub step-refer : (g : Going) (c n : ℕ) → g .next < length d → getD d (g .next) 0 ≡ 38 → referenceOf (g .next) (drop (g .next + 1) d)
-      ≡ char.Is c n → stepOf bad d m w g ≡ goOn g n (said.Code c)
+      ≡ char.Is c n → stepOf bad d m w g ≡ goOnSaying g n (said.Code c)
   unfolding stepOf referAt
   step-refer g c n h f e = rw (lt-leb (length d) (g .next) h, f, e)
 
   pub step-note : (g : Going) (n : ℕ) → g .next < length d → getD d (g .next) 0 ≡ 60 → stands (60 ∷ 33 ∷ 45 ∷ 45 ∷ []) (drop (g .next) d)
       ≡ true
-      → commentOf bad (g .next) (g .next + 4) (drop (g .next + 4) d) ≡ skip.Past n → stepOf bad d m w g ≡ goOn g n said.Nothing
+      → xmlComment bad (g .next) (g .next + 4) (drop (g .next + 4) d) ≡ skip.Past n → stepOf bad d m w g ≡ goOnSaying g n said.Nothing
   unfolding stepOf markAt noteAt
   step-note g n h f x e = rw (lt-leb (length d) (g .next) h, f, x, e)
 
@@ -124,12 +127,12 @@ module _ (l bad : Bool) (d : List ℕ) (m : ℕ) (w : List ℕ) where
 
   start-break : (g : Going) (e : ℕ) → leb 1 (modeIn m (g .inside)) ≡ true → isNamed d (g .next + 1) e br ≡ true → startAt bad d m g e
       ≡ breakAt bad d g e
-  unfolding startAt kindOf
+  unfolding startAt stepKind
   start-break g e h f = rw (h, f)
 
   start-language : (g : Going) (e : ℕ) → eqb (modeIn m (g .inside)) 2 ≡ true → isNamed d (g .next + 1) e br ≡ false
       → isNamed d (g .next + 1) e text ≡ true → startAt bad d m g e ≡ languageAt bad d g e
-  unfolding startAt kindOf
+  unfolding startAt stepKind
   start-language g e h f x = rw (f, no-and (leb 1 (modeIn m (g .inside))), h, x) where
     no-and : (b : Bool) → (b && false) ≡ false
     no-and true = refl
@@ -206,9 +209,10 @@ module _ (l bad : Bool) (d : List ℕ) (m : ℕ) (w : List ℕ) where
       (go-to i u p (p + 4 + length n) said.Nothing []
       (step-note (stand i u p) (p + 4 + length n) (y .inside) (y .byte)
       (ap (stands (60 ∷ 33 ∷ 45 ∷ 45 ∷ [])) x ∙ stands-note (n ++ drop q d))
-      (ap (commentOf bad p (p + 4)) z ∙ comment-complete bad p (p + 4) nt (drop q d))) refl)
+      (ap (xmlComment bad p (p + 4)) z ∙ comment-complete bad p (p + 4) nt (drop q d))) refl)
 
-  pub piece-step : (i : Bool) (u p k : ℕ) {b s : List ℕ} {x : List Sign} {a : ℕ} → modeIn m i ≡ k → Piece l k p b s x a → (r : List ℕ)
+  pub piece-step : (i : Bool) (u p k : ℕ) {b s : List ℕ} {x : List Sign} {a : ℕ} → modeIn m i ≡ k → ContentPiece l k p b s x a
+      → (r : List ℕ)
       → Lies d p (p + length b) b → drop (p + length b) d ≡ s ++ r → Stop r
       → StepTo (stand i u p) (stand i (firstOf u a) (p + length b)) (cond i [] x)
   unfolding signsOf
@@ -228,7 +232,7 @@ module _ (l bad : Bool) (d : List ℕ) (m : ℕ) (w : List ℕ) where
       let z = y .rest .split in
       let e : p + 1 + length q ≡ p + suc (length q) = omega arith in
       place-to i (firstOf u 0) (p + 1 + length q) (p + suc (length q)) e
-      (go-to i u p (p + 1 + length q) (said.Code c) (bytesOf (encode c))
+      (go-to i u p (p + 1 + length q) (said.Code c) (byteSigns (encode c))
       (step-refer (stand i u p) c (p + 1 + length q) (y .inside) (y .byte) (ap (referenceOf p) z ∙ reference-complete p ref _)) refl)
   piece-step i u p k {s = s} md (note {n} nt) r li f o = note-step i u p n nt li
   piece-step i u p k {s = s} {a = a} md (alone {t = t} h b) r li f o =

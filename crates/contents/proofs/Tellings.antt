@@ -10,9 +10,9 @@ use Rattle.signs.specs.declared.Sign.{Sign}
 use Rattle.signs.specs.declared.Sign.the-variants as sign
 use Rattle.utf.specs.rule.Chars.{encode}
 use Rattle.utf.proofs.Strides.{drop-1}
-use Rattle.contents.specs.rule.Grammar.{bytesOf, byteOf}
+use Rattle.contents.specs.rule.Grammar.{byteSigns, byteOf}
 use Rattle.contents.specs.rule.Step.{stepOf}
-use Rattle.contents.specs.rule.Content.{signsOf, signsFrom, goingOf, signsAt}
+use Rattle.contents.specs.rule.Content.{signsOf, signsFrom, goingOf, contentSigns}
 use Rattle.contents.specs.Told.{heardSigns, heardNext, heardCode, Hears, partSigns, partNext, partCode, Tells, wholePart, firstPart}
 use Rattle.contents.specs.Told.{nextPart, bytePart}
 use Rattle.contents.specs.declared.Going.{Going}
@@ -63,7 +63,7 @@ hear-is e x = rw (← e) x
 
 -- ---- signs
 pub whole-signs : (l : Bool) (d : List ℕ) (s : Sign) (g : Going) → partSigns l d (wholePart s g) ≡ s ∷ signsFrom l d g
-unfolding signsAt bytesOf encode
+unfolding contentSigns byteSigns encode
 whole-signs l d s g = refl
 
 -- a character has one to four bytes
@@ -89,22 +89,22 @@ encode-some c = encode-long c .0
 pub encode-short : (c : ℕ) → length (encode c) ≤ 4
 encode-short c = encode-long c .1
 
-first-signs : (l : Bool) (d : List ℕ) (c : ℕ) (g : Going) → bytesOf (encode c) ++ signsFrom l d g ≡ partSigns l d (firstPart c g)
-unfolding signsAt bytesOf
-first-signs l d c g = ap (λ (t : List ℕ). bytesOf t ++ signsFrom l d g) (drop-1 (encode c) 0 (encode-some c))
+first-signs : (l : Bool) (d : List ℕ) (c : ℕ) (g : Going) → byteSigns (encode c) ++ signsFrom l d g ≡ partSigns l d (firstPart c g)
+unfolding contentSigns byteSigns
+first-signs l d c g = ap (λ (t : List ℕ). byteSigns t ++ signsFrom l d g) (drop-1 (encode c) 0 (encode-some c))
 
 pub tell-next : (l : Bool) (d : List ℕ) (c : Cursor) → c .said < length (encode (c .code)) → c .next ≤ length d → c .code < 2097152
     → Tells l d c (nextPart c)
-unfolding signsAt bytesOf
+unfolding contentSigns byteSigns
 tell-next l d c h n k = record {
-  signs = ap (λ (t : List ℕ). bytesOf t ++ signsFrom l d (goingOf c))
+  signs = ap (λ (t : List ℕ). byteSigns t ++ signsFrom l d (goingOf c))
       (drop-1 (encode (c .code)) (c .said) h);
   next = n;
   small = k;
 }
 
-over-signs : (l : Bool) (d : List ℕ) (c : Cursor) → length (encode (c .code)) ≤ c .said → signsAt l d c ≡ signsFrom l d (goingOf c)
-unfolding signsAt bytesOf
+over-signs : (l : Bool) (d : List ℕ) (c : Cursor) → length (encode (c .code)) ≤ c .said → contentSigns l d c ≡ signsFrom l d (goingOf c)
+unfolding contentSigns byteSigns
 over-signs l d c h = rw (drop-of-length-le (encode (c .code)) h)
 
 module _ (l : Bool) (d : List ℕ) (c : Cursor) (h : length (encode (c .code)) ≤ c .said) where

@@ -12,10 +12,10 @@ use Rattle.below.specs.Below.{and-left, and-right, holds-not}
 use Rattle.utf.proofs.Strides.{drop-1}
 use Rattle.signs.specs.declared.Sign.{Sign}
 use Rattle.signs.specs.declared.Sign.the-variants as sign
-use Rattle.utf.specs.rule.Chars.{encode, legal}
+use Rattle.utf.specs.rule.Chars.{encode, legalCharacter}
 use Rattle.markup.specs.rule.Bytes.{stands}
 use Rattle.markup.specs.rule.Reference.{referenceOf}
-use Rattle.markup.specs.rule.Gap.{commentOf}
+use Rattle.markup.specs.rule.Gap.{xmlComment}
 use Rattle.markup.specs.rule.Grammar.{Ref, lt, gt, amp, apos, quot, decimal, hex}
 use Rattle.markup.specs.declared.Char.{Char}
 use Rattle.markup.specs.declared.Char.the-variants as char
@@ -40,10 +40,12 @@ use Rattle.pairs.proofs.Stands.{NameAt, name-long, angle-start, angle-close}
 use Rattle.pairs.proofs.Given.{first-none}
 use Rattle.pairs.proofs.Tags.{TagSaid, tag-sound}
 use Rattle.pairs.proofs.Ends.{EndAt, ends-sound, PairAt, pair-sound}
-use Rattle.contents.specs.rule.Grammar.{br, text, lang, bytesOf, byteOf, Piece, plain, line, return, refer, note, alone, pair, unsaid}
-use Rattle.contents.specs.rule.Step.{heardOf, goOn, brokenAt, cutAt, bracketAt, returnAt, onChar, referAt, onNote, noteAt, knowing}
-use Rattle.contents.specs.rule.Step.{onPair, pairAt, onBreak, breakAt, onLanguage, languageAt, onOther, otherAt}
-use Rattle.contents.specs.rule.Step.{modeIn, kindOf, startAt, onOut, onEnd, closeAt, onAngle, markAt, stepOf}
+use Rattle.contents.specs.rule.Grammar.{br, text, lang, byteSigns, byteOf, ContentPiece, plain, line, return, refer, note, alone}
+use Rattle.contents.specs.rule.Grammar.{pair, unsaid}
+use Rattle.contents.specs.rule.Step.{heardOf, goOnSaying, brokenAt, cutAt, bracketAt, returnAt, onChar, referAt, onNote, noteAt}
+use Rattle.contents.specs.rule.Step.{knowing}
+use Rattle.contents.specs.rule.Step.{contentPair, pairAt, onBreak, breakAt, onLanguage, languageAt, onOther, otherAt}
+use Rattle.contents.specs.rule.Step.{modeIn, stepKind, startAt, onOut, onEnd, closeAt, onAngle, markAt, stepOf}
 use Rattle.contents.specs.rule.Content.{signsOf}
 use Rattle.contents.specs.declared.Going.{Going}
 use Rattle.contents.specs.declared.Said.{Said}
@@ -84,7 +86,7 @@ no-bracket b t h = rw (ne-eqb b 93 h)
 
 -- a line feed is written alike
 pub byte-ten : (l : Bool) → byteOf l 10 ≡ sign.Byte 10 ∷ []
-unfolding bytesOf encode
+unfolding byteSigns encode
 byte-ten true = refl
 byte-ten false = refl
 
@@ -95,8 +97,8 @@ codeOf said.Break = 0
 codeOf (said.Byte b) = 0
 codeOf (said.Code c) = c
 
-illegal : (c : ℕ) → 2097152 ≤ c → legal c ≡ false
-unfolding legal
+illegal : (c : ℕ) → 2097152 ≤ c → legalCharacter c ≡ false
+unfolding legalCharacter
 illegal c h =
     rw (
       le-leb 32 c (omega arith),
@@ -108,7 +110,7 @@ illegal c h =
     )
     (rw (ne-eqb c 9 (λ e. omega arith), ne-eqb c 10 (λ e. omega arith), ne-eqb c 13 (λ e. omega arith)))
 
-legal-small : (c : ℕ) → legal c ≡ true → c < 2097152
+legal-small : (c : ℕ) → legalCharacter c ≡ true → c < 2097152
 legal-small c e = by (ltb c 2097152) refl where
   by : (q : Bool) → ltb c 2097152 ≡ q → c < 2097152
   by true f = ltb-true c 2097152 f
@@ -138,7 +140,7 @@ module _ (l : Bool) (d : List ℕ) (m : ℕ) (w : List ℕ) where
     pub says : s ≡ heardOf (g .inside) said
     pub small : codeOf said < 2097152
     pub piece : (t r : List ℕ) → drop (h .next) d ≡ t ++ r → Stop r
-        → Piece l (modeIn m (g .inside)) (g .next) bytes t (signsOf l said) first
+        → ContentPiece l (modeIn m (g .inside)) (g .next) bytes t (signsOf l said) first
 
   -- into a text in another language
   pub record Entered (g h : Going) (s : Said) : Type 0 where
@@ -182,8 +184,8 @@ module _ (l : Bool) (d : List ℕ) (m : ℕ) (w : List ℕ) where
 
 module _ (l bad : Bool) (d : List ℕ) (m : ℕ) (w : List ℕ) where
   over : (g : Going) (n : ℕ) (s : Said) (u : List ℕ) → Lies d (g .next) n u → 0 < length u → g .next ≤ length d → codeOf s < 2097152
-      → ((t r : List ℕ) → drop n d ≡ t ++ r → Stop r → Piece l (modeIn m (g .inside)) (g .next) u t (signsOf l s) 0)
-      → View l d m w g (goOn g n s)
+      → ((t r : List ℕ) → drop n d ≡ t ++ r → Stop r → ContentPiece l (modeIn m (g .inside)) (g .next) u t (signsOf l s) 0)
+      → View l d m w g (goOnSaying g n s)
   over g n s u li so h sm pc = passed (record {
     bytes = u;
     first = 0;
@@ -207,7 +209,7 @@ module _ (l bad : Bool) (d : List ℕ) (m : ℕ) (w : List ℕ) where
     none e t r f o = sym (bracket-same 93 t o) ∙ ap (stands (93 ∷ 93 ∷ 62 ∷ [])) (sym (drop-1 d (g .next) h ∙ rw (b, f))) ∙ e
 
     by : (q : Bool) → stands (93 ∷ 93 ∷ 62 ∷ []) (drop (g .next) d) ≡ q
-        → View l d m w g (cond q (brokenAt (g .next)) (goOn g (g .next + 1) (said.Byte 93)))
+        → View l d m w g (cond q (brokenAt (g .next)) (goOnSaying g (g .next + 1) (said.Byte 93)))
     by true e = fault
     by false e =
         over g (g .next + 1) (said.Byte 93) (93 ∷ []) (lies-byte d (g .next) (g .next + 1) 93 h b refl) (omega arith) (omega arith)
@@ -222,14 +224,14 @@ module _ (l bad : Bool) (d : List ℕ) (m : ℕ) (w : List ℕ) where
     same q e t r f o = sym (line-same t o) ∙ ap (stands (10 ∷ [])) (sym f) ∙ e
 
     by : (q : Bool) → stands (10 ∷ []) (drop (g .next + 1) d) ≡ q
-        → View l d m w g (goOn g (g .next + 1) (cond q said.Nothing (said.Byte 10)))
+        → View l d m w g (goOnSaying g (g .next + 1) (cond q said.Nothing (said.Byte 10)))
     by true e =
         over g (g .next + 1) said.Nothing (13 ∷ []) (lies-byte d (g .next) (g .next + 1) 13 h b refl) (omega arith) (omega arith)
         (omega arith) (λ t r f o. line (same true e t r f o))
     by false e =
         over g (g .next + 1) (said.Byte 10) (13 ∷ []) (lies-byte d (g .next) (g .next + 1) 13 h b refl) (omega arith) (omega arith)
         (omega arith) (λ t r f o. ten (same false e t r f o)) where
-          ten : {k p : ℕ} {t : List ℕ} → stands (10 ∷ []) t ≡ false → Piece l k p (13 ∷ []) t (byteOf l 10) 0
+          ten : {k p : ℕ} {t : List ℕ} → stands (10 ∷ []) t ≡ false → ContentPiece l k p (13 ∷ []) t (byteOf l 10) 0
           ten e = rw (byte-ten l) (return e)
 
   refer-view : (g : Going) → g .next < length d → getD d (g .next) 0 ≡ 38 → View l d m w g (referAt d g)
@@ -247,8 +249,8 @@ module _ (l bad : Bool) (d : List ℕ) (m : ℕ) (w : List ℕ) where
   -- ---- comments
   note-view : (g : Going) → g .next < length d → stands (60 ∷ 33 ∷ 45 ∷ 45 ∷ []) (drop (g .next) d) ≡ true → View l d m w g (noteAt bad d g)
   unfolding noteAt signsOf
-  note-view g h e = by (commentOf bad (g .next) (g .next + 4) (drop (g .next + 4) d)) refl where
-    by : (k : Skip) → commentOf bad (g .next) (g .next + 4) (drop (g .next + 4) d) ≡ k → View l d m w g (onNote g k)
+  note-view g h e = by (xmlComment bad (g .next) (g .next + 4) (drop (g .next + 4) d)) refl where
+    by : (k : Skip) → xmlComment bad (g .next) (g .next + 4) (drop (g .next + 4) d) ≡ k → View l d m w g (onNote g k)
     by (skip.Broken p) f = fault
     by (skip.Past n) f =
         let x = stands-split (60 ∷ 33 ∷ 45 ∷ 45 ∷ []) (drop (g .next) d) e in
@@ -265,7 +267,7 @@ module _ (l bad : Bool) (d : List ℕ) (m : ℕ) (w : List ℕ) where
 
   -- a piece with an attribute that isn't known at a
   tagged : (g : Going) (n a : ℕ) (s : Said) (u : List ℕ) → Lies d (g .next) n u → 0 < length u → g .next ≤ length d → codeOf s < 2097152
-      → ((t : List ℕ) → Piece l (within g) (g .next) u t (signsOf l s) a) → View l d m w g (goOn (knowing g a) n s)
+      → ((t : List ℕ) → ContentPiece l (within g) (g .next) u t (signsOf l s) a) → View l d m w g (goOnSaying (knowing g a) n s)
   tagged g n a s u li so h sm pc = passed (record {
     bytes = u;
     first = a;
@@ -290,7 +292,7 @@ module _ (l bad : Bool) (d : List ℕ) (m : ℕ) (w : List ℕ) where
     t : TagSaid [] d e n false 0 (h .unknown)
     t = tag-sound bad [] d (g .next) e 0 h false q n r
 
-    by : (k : Pair) → pairOf bad d n br ≡ k → View l d m w g (onPair (knowing g (h .unknown)) k)
+    by : (k : Pair) → pairOf bad d n br ≡ k → View l d m w g (contentPair (knowing g (h .unknown)) k)
     by (pairs.Past x) f =
         let p = pair-sound bad d br n x f in
         let k : e ≡ g .next + 3 = li .place in
@@ -375,7 +377,7 @@ module _ (l bad : Bool) (d : List ℕ) (m : ℕ) (w : List ℕ) where
 
   start-view : (g : Going) (e : ℕ) → g .next < length d → getD d (g .next) 0 ≡ 60 → angleOf bad d (g .next) ≡ angle.Start e
       → View l d m w g (startAt bad d m g e)
-  unfolding startAt kindOf
+  unfolding startAt stepKind
   start-view g e i b a = by (leb 1 (within g) && isNamed d (g .next + 1) e br) (eqb (within g) 2 && isNamed d (g .next + 1) e text) refl
       refl where
         long : g .next + 1 < e
@@ -452,7 +454,7 @@ module _ (l bad : Bool) (d : List ℕ) (m : ℕ) (w : List ℕ) where
             → eqb (getD d (g .next) 0) 93 ≡ z → eqb (getD d (g .next) 0) 13 ≡ q
             → View l d m w g (cond v (brokenAt (g .next))
             (cond x (markAt bad d m w g) (cond y (referAt d g)
-            (cond z (bracketAt d g) (cond q (returnAt d g) (goOn g (g .next + 1) (said.Byte (getD d (g .next) 0))))))))
+            (cond z (bracketAt d g) (cond q (returnAt d g) (goOnSaying g (g .next + 1) (said.Byte (getD d (g .next) 0))))))))
         by true x y z q h1 h2 h3 h4 h5 = fault
         by false true y z q h1 h2 h3 h4 h5 = mark-view g (leb-false (length d) (g .next) h1) (eqb-true (getD d (g .next) 0) 60 h2)
         by false false true z q h1 h2 h3 h4 h5 = refer-view g (leb-false (length d) (g .next) h1) (eqb-true (getD d (g .next) 0) 38 h3)

@@ -11,7 +11,7 @@ use Rattle.utf.proofs.Strides.{drop-1}
 use Rattle.signs.specs.declared.Sign.the-variants as sign
 use Rattle.markup.specs.rule.Bytes.{isWhite, ofKind, startsName, runOf, stands}
 use Rattle.markup.specs.rule.Reference.{referenceOf}
-use Rattle.markup.specs.rule.Gap.{commentOf}
+use Rattle.markup.specs.rule.Gap.{xmlComment}
 use Rattle.markup.specs.rule.Grammar.{no-more}
 use Rattle.markup.specs.declared.Char.the-variants as char
 use Rattle.markup.specs.declared.Skip.the-variants as skip
@@ -69,7 +69,7 @@ module _ (bad : Bool) (d : List ℕ) (k p : ℕ) where
       record { again = λ m w i u e. x .again m w i u e ∙ y .again m w i u e; on = omega arith; within = y .within }
 
   pub walks-note : (n : ℕ) → p < length d → getD d p 0 ≡ 60 → stands (60 ∷ 33 ∷ 45 ∷ 45 ∷ []) (drop p d) ≡ true
-      → commentOf bad p (p + 4) (drop (p + 4) d) ≡ skip.Past n → Walks bad d k p n
+      → xmlComment bad p (p + 4) (drop (p + 4) d) ≡ skip.Past n → Walks bad d k p n
   walks-note n h f x e =
       let o = step-on bad d 0 [] (stand false 0 p) (stand false 0 n) _ (step-note false bad d 0 [] (stand false 0 p) n h f x e) in
       record {

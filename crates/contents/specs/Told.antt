@@ -7,8 +7,8 @@ use lib.ListN.{length, getD}
 use Rattle.signs.specs.declared.Sign.{Sign}
 use Rattle.signs.specs.declared.Sign.the-variants as sign
 use Rattle.utf.specs.rule.Chars.{encode}
-use Rattle.contents.specs.rule.Grammar.{bytesOf, byteOf}
-use Rattle.contents.specs.rule.Content.{signsFrom, signsAt}
+use Rattle.contents.specs.rule.Grammar.{byteSigns, byteOf}
+use Rattle.contents.specs.rule.Content.{signsFrom, contentSigns}
 use Rattle.contents.specs.declared.Going.{Going}
 use Rattle.contents.specs.declared.Cursor.{Cursor}
 use Rattle.contents.specs.declared.Heard.{Heard}
@@ -20,7 +20,7 @@ use Rattle.contents.specs.declared.Part.the-variants as part
 abbrev pub heardSigns : Bool → List ℕ → Heard → List Sign
 heardSigns l d (heard.Break g) = sign.Break ∷ signsFrom l d g
 heardSigns l d (heard.Byte b g) = byteOf l b ++ signsFrom l d g
-heardSigns l d (heard.Code c g) = bytesOf (encode c) ++ signsFrom l d g
+heardSigns l d (heard.Code c g) = byteSigns (encode c) ++ signsFrom l d g
 heardSigns l d heard.Over = []
 
 abbrev pub heardNext : Heard → ℕ
@@ -42,7 +42,7 @@ pub record Hears (d : List ℕ) (g : Going) (r : Heard) : Type 0 where
   pub small : heardCode r < 2097152
 
 abbrev pub partSigns : Bool → List ℕ → Part → List Sign
-partSigns l d (part.One s c) = s ∷ signsAt l d c
+partSigns l d (part.One s c) = s ∷ contentSigns l d c
 partSigns l d part.Over = []
 
 abbrev pub partNext : Part → ℕ
@@ -55,7 +55,7 @@ partCode part.Over = 0
 
 -- the sign told is the first of those still to come, and the cursor is behind it
 pub record Tells (l : Bool) (d : List ℕ) (c : Cursor) (r : Part) : Type 0 where
-  pub signs : signsAt l d c ≡ partSigns l d r
+  pub signs : contentSigns l d c ≡ partSigns l d r
   pub next : partNext r ≤ length d
   pub small : partCode r < 2097152
 

@@ -11,9 +11,9 @@ ghost use mathlib.Core.Bool.{Bool, true, false, cond, _&&_};
 ghost use mathlib.Core.List.{[], _∷_};
 ghost use Prim.Native.Nat.{_+_, _-_, _≤_, _<_};
 ghost use lib.ListN.{length, drop, getD};
-ghost use Rattle.contents.specs.rule.Step.{heardOf, goOn, brokenAt, bracketAt, returnAt, referAt, noteAt, pairAt, breakAt};
-ghost use Rattle.contents.specs.rule.Step.{languageAt, otherAt, modeIn, kindOf, startAt, closeAt, markAt, stepOf};
-ghost use Rattle.contents.specs.rule.Content.{contentOf, begun, startOf, textFrom, textOf};
+ghost use Rattle.contents.specs.rule.Step.{heardOf, goOnSaying, brokenAt, bracketAt, returnAt, referAt, noteAt, pairAt, breakAt};
+ghost use Rattle.contents.specs.rule.Step.{languageAt, otherAt, modeIn, stepKind, startAt, closeAt, markAt, stepOf};
+ghost use Rattle.contents.specs.rule.Content.{contentOf, begun, startOf, textFrom, isText};
 ghost use Rattle.contents.specs.Pass.{plainOf, allPlain, Passes, Walks, Closes, Strides};
 ghost use Rattle.contents.specs.Told.{Hears, Tells, wholePart, firstPart, nextPart, bytePart, partCode};
 ghost use Rattle.utf.specs.rule.Chars.{encode};
@@ -65,7 +65,7 @@ fn mute(inside: bool, said: Said) -> Said
 }
 
 fn go_on(g: Going, next: usize, said: Said) -> Step
-    ensures { λ r. ⌜ r ≡ goOn g next said ⌝ }
+    ensures { λ r. ⌜ r ≡ goOnSaying g next said ⌝ }
 {
     let said = mute(g.inside, said);
     Step::More {
@@ -225,7 +225,7 @@ fn mode_in(mode: usize, inside: bool) -> usize
 // Which start tag it is: 1 br, 2 text, where they may stand; 0 any other.
 fn kind_of(d: &[u8], mode: usize, n: usize, e: usize) -> usize
     requires { ⌜ (n ≤ e) × (e ≤ length (now d)) ⌝ }
-    ensures { λ r. ⌜ r ≡ kindOf (now (d .entry)) mode n e ⌝ }
+    ensures { λ r. ⌜ r ≡ stepKind (now (d .entry)) mode n e ⌝ }
 {
     let br = tags::is_named(d, n, e, b"br");
     let text = tags::is_named(d, n, e, b"text");
@@ -741,7 +741,7 @@ fn text_in(d: &[u8], at: usize) -> bool
 // Whether what stands from a place to the end of d is content as of a label, with no unknown attribute.
 pub fn is_text(latin: bool, d: &[u8], at: usize) -> bool
     requires { ⌜ at ≤ length (now d) ⌝ }
-    ensures { λ r. ⌜ r ≡ textOf latin (now (d .entry)) at ⌝ }
+    ensures { λ r. ⌜ r ≡ isText latin (now (d .entry)) at ⌝ }
 {
     let q = utf::first_bad(latin, d, at);
     if q != d.len() {

@@ -17,7 +17,7 @@ use Rattle.sound.specs.rule.Rows.{rowsOf}
 use Rattle.writes.specs.rule.Public.{refusalOf, recordAfter, Written}
 use Rattle.laws.specs.Writing.{refused-keeps, others-unchanged, read-back}
 use Rattle.corrections.specs.declared.Correction.{Correction}
-use Rattle.corrections.specs.rule.Correction.{Asked, asks, otherTruth, otherKind, askedOf, markBy, recordBy, markOf, writtenBy}
+use Rattle.corrections.specs.rule.Correction.{Asked, asks, otherTruth, otherKind, askedOf, markBy, recordBy, markOf, correctedBy}
 use Rattle.corrections.specs.rule.Correction.{writtenAll, wholeRefusal, recordLeft, ListCorrected}
 use Rattle.corrections.specs.Correction.{length-kept}
 use Rattle.correction_laws.specs.rule.Singles.{Clear, over, refused, apart}
@@ -58,10 +58,10 @@ clear-kept : (t : List ℤ) (n i : ℕ) (list : List Correction) (s : List ℕ) 
 unfolding writtenAll
 clear-kept t n i [] s e over = refl
 clear-kept t n i (c ∷ cs) s e (refused f k) =
-    let h : writtenBy t s c ≡ s = refused-by t (c .row) (askedOf (c .value)) s (rw (← e) at f) in
+    let h : correctedBy t s c ≡ s = refused-by t (c .row) (askedOf (c .value)) s (rw (← e) at f) in
     rw h (clear-kept t n i cs s e k)
 clear-kept t n i (c ∷ cs) s e (apart o k) =
-    clear-kept t n i cs (writtenBy t s c) (length-kept t (c .row) (askedOf (c .value)) s ∙ e) k
+    clear-kept t n i cs (correctedBy t s c) (length-kept t (c .row) (askedOf (c .value)) s ∙ e) k
     ∙ apart-by t i (c .row) (askedOf (c .value)) s o
 
 -- the corrections of two lists, one after the other
@@ -69,15 +69,15 @@ all-joined : (t : List ℤ) (before after : List Correction) (s : List ℕ)
     → writtenAll t (before ++ after) s ≡ writtenAll t after (writtenAll t before s)
 unfolding writtenAll
 all-joined t [] after s = refl
-all-joined t (c ∷ cs) after s = all-joined t cs after (writtenBy t s c)
+all-joined t (c ∷ cs) after s = all-joined t cs after (correctedBy t s c)
 
 -- a correction that is written, and those after it that leave its row alone
 after-it : (t : List ℤ) (c : Correction) (after : List Correction) (x : Value) (n : ℕ) (s : List ℕ)
-    → Written t (c .row) x s (recordAfter t (c .row) x s) 0 → writtenBy t s c ≡ recordAfter t (c .row) x s → length s ≡ n
+    → Written t (c .row) x s (recordAfter t (c .row) x s) 0 → correctedBy t s c ≡ recordAfter t (c .row) x s → length s ≡ n
     → Clear t n (c .row) after → reads t (c .row) (writtenAll t (c ∷ after) s) ≡ holds x
 unfolding writtenAll
 after-it t c after x n s w here long clear =
-    clear-kept t n (c .row) after (writtenBy t s c) (length-kept t (c .row) (askedOf (c .value)) s ∙ long) clear
+    clear-kept t n (c .row) after (correctedBy t s c) (length-kept t (c .row) (askedOf (c .value)) s ∙ long) clear
     ∙ ap (reads t (c .row)) here ∙ read-back w
 
 -- THE LATER ACCEPTED ONE COUNTS
@@ -91,6 +91,6 @@ module _ {t : List ℤ} (before : List Correction) (c : Correction) {after list�
       let long : length s ≡ length old = length-all t before old in
       let m : refusalOf t i x (length s) ≡ 0 = rw long (rw asked at accepted) in
       let w : Written t i x s (recordAfter t i x s) 0 = rw m at (write-as t i x s) in
-      let here : writtenBy t s c ≡ recordAfter t i x s = rw asked in
+      let here : correctedBy t s c ≡ recordAfter t i x s = rw asked in
       let q : new ≡ writtenAll t (before ++ c ∷ after) old = p .leaves ∙ rw (← (p .says)) in
       ap (reads t i) (q ∙ all-joined t before (c ∷ after) old) ∙ after-it t c after x (length old) s w here long clear

@@ -13,8 +13,9 @@ use Rattle.writes.specs.rule.Public.{refusalOf, recordAfter, Written}
 use Rattle.corrections.specs.declared.Given.{Given}
 use Rattle.corrections.specs.declared.Correction.{Correction}
 use Rattle.corrections.specs.rule.Truth.{badTruth, NoTruth}
-use Rattle.corrections.specs.rule.Correction.{Asked, asks, otherTruth, otherKind, askedOf, markBy, recordBy, markOf, writtenBy, marked}
-use Rattle.corrections.specs.rule.Correction.{correctedAll, writtenAll, wholeRefusal, listAfter, recordLeft, ListCorrected}
+use Rattle.corrections.specs.rule.Correction.{Asked, asks, otherTruth, otherKind, askedOf, markBy, recordBy, markOf, correctedBy}
+use Rattle.corrections.specs.rule.Correction.{markedWith}
+use Rattle.corrections.specs.rule.Correction.{correctedAll, writtenAll, wholeRefusal, correctionsAfter, recordLeft, ListCorrected}
 use Rattle.corrections.specs.Correction.{length-kept}
 use Rattle.correction_laws.specs.rule.Singles.{Single, written, no-truth, no-kind, Chain, none, one}
 
@@ -46,7 +47,7 @@ single-record (no-kind e w k) = rw e k
 chain-is : (t : List ℤ) (list : List Correction) (old : List ℕ) → Chain t list (correctedAll t list old) old (writtenAll t list old)
 unfolding correctedAll writtenAll
 chain-is t [] old = none
-chain-is t (c ∷ cs) old = one (single-is t (c .row) (c .value) old) (chain-is t cs (writtenBy t old c))
+chain-is t (c ∷ cs) old = one (single-is t (c .row) (c .value) old) (chain-is t cs (correctedBy t old c))
 
 chain-marks : {t : List ℤ} {list done : List Correction} {old new : List ℕ} → Chain t list done old new → done ≡ correctedAll t list old
 unfolding correctedAll
@@ -61,7 +62,7 @@ chain-record (one s c) = rw (chain-record c, single-record s)
 -- a call that is not turned away
 taken : {t : List ℤ} {list list′ : List Correction} {old new : List ℕ} → ListCorrected t list list′ old new 0
     → (list′ ≡ correctedAll t list old) × (new ≡ writtenAll t list old)
-unfolding listAfter recordLeft
+unfolding correctionsAfter recordLeft
 taken p = (p .marks ∙ rw (← (p .says)), p .leaves ∙ rw (← (p .says)))
 
 -- AS SINGLE WRITES: record and marks are what single writes in list order give
@@ -76,14 +77,14 @@ singles-as p c = (taken p .0 ∙ sym (chain-marks c), taken p .1 ∙ sym (chain-
 
 -- ---- A MARK DEPENDS on the table, its correction and the record's length alone
 marks-map : (t : List ℤ) (list : List Correction) (old : List ℕ) (n : ℕ) → length old ≡ n
-    → correctedAll t list old ≡ map (λ (c : Correction). marked c (markOf t c n)) list
+    → correctedAll t list old ≡ map (λ (c : Correction). markedWith c (markOf t c n)) list
 unfolding correctedAll
 marks-map t [] old n e = refl
 marks-map t (c ∷ cs) old n e =
-    rw (e, marks-map t cs (writtenBy t old c) n (length-kept t (c .row) (askedOf (c .value)) old ∙ e))
+    rw (e, marks-map t cs (correctedBy t old c) n (length-kept t (c .row) (askedOf (c .value)) old ∙ e))
 
 pub marks-alone : {t : List ℤ} {list list′ : List Correction} {old new : List ℕ} → ListCorrected t list list′ old new 0
-    → list′ ≡ map (λ (c : Correction). marked c (markOf t c (length old))) list
+    → list′ ≡ map (λ (c : Correction). markedWith c (markOf t c (length old))) list
 marks-alone {t} {list} {list′} {old} p = taken p .0 ∙ marks-map t list old (length old) refl
 
 -- ---- ONLY MARKS CHANGE: rows and values are kept, in their order
@@ -93,11 +94,11 @@ asking c = (c .row, c .value)
 asked-kept : (t : List ℤ) (list : List Correction) (old : List ℕ) → map asking (correctedAll t list old) ≡ map asking list
 unfolding correctedAll
 asked-kept t [] old = refl
-asked-kept t (c ∷ cs) old = rw (asked-kept t cs (writtenBy t old c))
+asked-kept t (c ∷ cs) old = rw (asked-kept t cs (correctedBy t old c))
 
 pub only-marks : {t : List ℤ} {list list′ : List Correction} {old new : List ℕ} {r : ℕ} → ListCorrected t list list′ old new r
     → map asking list′ ≡ map asking list
-unfolding listAfter
+unfolding correctionsAfter
 only-marks {t} {list} {list′} {old} p = ap (map asking) (p .marks) ∙ go (eqb (wholeRefusal t (length old)) 0)
   where
     go : (b : Bool) → map asking (cond b (correctedAll t list old) list) ≡ map asking list
@@ -108,7 +109,7 @@ only-marks {t} {list} {list′} {old} p = ap (map asking) (p .marks) ∙ go (eqb
 pub length-all : (t : List ℤ) (list : List Correction) (old : List ℕ) → length (writtenAll t list old) ≡ length old
 unfolding writtenAll
 length-all t [] old = refl
-length-all t (c ∷ cs) old = length-all t cs (writtenBy t old c) ∙ length-kept t (c .row) (askedOf (c .value)) old
+length-all t (c ∷ cs) old = length-all t cs (correctedBy t old c) ∙ length-kept t (c .row) (askedOf (c .value)) old
 
 pub record-length : {t : List ℤ} {list list′ : List Correction} {old new : List ℕ} {r : ℕ} → ListCorrected t list list′ old new r
     → length new ≡ length old
@@ -122,7 +123,7 @@ record-length {t} {list} {list′} {old} p = ap length (p .leaves) ∙ go (eqb (
 -- ---- A WHOLE REFUSAL KEEPS the record and every mark
 pub whole-refused-keeps : {t : List ℤ} {list list′ : List Correction} {old new : List ℕ} {r : ℕ} → (r ≡ 0 → ⊥)
     → ListCorrected t list list′ old new r → (list′ ≡ list) × (new ≡ old)
-unfolding listAfter recordLeft
+unfolding correctionsAfter recordLeft
 whole-refused-keeps {t} {list} {list′} {old} {new} {r} n p = go (eqb (wholeRefusal t (length old)) 0) refl (p .marks) (p .leaves)
   where
     go : (b : Bool) → eqb (wholeRefusal t (length old)) 0 ≡ b → list′ ≡ cond b (correctedAll t list old) list

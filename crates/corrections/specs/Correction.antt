@@ -19,7 +19,7 @@ use Rattle.sound.specs.rule.Sound.{wellFormed}
 use Rattle.sound.specs.rule.Rows.{rowsOf, lengthOf}
 use Rattle.writes.specs.declared.Value.{Value}
 use Rattle.writes.specs.declared.Value.the-variants.{Missing, Number, Truth}
-use Rattle.writes.specs.rule.Write.{valueOf}
+use Rattle.writes.specs.rule.Write.{lentValue}
 use Rattle.writes.specs.rule.Public.{refusalOf, recordAfter, Written}
 use Rattle.corrections.specs.declared.Given.{Given}
 use Rattle.corrections.specs.declared.Correction.{Correction}
@@ -34,7 +34,7 @@ blank = record { row = 0; value = record { kind = 0; number = pos 0 }; mark = 0 
 
 -- what the code's answer means, with a list and a text beside it that no correction uses
 unfoldable pub meant : List ℤ → List ℕ → Request → Asked
-meant list text (Write v) = asks (valueOf v list text)
+meant list text (Write v) = asks (lentValue v list text)
 meant list text OtherTruth = otherTruth
 meant list text OtherKind = otherKind
 
@@ -44,11 +44,11 @@ pub record Means (r : Request) (a : Asked) : Type 0 where
 -- a truth, by its number
 module _ (z : ℤ) where
   pub truth-no : eqZ z (pos 0) ≡ true → Means (Write (Truth false)) (truthAsked z)
-  unfolding meant valueOf truthAsked
+  unfolding meant lentValue truthAsked
   truth-no e = record { so = λ list text. rw e }
 
   pub truth-yes : eqZ z (pos 0) ≡ false → eqZ z (pos 1) ≡ true → Means (Write (Truth true)) (truthAsked z)
-  unfolding meant valueOf truthAsked
+  unfolding meant lentValue truthAsked
   truth-yes e f = record { so = λ list text. rw (e, f) }
 
   pub truth-none : eqZ z (pos 0) ≡ false → eqZ z (pos 1) ≡ false → Means OtherTruth (truthAsked z)
@@ -58,12 +58,12 @@ module _ (z : ℤ) where
 -- a value, by its kind
 module _ (g : Given) where
   pub asks-missing : g .kind ≡ 0 → Means (Write Missing) (askedOf g)
-  unfolding meant valueOf askedOf
+  unfolding meant lentValue askedOf
   asks-missing e = record { so = λ list text. rw (eq-eqb (g .kind) 0 e) }
 
   module _ (one : g .kind ≡ 0 → ⊥) where
     pub asks-number : g .kind ≡ 1 → Means (Write (Number (g .number))) (askedOf g)
-    unfolding meant valueOf askedOf
+    unfolding meant lentValue askedOf
     asks-number e = record { so = λ list text. rw (ne-eqb (g .kind) 0 one, eq-eqb (g .kind) 1 e) }
 
     module _ (two : g .kind ≡ 1 → ⊥) where
@@ -78,7 +78,7 @@ module _ (g : Given) where
 -- what was asked, and its write: the mark, and the record
 module _ (t : List ℤ) (i : ℕ) {a : Asked} (old : List ℕ) where
   pub given-written : {v : Value} (list : List ℤ) (text : List ℕ) {new : List ℕ} {m : ℕ} → Means (Write v) a
-      → Written t i (valueOf v list text) old new m → (m ≡ markBy t i (length old) a) × (new ≡ recordBy t i a old)
+      → Written t i (lentValue v list text) old new m → (m ≡ markBy t i (length old) a) × (new ≡ recordBy t i a old)
   unfolding meant markBy recordBy
   given-written list text q w = rw (← (q .so list text)) (w .says, w .leaves)
 

@@ -17,7 +17,8 @@ use mathlib.Core.List.{List, [], _∷_, _++_, append-assoc, append-nil}
 use lib.ListN.{length, take, drop, set, getD, length-set, drop-of-length-le}
 use lib.Seq.{drop-cons, take-suc-set, drop-set-lt, take-all}
 use Rattle.corrections.specs.declared.Correction.{Correction}
-use Rattle.corrections.specs.rule.Correction.{corrected, writtenBy, correctedAll, writtenAll, wholeRefusal, listAfter, recordLeft}
+use Rattle.corrections.specs.rule.Correction.{corrected, correctedBy, correctedAll, writtenAll, wholeRefusal, correctionsAfter}
+use Rattle.corrections.specs.rule.Correction.{recordLeft}
 use Rattle.corrections.specs.Correction.{blank, turnsOf}
 
 -- how many turns there are: all of the list, or none
@@ -36,14 +37,14 @@ pub record State (t : List ℤ) (xs : List Correction) (ss : List ℕ) : Type 0 
   pub still : i ≡ 0 → (ys ≡ xs) × (zs ≡ ss)
 
 pub marks-on : (t : List ℤ) (i : ℕ) (ys : List Correction) (zs : List ℕ) (r : Correction) (ws : List ℕ) → i < length ys → r
-    ≡ corrected t zs (getD ys i blank) → ws ≡ writtenBy t zs (getD ys i blank)
+    ≡ corrected t zs (getD ys i blank) → ws ≡ correctedBy t zs (getD ys i blank)
     → take (i + 1) (set ys i r) ++ correctedAll t (drop (i + 1) (set ys i r)) ws ≡ take i ys ++ correctedAll t (drop i ys) zs
 unfolding correctedAll
 marks-on t i ys zs r ws l e f =
     rw (add-one, take-suc-set ys i r l, drop-set-lt (suc i) ys i r (lt-suc-self i), append-assoc, drop-cons ys i blank l, e, f)
 
 pub bytes-on : (t : List ℤ) (i : ℕ) (ys : List Correction) (zs : List ℕ) (r : Correction) (ws : List ℕ) → i < length ys → ws
-    ≡ writtenBy t zs (getD ys i blank)
+    ≡ correctedBy t zs (getD ys i blank)
     → writtenAll t (drop (i + 1) (set ys i r)) ws ≡ writtenAll t (drop i ys) zs
 unfolding writtenAll
 bytes-on t i ys zs r ws l f = rw (add-one, drop-set-lt (suc i) ys i r (lt-suc-self i), drop-cons ys i blank l, f)
@@ -72,7 +73,7 @@ module _ {t : List ℤ} {xs : List Correction} {ss : List ℕ} where
   }
 
   abbrev pub next : (s : State t xs ss) (r : Correction) (ws : List ℕ) → s .i < turns t xs ss → s .i < length xs
-      → (r ≡ corrected t (s .zs) (getD (s .ys) (s .i) blank)) × (ws ≡ writtenBy t (s .zs) (getD (s .ys) (s .i) blank)) → length ws
+      → (r ≡ corrected t (s .zs) (getD (s .ys) (s .i) blank)) × (ws ≡ correctedBy t (s .zs) (getD (s .ys) (s .i) blank)) → length ws
       ≡ length (s .zs) → State t xs ss
   next s r ws m l e k = record {
     i = s .i + 1;
@@ -86,8 +87,8 @@ module _ {t : List ℤ} {xs : List Correction} {ss : List ℕ} where
     still = λ z. absurd (omega (arith, z));
   }
 
-  pub ended : (s : State t xs ss) → turns t xs ss ≤ s .i → (s .ys ≡ listAfter t xs ss) × (s .zs ≡ recordLeft t xs ss)
-  unfolding turnsOf listAfter recordLeft
+  pub ended : (s : State t xs ss) → turns t xs ss ≤ s .i → (s .ys ≡ correctionsAfter t xs ss) × (s .zs ≡ recordLeft t xs ss)
+  unfolding turnsOf correctionsAfter recordLeft
   ended s over = go (eqb (wholeRefusal t (length ss)) 0) refl
     where
       go : (b : Bool) → eqb (wholeRefusal t (length ss)) 0 ≡ b → (s .ys ≡ cond b (correctedAll t xs ss) xs)

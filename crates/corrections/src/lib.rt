@@ -6,11 +6,11 @@ ghost use mathlib.Core.List.{[]};
 ghost use lib.Dec.{leb};
 ghost use lib.ListN.{length};
 ghost use Rattle.sound.specs.rule.Rows.{rowsOf};
-ghost use Rattle.writes.specs.rule.Write.{valueOf};
-ghost use Rattle.writes.specs.rule.Public.{numberOf, Written};
+ghost use Rattle.writes.specs.rule.Write.{lentValue};
+ghost use Rattle.writes.specs.rule.Public.{writeNumber, Written};
 ghost use Rattle.writes.specs.declared.Value.the-variants as given;
 ghost use Rattle.corrections.specs.rule.Truth.{badTruth};
-ghost use Rattle.corrections.specs.rule.Correction.{truthAsked, askedOf, markBy, recordBy, corrected, writtenBy, wholeRefusal};
+ghost use Rattle.corrections.specs.rule.Correction.{truthAsked, askedOf, markBy, recordBy, corrected, correctedBy, wholeRefusal};
 ghost use Rattle.corrections.specs.Truth.{kindNumber};
 ghost use Rattle.corrections.specs.Correction.{Means, turnsOf};
 use layout::Header;
@@ -43,7 +43,7 @@ pub enum Request {
 
 // The number of a write's answer.
 pub fn number_of(w: Wrote) -> u64
-    ensures { λ r. ⌜ r ≡ numberOf w ⌝ }
+    ensures { λ r. ⌜ r ≡ writeNumber w ⌝ }
 {
     match w {
         Wrote::Done => 0,
@@ -103,7 +103,7 @@ pub fn write_admitted(
     bytes: &mut [u8],
 ) -> u64
     requires { ⌜ wholeRefusal (now table) (length (now bytes)) ≡ 0 ⌝ }
-    ensures { λ r. ⌜ Written (now (table .entry)) row (valueOf value (now (list .entry)) (now (text .entry))) (now (bytes .entry))
+    ensures { λ r. ⌜ Written (now (table .entry)) row (lentValue value (now (list .entry)) (now (text .entry))) (now (bytes .entry))
         (now (bytes .exit)) r ⌝ }
 {
     let h = Header::read(table);
@@ -184,7 +184,7 @@ fn asked_of(g: Given) -> Request
 // for what has digits. A missing value:
 fn blank_given(table: &[i64], i: usize, bytes: &mut [u8]) -> u64
     requires { ⌜ wholeRefusal (now table) (length (now bytes)) ≡ 0 ⌝ }
-    ensures { λ r. ⌜ Written (now (table .entry)) i (valueOf given.Missing [] []) (now (bytes .entry)) (now (bytes .exit)) r ⌝ }
+    ensures { λ r. ⌜ Written (now (table .entry)) i (lentValue given.Missing [] []) (now (bytes .entry)) (now (bytes .exit)) r ⌝ }
 {
     let h = Header::read(table);
     let rows = h.rows;
@@ -198,7 +198,7 @@ fn blank_given(table: &[i64], i: usize, bytes: &mut [u8]) -> u64
 // A number.
 fn number_given(table: &[i64], i: usize, z: i64, bytes: &mut [u8]) -> u64
     requires { ⌜ wholeRefusal (now table) (length (now bytes)) ≡ 0 ⌝ }
-    ensures { λ r. ⌜ Written (now (table .entry)) i (valueOf (given.Number z) [] []) (now (bytes .entry)) (now (bytes .exit)) r ⌝ }
+    ensures { λ r. ⌜ Written (now (table .entry)) i (lentValue (given.Number z) [] []) (now (bytes .entry)) (now (bytes .exit)) r ⌝ }
 {
     let h = Header::read(table);
     let rows = h.rows;
@@ -213,7 +213,7 @@ fn number_given(table: &[i64], i: usize, z: i64, bytes: &mut [u8]) -> u64
 // A truth.
 fn truth_given(table: &[i64], i: usize, b: bool, bytes: &mut [u8]) -> u64
     requires { ⌜ wholeRefusal (now table) (length (now bytes)) ≡ 0 ⌝ }
-    ensures { λ r. ⌜ Written (now (table .entry)) i (valueOf (given.Truth b) [] []) (now (bytes .entry)) (now (bytes .exit)) r ⌝ }
+    ensures { λ r. ⌜ Written (now (table .entry)) i (lentValue (given.Truth b) [] []) (now (bytes .entry)) (now (bytes .exit)) r ⌝ }
 {
     let h = Header::read(table);
     let rows = h.rows;
@@ -227,7 +227,7 @@ fn truth_given(table: &[i64], i: usize, b: bool, bytes: &mut [u8]) -> u64
 // The single write of a value, by its kind.
 fn write_asked(table: &[i64], row: usize, value: Value, text: &[u8], bytes: &mut [u8]) -> u64
     requires { ⌜ wholeRefusal (now table) (length (now bytes)) ≡ 0 ⌝ }
-    ensures { λ r. ⌜ Written (now (table .entry)) row (valueOf value (now (table .entry)) (now (text .entry))) (now (bytes .entry))
+    ensures { λ r. ⌜ Written (now (table .entry)) row (lentValue value (now (table .entry)) (now (text .entry))) (now (bytes .entry))
         (now (bytes .exit)) r ⌝ }
 {
     match value {
@@ -260,7 +260,7 @@ fn write_given(table: &[i64], row: usize, g: Given, bytes: &mut [u8]) -> u64
 pub fn correct(table: &[i64], bytes: &mut [u8], c: Correction) -> Correction
     requires { ⌜ wholeRefusal (now table) (length (now bytes)) ≡ 0 ⌝ }
     ensures { λ r. ⌜ (r ≡ corrected (now (table .entry)) (now (bytes .entry)) c)
-        × (now (bytes .exit) ≡ writtenBy (now (table .entry)) (now (bytes .entry)) c) ⌝ }
+        × (now (bytes .exit) ≡ correctedBy (now (table .entry)) (now (bytes .entry)) c) ⌝ }
 {
     let row = c.row;
     let v = c.value;

@@ -16,8 +16,8 @@ use Rattle.csv_fields.specs.declared.Cut.{Cut}
 use Rattle.csv_fields.specs.declared.Cut.the-variants.{Comma, Last, Torn}
 use Rattle.csv_fields.specs.declared.Stop.{Stop}
 use Rattle.csv_fields.specs.declared.Stop.the-variants as stop
-use Rattle.csv_fields.specs.rule.Page.{Page, over, torn, more, last, Mode, start, fresh, bare, ending, inside, closing}
-use Rattle.csv_fields.specs.rule.Page.{Step, skip, keep, comma, ended, wrong, bareStep, stepOf, withByte, taken, atEnd, page}
+use Rattle.csv_fields.specs.rule.Page.{Page, over, torn, more, last, PageMode, start, fresh, bare, ending, inside, closing}
+use Rattle.csv_fields.specs.rule.Page.{Step, skip, keep, comma, ended, wrong, bareStep, pageStep, withByte, taken, pageAtEnd, page}
 
 -- the bytes from one place to another
 abbrev pub part : List ℕ → ℕ → ℕ → List ℕ
@@ -100,15 +100,15 @@ special-quote b e = go (eqb b 44) (eqb b 34) (eqb b 13) (eqb b 10) e
     go false false false false e = (refl, refl, refl, refl)
 
 pub bare-keeps : (b : ℕ) (s : List ℕ) → isSpecial b ≡ false → page bare (b ∷ s) ≡ withByte b (page bare s)
-unfolding page stepOf bareStep taken
+unfolding page pageStep bareStep taken
 bare-keeps b s e = let q = special-quote b e in rw (q .0, q .1, q .2)
 
 pub inside-keeps : (b : ℕ) (s : List ℕ) → (b ≡ 34 → ⊥) → page inside (b ∷ s) ≡ withByte b (page inside s)
-unfolding page stepOf taken
+unfolding page pageStep taken
 inside-keeps b s e = rw (ne-eqb b 34 e)
 
 pub bare-stops : (b : ℕ) (s : List ℕ) → isSpecial b ≡ true → page bare (b ∷ s) ≡ stopPage (b ∷ s)
-unfolding page stepOf bareStep taken stopPage isSpecial
+unfolding page pageStep bareStep taken stopPage isSpecial
 bare-stops b s e = go (eqb b 44) (eqb b 34) (eqb b 13) (eqb b 10) e
   where
     go : (p q r u : Bool) → (p || (q || (r || u))) ≡ true
@@ -121,7 +121,7 @@ bare-stops b s e = go (eqb b 44) (eqb b 34) (eqb b 13) (eqb b 10) e
     go false false false false e = holds-not e refl
 
 pub closing-stops : (b : ℕ) (s : List ℕ) → eqb b 34 ≡ false → page closing (b ∷ s) ≡ stopPage (b ∷ s)
-unfolding page stepOf taken stopPage
+unfolding page pageStep taken stopPage
 closing-stops b s e = rw e (go (eqb b 44) (eqb b 13))
   where
     go : (p r : Bool) → taken (cond p comma (cond r (skip ending) wrong)) (λ m′. page m′ s)
@@ -294,35 +294,35 @@ module _ (d : List ℕ) (i : ℕ) where
   stop-cr h e = rw (drop-cons d i 0 h, e, add-one i)
 
   pub stop-cut : i < length d → getD d i 0 ≡ 13 → length d ≤ i + 1 → stopPage (drop i d) ≡ torn
-  unfolding page atEnd
+  unfolding page pageAtEnd
   stop-cut h e l = stop-cr h e ∙ rw (drop-of-length-le d l)
 
   pub stop-last : i < length d → getD d i 0 ≡ 13 → i + 1 < length d → getD d (i + 1) 0 ≡ 10 → stopPage (drop i d)
       ≡ last [] (page start (drop (i + 2) d))
-  unfolding page stepOf taken
+  unfolding page pageStep taken
   stop-last h e l g =
       let k : i + 1 + 1 ≡ i + 2 = omega arith in
       stop-cr h e ∙ ap (page ending) (next-at d (i + 1) l g) ∙ ap (λ (x : ℕ). last [] (page start (drop x d))) k
 
   pub stop-lone : i < length d → getD d i 0 ≡ 13 → i + 1 < length d → (getD d (i + 1) 0 ≡ 10 → ⊥) → stopPage (drop i d) ≡ torn
-  unfolding page stepOf taken
+  unfolding page pageStep taken
   stop-lone h e l g = stop-cr h e ∙ rw (drop-cons d (i + 1) 0 l, ne-eqb (getD d (i + 1) 0) 10 g)
 
 -- at the end of a text
 bare-over : (d : List ℕ) (i : ℕ) → length d ≤ i → page bare (drop i d) ≡ stopPage (drop i d)
-unfolding page stopPage atEnd
+unfolding page stopPage pageAtEnd
 bare-over d i h = rw (drop-of-length-le d h)
 
 closing-over : (d : List ℕ) (i : ℕ) → length d ≤ i → page closing (drop i d) ≡ stopPage (drop i d)
-unfolding page stopPage atEnd
+unfolding page stopPage pageAtEnd
 closing-over d i h = rw (drop-of-length-le d h)
 
 fresh-over : (d : List ℕ) (i : ℕ) → length d ≤ i → page fresh (drop i d) ≡ page bare (drop i d)
-unfolding page atEnd
+unfolding page pageAtEnd
 fresh-over d i h = rw (drop-of-length-le d h)
 
 fresh-other : (d : List ℕ) (i : ℕ) → i < length d → (getD d i 0 ≡ 34 → ⊥) → page fresh (drop i d) ≡ page bare (drop i d)
-unfolding page stepOf taken
+unfolding page pageStep taken
 fresh-other d i h n = rw (drop-cons d i 0 h, ne-eqb (getD d i 0) 34 n)
 
 -- a field without quotes has ended
@@ -339,11 +339,11 @@ bare-stands {d} {from} {to} a =
 
 -- ---- within quotes
 inside-quote : (d : List ℕ) (i : ℕ) → i < length d → getD d i 0 ≡ 34 → page inside (drop i d) ≡ page closing (drop (i + 1) d)
-unfolding page stepOf taken
+unfolding page pageStep taken
 inside-quote d i h e = rw (drop-cons d i 0 h, eq-eqb (getD d i 0) 34 e, add-one i)
 
 closing-quote : (d : List ℕ) (i : ℕ) → i < length d → getD d i 0 ≡ 34 → page closing (drop i d) ≡ withByte 34 (page inside (drop (i + 1) d))
-unfolding page stepOf taken
+unfolding page pageStep taken
 closing-quote d i h e = rw (drop-cons d i 0 h, eq-eqb (getD d i 0) 34 e, add-one i)
 
 closing-other : (d : List ℕ) (i : ℕ) → (i < length d → getD d i 0 ≡ 34 → ⊥) → page closing (drop i d) ≡ stopPage (drop i d)
@@ -422,7 +422,7 @@ inside-closed {d} {from} {to} {q} a r h n =
 -- quotes that don't
 pub inside-open : {d : List ℕ} {from to q : ℕ} {b : Bool} → InsideTo d from to b → QuoteTo d to q → length d ≤ q → page inside (drop from d)
     ≡ torn
-unfolding page atEnd
+unfolding page pageAtEnd
 inside-open {d} {q = q} a r h = let i = inside-run a r in i .reads ∙ rw (drop-of-length-le d h) (with-torn (i .f))
 
 -- ---- a field by what stops it
@@ -550,7 +550,7 @@ span-met d {read} {at} c {from} {to} {next} {b} {ends} {none} k s e = go ends re
 -- ---- where a field is due
 module _ (d : List ℕ) (i : ℕ) where
   pub fresh-quote : i < length d → getD d i 0 ≡ 34 → page fresh (drop i d) ≡ page inside (drop (i + 1) d)
-  unfolding page stepOf taken
+  unfolding page pageStep taken
   fresh-quote h e = rw (drop-cons d i 0 h, eq-eqb (getD d i 0) 34 e, add-one i)
 
   pub fresh-bare : (i < length d → getD d i 0 ≡ 34 → ⊥) → page fresh (drop i d) ≡ page bare (drop i d)
@@ -558,11 +558,11 @@ module _ (d : List ℕ) (i : ℕ) where
 
   -- where a line may start, one does unless the text is over
   pub start-fresh : i < length d → page start (drop i d) ≡ page fresh (drop i d)
-  unfolding page stepOf
+  unfolding page pageStep
   start-fresh h = rw (drop-cons d i 0 h)
 
   pub start-over : length d ≤ i → page start (drop i d) ≡ over
-  unfolding page atEnd
+  unfolding page pageAtEnd
   start-over h = rw (drop-of-length-le d h)
 
 -- a cut of what stands from one place to another, without quotes

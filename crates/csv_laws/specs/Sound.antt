@@ -10,10 +10,12 @@ use lib.Dec.{eqb}
 use lib.ListN.{length, length-append}
 use Rattle.below.specs.Below.{holds-not}
 use Rattle.commas.specs.rule.Csv.{isSpecial, holdsSpecial, doubledByte, doubled}
-use Rattle.csv_fields.specs.rule.Page.{Page, over, torn, more, last, Mode, start, fresh, bare, ending, inside, closing, skip, keep, comma}
+use Rattle.csv_fields.specs.rule.Page.{Page, over, torn, more, last, PageMode, start, fresh, bare, ending, inside, closing, skip, keep}
+use Rattle.csv_fields.specs.rule.Page.{comma}
 use Rattle.csv_fields.specs.rule.Page.{ended, wrong}
-use Rattle.csv_fields.specs.rule.Page.{bareStep, stepOf, withByte, taken, atEnd, page, Lines, done, broken, line, withField, linesOf}
-use Rattle.csv_laws.specs.rule.Grammar.{Spelt, plainly, quoted, IsLine, alone, and-more, IsText, no-line, and-lines, allOf}
+use Rattle.csv_fields.specs.rule.Page.{bareStep, pageStep, withByte, taken, pageAtEnd, page, Lines, done, broken, line, withField}
+use Rattle.csv_fields.specs.rule.Page.{pageLines}
+use Rattle.csv_laws.specs.rule.Grammar.{FieldSpelt, plainly, quoted, IsLine, alone, and-more, IsText, no-line, and-lines, allOf}
 use Rattle.csv_laws.specs.Complete.{text-read}
 
 -- a field that stands at the start of s, spelt as `body` says, and what stops it
@@ -38,7 +40,7 @@ front body body′ c g (at-torn q) = at-torn q
 
 -- behind a CR
 ending-parts : (body : List ℕ → List ℕ → Type 0) → body [] [] → (s : List ℕ) → Parts body (13 ∷ s) (page ending s)
-unfolding page atEnd stepOf taken
+unfolding page pageAtEnd pageStep taken
 ending-parts body k [] = at-torn refl
 ending-parts body k (b ∷ s) = go (eqb b 10) refl
   where
@@ -51,7 +53,7 @@ abbrev Bare : List ℕ → List ℕ → Type 0
 Bare f u = (u ≡ f) × (holdsSpecial f ≡ false)
 
 bare-parts : (s : List ℕ) → Parts Bare s (page bare s)
-unfolding page atEnd stepOf bareStep taken holdsSpecial isSpecial
+unfolding page pageAtEnd pageStep bareStep taken holdsSpecial isSpecial
 bare-parts [] = at-torn refl
 bare-parts (b ∷ s) = go (eqb b 44) (eqb b 13) (eqb b 34) (eqb b 10) refl refl refl refl (bare-parts s)
   where
@@ -84,12 +86,12 @@ abbrev Body : Bool → List ℕ → List ℕ → Type 0
 Body true f u = Closing f u
 Body false f u = Inside f u
 
-abbrev mode : Bool → Mode
+abbrev mode : Bool → PageMode
 mode true = closing
 mode false = inside
 
 quoted-parts : (s : List ℕ) (c : Bool) → Parts (Body c) s (page (mode c) s)
-unfolding page atEnd stepOf taken
+unfolding page pageAtEnd pageStep taken
 quoted-parts [] true = at-torn refl
 quoted-parts [] false = at-torn refl
 quoted-parts (b ∷ s) false = go (eqb b 34) refl (quoted-parts s true) (quoted-parts s false)
@@ -115,25 +117,25 @@ same-parts body body′ g z (at-end f u w k e q) = at-end f u w (g f u k) e (z �
 same-parts body body′ g z (at-torn q) = at-torn (z ∙ q)
 
 fresh-quote : (s : List ℕ) → page fresh (34 ∷ s) ≡ page inside s
-unfolding page stepOf taken
+unfolding page pageStep taken
 fresh-quote s = refl
 
 fresh-other : (b : ℕ) (s : List ℕ) → eqb b 34 ≡ false → page fresh (b ∷ s) ≡ page bare (b ∷ s)
-unfolding page stepOf
+unfolding page pageStep
 fresh-other b s e = rw e
 
 fresh-none : page fresh [] ≡ torn
-unfolding page atEnd
+unfolding page pageAtEnd
 fresh-none = refl
 
-fresh-parts : (s : List ℕ) → Parts Spelt s (page fresh s)
+fresh-parts : (s : List ℕ) → Parts FieldSpelt s (page fresh s)
 fresh-parts [] = at-torn fresh-none
 fresh-parts (b ∷ s) = go (eqb b 34) refl
   where
-    go : (q : Bool) → eqb b 34 ≡ q → Parts Spelt (b ∷ s) (page fresh (b ∷ s))
-    go true e = rw (eqb-true b 34 e) (same-parts Spelt Spelt (λ f u k. k) (fresh-quote s)
-        (front Inside Spelt 34 (λ f u k. quoted (ap (λ (x : List ℕ). 34 ∷ x) k)) (quoted-parts s false)))
-    go false e = same-parts Bare Spelt (λ f u k. plainly (k .1) (k .0)) (fresh-other b s e) (bare-parts (b ∷ s))
+    go : (q : Bool) → eqb b 34 ≡ q → Parts FieldSpelt (b ∷ s) (page fresh (b ∷ s))
+    go true e = rw (eqb-true b 34 e) (same-parts FieldSpelt FieldSpelt (λ f u k. k) (fresh-quote s)
+        (front Inside FieldSpelt 34 (λ f u k. quoted (ap (λ (x : List ℕ). 34 ∷ x) k)) (quoted-parts s false)))
+    go false e = same-parts Bare FieldSpelt (λ f u k. plainly (k .1) (k .0)) (fresh-other b s e) (bare-parts (b ∷ s))
 
 -- ---- a line
 record Derived (fs : List (List ℕ)) (ls : Lines) (s : List ℕ) : Type 0 where
@@ -141,7 +143,7 @@ record Derived (fs : List (List ℕ)) (ls : Lines) (s : List ℕ) : Type 0 where
   pub w : List ℕ
   pub is : s ≡ u ++ w
   pub derives : IsLine fs u
-  pub rest : linesOf (page start w) ≡ ls
+  pub rest : pageLines (page start w) ≡ ls
 
 no-line-in : {A : Type 0} {fs : List (List ℕ)} {ls : Lines} (c : ℕ) → broken c ≡ line fs ls → A
 no-line-in c e = let z : _≡_ {A = ℕ} 0 1 = cc in absurd (omega arith)
@@ -152,18 +154,19 @@ done-line e = let z : _≡_ {A = ℕ} 0 1 = cc in absurd (omega arith)
 broken-done : {A : Type 0} (c : ℕ) → broken c ≡ done → A
 broken-done c e = let z : _≡_ {A = ℕ} 0 1 = cc in absurd (omega arith)
 
-line-sound : (n : ℕ) (s : List ℕ) → length s < n → (fs : List (List ℕ)) (ls : Lines) → linesOf (page fresh s) ≡ line fs ls → Derived fs ls s
-unfolding linesOf withField
+line-sound : (n : ℕ) (s : List ℕ) → length s < n → (fs : List (List ℕ)) (ls : Lines) → pageLines (page fresh s) ≡ line fs ls
+    → Derived fs ls s
+unfolding pageLines withField
 line-sound zero s h fs ls e = absurd (omega arith)
 line-sound (suc n) s h fs ls e = by (λ w l gs ms y. line-sound n w l gs ms y) (fresh-parts s)
   where
-    by : ((w : List ℕ) → length w < n → (gs : List (List ℕ)) (ms : Lines) → linesOf (page fresh w) ≡ line gs ms → Derived gs ms w)
-        → Parts Spelt s (page fresh s) → Derived fs ls s
-    by rec (at-torn q) = no-line-in 1 (sym (ap linesOf q) ∙ e)
+    by : ((w : List ℕ) → length w < n → (gs : List (List ℕ)) (ms : Lines) → pageLines (page fresh w) ≡ line gs ms → Derived gs ms w)
+        → Parts FieldSpelt s (page fresh s) → Derived fs ls s
+    by rec (at-torn q) = no-line-in 1 (sym (ap pageLines q) ∙ e)
     by rec (at-end f u w k i q) =
-        let x : line (f ∷ []) (linesOf (page start w)) ≡ line fs ls = sym (ap linesOf q) ∙ e in
+        let x : line (f ∷ []) (pageLines (page start w)) ≡ line fs ls = sym (ap pageLines q) ∙ e in
         let a : f ∷ [] ≡ fs = cc in
-        let b : linesOf (page start w) ≡ ls = cc in
+        let b : pageLines (page start w) ≡ ls = cc in
         record {
           u = u ++ (13 ∷ 10 ∷ []);
           w = w;
@@ -174,9 +177,9 @@ line-sound (suc n) s h fs ls e = by (λ w l gs ms y. line-sound n w l gs ms y) (
         }
     by rec (at-comma f u w k i q) =
         let l : length w < n = omega (arith, length-append u (44 ∷ w), ap length i) in
-        go (linesOf (page fresh w)) refl (sym (ap linesOf q) ∙ e) l
+        go (pageLines (page fresh w)) refl (sym (ap pageLines q) ∙ e) l
       where
-        go : (x : Lines) → linesOf (page fresh w) ≡ x → withField f x ≡ line fs ls → length w < n → Derived fs ls s
+        go : (x : Lines) → pageLines (page fresh w) ≡ x → withField f x ≡ line fs ls → length w < n → Derived fs ls s
         go done y z l = done-line z
         go (broken c) y z l = no-line-in (c + 1) z
         go (line gs ms) y z l =
@@ -196,40 +199,41 @@ line-some (alone {u = u} k e) = rw e (omega (arith, length-append u (13 ∷ 10 �
 line-some (and-more {u = u} {w = w} k l e) = rw e (omega (arith, length-append u (44 ∷ w)))
 
 -- a line that is due is there, or malformed
-never-done : (n : ℕ) (s : List ℕ) → length s < n → linesOf (page fresh s) ≡ done → ⊥
-unfolding linesOf withField
+never-done : (n : ℕ) (s : List ℕ) → length s < n → pageLines (page fresh s) ≡ done → ⊥
+unfolding pageLines withField
 never-done zero s h e = absurd (omega arith)
 never-done (suc n) s h e = by (λ w l y. never-done n w l y) (fresh-parts s)
   where
-    by : ((w : List ℕ) → length w < n → linesOf (page fresh w) ≡ done → ⊥) → Parts Spelt s (page fresh s) → ⊥
-    by rec (at-torn q) = broken-done 1 (sym (ap linesOf q) ∙ e)
-    by rec (at-end f u w k i q) = done-line (sym (sym (ap linesOf q) ∙ e))
-    by rec (at-comma f u w k i q) = go (linesOf (page fresh w)) refl (sym (ap linesOf q) ∙ e)
+    by : ((w : List ℕ) → length w < n → pageLines (page fresh w) ≡ done → ⊥) → Parts FieldSpelt s (page fresh s) → ⊥
+    by rec (at-torn q) = broken-done 1 (sym (ap pageLines q) ∙ e)
+    by rec (at-end f u w k i q) = done-line (sym (sym (ap pageLines q) ∙ e))
+    by rec (at-comma f u w k i q) = go (pageLines (page fresh w)) refl (sym (ap pageLines q) ∙ e)
       where
-        go : (x : Lines) → linesOf (page fresh w) ≡ x → withField f x ≡ done → ⊥
+        go : (x : Lines) → pageLines (page fresh w) ≡ x → withField f x ≡ done → ⊥
         go done y z = rec w (omega (arith, length-append u (44 ∷ w), ap length i)) y
         go (broken c) y z = broken-done (c + 1) z
         go (line gs ms) y z = done-line (sym z)
 
 start-due : (b : ℕ) (s : List ℕ) → page start (b ∷ s) ≡ page fresh (b ∷ s)
-unfolding page stepOf
+unfolding page pageStep
 start-due b s = refl
 
-start-over : linesOf (page start []) ≡ done
-unfolding page atEnd linesOf
+start-over : pageLines (page start []) ≡ done
+unfolding page pageAtEnd pageLines
 start-over = refl
 
-text-sound : (n : ℕ) (s : List ℕ) → length s < n → (ls : List (List (List ℕ))) → linesOf (page start s) ≡ allOf ls → IsText ls s
+text-sound : (n : ℕ) (s : List ℕ) → length s < n → (ls : List (List (List ℕ))) → pageLines (page start s) ≡ allOf ls → IsText ls s
 unfolding allOf
 text-sound zero s h ls e = absurd (omega arith)
 text-sound (suc n) [] h [] e = no-line refl
 text-sound (suc n) [] h (l ∷ ls) e = done-line (sym start-over ∙ e)
-text-sound (suc n) (b ∷ s) h [] e = absurd (never-done (suc (suc (length s))) (b ∷ s) (omega arith) (sym (ap linesOf (start-due b s)) ∙ e))
+text-sound (suc n) (b ∷ s) h [] e = absurd (never-done (suc (suc (length s))) (b ∷ s) (omega arith)
+    (sym (ap pageLines (start-due b s)) ∙ e))
 text-sound (suc n) (b ∷ s) h (l ∷ ls) e =
-    let d = line-sound (suc (suc (length s))) (b ∷ s) (omega arith) l (allOf ls) (sym (ap linesOf (start-due b s)) ∙ e) in
+    let d = line-sound (suc (suc (length s))) (b ∷ s) (omega arith) l (allOf ls) (sym (ap pageLines (start-due b s)) ∙ e) in
     and-lines (d .derives) (text-sound n (d .w) (omega (arith, line-some (d .derives), length-append (d .u) (d .w), ap length (d .is))) ls
     (d .rest)) (d .is)
 
 -- A TEXT IS READ AS THESE LINES EXACTLY WHEN the grammar derives them from it
-pub text-exactly : (s : List ℕ) (ls : List (List (List ℕ))) → (linesOf (page start s) ≡ allOf ls) ↔ IsText ls s
+pub text-exactly : (s : List ℕ) (ls : List (List (List ℕ))) → (pageLines (page start s) ≡ allOf ls) ↔ IsText ls s
 text-exactly s ls = (text-sound (suc (length s)) s (omega arith) ls, text-read)

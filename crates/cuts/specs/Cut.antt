@@ -15,7 +15,8 @@ use Rattle.lows.specs.rule.Lows.{lowAt}
 use Rattle.lows.specs.Lows.{Clear}
 use Rattle.cuts.specs.declared.Terminator.{Terminator}
 use Rattle.cuts.specs.declared.Next.the-variants.{Ended, Unended, Nothing}
-use Rattle.cuts.specs.rule.Cut.{single, pair, none, beginsWith, terminatorAt, terminatorOf, wholeAt, beginsAt, endFrom, nextFrom}
+use Rattle.cuts.specs.rule.Cut.{oneByte, twoBytes, noEnding, beginsWith, terminatorAt, terminatorOf, wholeAt, beginsAt, endFrom}
+use Rattle.cuts.specs.rule.Cut.{nextFrom}
 use Rattle.cuts.specs.rule.Cut.{Found}
 
 -- the first place of d from `from` on where a byte below 32 stands, or the end
@@ -56,7 +57,7 @@ module _ (d : List ℕ) (i : ℕ) where
   unfolding terminatorOf
   found-on h n m = rw (drop-cons d i 0 h, ne-eqb (getD d i 0) 13 n, ne-eqb (getD d i 0) 10 m, add-one i)
 
-  pub found-none : length d ≤ i → terminatorOf (drop i d) ≡ none
+  pub found-none : length d ≤ i → terminatorOf (drop i d) ≡ noEnding
   unfolding terminatorOf
   found-none h = rw (drop-of-length-le d h)
 
@@ -94,7 +95,7 @@ pub at-few : (a b : ℕ) (s : List ℕ) → terminatorAt a b s .size ≤ 2
 unfolding terminatorAt
 at-few a b s = go (beginsWith b s)
   where
-    go : (q : Bool) → cond q (pair a b) (single a b) .size ≤ 2
+    go : (q : Bool) → cond q (twoBytes a b) (oneByte a b) .size ≤ 2
     go true = omega arith
     go false = omega arith
 
@@ -103,7 +104,7 @@ at-low : (a b : ℕ) (s : List ℕ) → a < 32 → terminatorAt a b s .first < 3
 unfolding terminatorAt
 at-low a b s h = go (beginsWith b s)
   where
-    go : (q : Bool) → cond q (pair a b) (single a b) .first < 32
+    go : (q : Bool) → cond q (twoBytes a b) (oneByte a b) .first < 32
     go true = h
     go false = h
 

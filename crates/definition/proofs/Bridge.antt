@@ -33,7 +33,7 @@ use Rattle.reading.specs.rule.Result as reading
 use Rattle.reading.specs.rule.Token.{onWord, word, either}
 use Rattle.reading.specs.rule.Statement.{notes, statement}
 use Rattle.reading.specs.rule.Variable.{variable}
-use Rattle.reading.specs.rule.Whole.{another, front, ends, survey, surveyOf}
+use Rattle.reading.specs.rule.Whole.{anotherVariable, front, ends, survey, surveyOf}
 use Rattle.bridge.specs.Tokens.{toReading, word-on}
 use Rattle.bridge.specs.Notes.{notes-on, statement-on}
 use Rattle.bridge.specs.Blocks.{lines-count, lines-cells}
@@ -42,10 +42,11 @@ use Rattle.bridge.specs.Fronts.{SameFront, fronts, stopped, front-on}
 use Rattle.definition.specs.Books.{Variables, Course, course, endOr, entered, variableStep, variablesFrom, endsOn, Read, Whole}
 use Rattle.definition.specs.Books.{Faulty, closed, judged}
 use Rattle.definition.specs.Books as books
-use Rattle.definition.specs.rule.Definition.{Outcome, Built, Refusal, fitting, namesOf, quoteAt, judgeNames, settled, outcomeOf}
-use Rattle.definition.specs.rule.Definition.{answerOf, tableAfter}
-use Rattle.laying.specs.rule.Begins.{begins}
-use Rattle.definition.specs.rule.Against.{held}
+use Rattle.definition.specs.rule.Definition.{SssOutcome, Built, Refusal, sssFitting, namesOf, quoteAt, judgeNames, sssSettled}
+use Rattle.definition.specs.rule.Definition.{sssOutcome}
+use Rattle.definition.specs.rule.Definition.{sssAnswer, sssTableAfter}
+use Rattle.laying.specs.rule.Begins.{beginsTable}
+use Rattle.definition.specs.rule.Against.{sssHeld}
 use Rattle.definition.specs.declared.Against.{Against}
 use Rattle.definition.specs.declared.Against.the-variants as against
 
@@ -144,8 +145,8 @@ module _ (d : List ℕ) where
   entry-same l m s r = rw (sames-count s, sames-lines s) (entry-on d (kept.identMet l) m (sames-met s) r)
 
   variable-step : (l : List kept.Variable) (m : List Variable) → Sames d l m → (n : ℕ)
-      → Step (length l) (variableStep d (course (At n) l)) (another d m n)
-  unfolding variableStep another
+      → Step (length l) (variableStep d (course (At n) l)) (anotherVariable d m n)
+  unfolding variableStep anotherVariable
   variable-step l m s n = by refl (entry-same l m s (Is n n)) where
     by : {e : Entry} {q : Result Variable} → entry-in l (At n) ≡ e → SameEntry d e q
         → Step (length l) (entered d l e)
@@ -169,15 +170,15 @@ module _ (d : List ℕ) where
 
   -- as many turns as variables may still come are enough
   variables-turns : (f g : ℕ) (l : List kept.Variable) (m : List Variable) (n : ℕ) → Sames d l m → 512 - length l < f → 512 - length l < g
-      → SameVariables d (loopOf (variableStep d) out f (course (At n) l)) (repeat g (another d) m n)
+      → SameVariables d (loopOf (variableStep d) out f (course (At n) l)) (repeat g (anotherVariable d) m n)
   unfolding loopOf repeat
   variables-turns zero g l m n s i j = absurd (omega arith)
   variables-turns (suc f) zero l m n s i j = absurd (omega arith)
   variables-turns (suc f) (suc g) l m n s i j = by (variable-step l m s n) (variables-turns f g) where
     by : {r : Next Course Variables} {q : Result (Next (List Variable) (List Variable))} → Step (length l) r q
         → ((l : List kept.Variable) (m : List Variable) (n : ℕ) → Sames d l m → 512 - length l < f → 512 - length l < g
-        → SameVariables d (loopOf (variableStep d) out f (course (At n) l)) (repeat g (another d) m n))
-        → SameVariables d (onNext r (loopOf (variableStep d) out f)) (bind q (reading.turn (repeat g (another d))))
+        → SameVariables d (loopOf (variableStep d) out f (course (At n) l)) (repeat g (anotherVariable d) m n))
+        → SameVariables d (onNext r (loopOf (variableStep d) out f)) (bind q (reading.turn (repeat g (anotherVariable d))))
     by (on {l = l} {m = m} {n = n} s e k) ih = ih l m n s (omega arith) (omega arith)
     by (over s) ih = gives s
     by (stuck {l = l} {m = m} {f = e} s u k) ih = rw (no-variable f e l m s (omega arith)) refuses
@@ -214,11 +215,12 @@ surveyWith h l = record { heading = h; variables = l }
 
 -- what is said of a table held against the outcome
 unfoldable pub heldIn : books.Outcome → List ℤ → Against
-heldIn (books.Built l) t = cond (begins (kept.tableOf l) t) against.Same against.Other
+heldIn (books.Built l) t = cond (beginsTable (kept.tableOf l) t) against.Same against.Other
 heldIn (books.Refusal k p) t = against.Refused k p
 
 module _ (d : List ℕ) where
-  variables-from : (n : ℕ) (t : Reading) → t ≡ At n → SameVariables d (variablesFrom d (course t [])) (repeat (suc 512) (another d) [] n)
+  variables-from : (n : ℕ) (t : Reading) → t ≡ At n
+      → SameVariables d (variablesFrom d (course t [])) (repeat (suc 512) (anotherVariable d) [] n)
   unfolding variablesFrom
   variables-from n t e = rw e (variables-turns d (suc (512 - 0)) (suc 512) [] [] n none (omega arith) (omega arith))
 
@@ -246,17 +248,17 @@ module _ (d : List ℕ) where
 
     by : {o : Front} {r : Result Heading} → SameFront o r
         → SameRead d (closed d o (variablesFrom d (course (o .next) [])))
-        (bind r λ h n. bind (repeat (suc 512) (another d) [] n) λ m n. bind (ends d n) λ a n. Is (surveyWith h m) n)
+        (bind r λ h n. bind (repeat (suc 512) (anotherVariable d) [] n) λ m n. bind (ends d n) λ a n. Is (surveyWith h m) n)
     by (fronts {o = o} {h = h} {n = n} i e) = at-variables o h e (variables-from n (o .next) i)
     by (stopped {o = o} {f = f} i) = at-refused o (variables-none f (o .next) i)
 
   -- ---- the outcome
-  pub data SameOutcome : books.Outcome → Outcome → Type 0 where
+  pub data SameOutcome : books.Outcome → SssOutcome → Type 0 where
     built : {l : List kept.Variable} {m : List Variable} → Sames d l m → SameOutcome (books.Built l) (Built m)
     refused : {k p : ℕ} → SameOutcome (books.Refusal k p) (Refusal k p)
 
-  fitting-same : (n : ℕ) {l : List kept.Variable} {m : List Variable} → Sames d l m → SameOutcome (books.fitting n l) (fitting n m)
-  unfolding books.fitting fitting
+  fitting-same : (n : ℕ) {l : List kept.Variable} {m : List Variable} → Sames d l m → SameOutcome (books.fitting n l) (sssFitting n m)
+  unfolding books.fitting sssFitting
   fitting-same n {l} {m} s = rw (sames-table s) (by (ltb n (length (tableOf m)))) where
     by : (q : Bool) → SameOutcome (cond q (books.Refusal 10 0) (books.Built l)) (cond q (Refusal 10 0) (Built m))
     by true = refused
@@ -270,44 +272,44 @@ module _ (d : List ℕ) where
       (rw (sames-quote s (nameFault (namesOf d m)))
       (by standard (ltb (nameFault (namesOf d m)) (length m)) (quoteAt m (nameFault (namesOf d m))))) where
         by : (a b : Bool) (p : ℕ) → SameOutcome (cond a (cond b (books.Refusal 9 p) (books.fitting n l)) (books.fitting n l))
-            (cond a (cond b (Refusal 9 p) (fitting n m)) (fitting n m))
+            (cond a (cond b (Refusal 9 p) (sssFitting n m)) (sssFitting n m))
         by true true p = refused
         by true false p = fitting-same n s
         by false b p = fitting-same n s
 
-  pub outcome-same : (n : ℕ) → SameOutcome (books.outcomeIn d n) (outcomeOf d n)
-  unfolding books.outcomeIn outcomeOf
+  pub outcome-same : (n : ℕ) → SameOutcome (books.outcomeIn d n) (sssOutcome d n)
+  unfolding books.outcomeIn sssOutcome
   outcome-same n = by (ltb 1048576 (length d)) survey-same where
-    on : {r : Read} {q : Result Survey} → SameRead d r q → SameOutcome (judged d n r) (settled d n q)
+    on : {r : Read} {q : Result Survey} → SameRead d r q → SameOutcome (judged d n r) (sssSettled d n q)
     on (whole {t = t} e s) = rw e (named-same n (t .heading .standard) s)
     on faulty = refused
 
     by : (q : Bool) → SameRead d (books.surveyOf d) (surveyOf d)
-        → SameOutcome (cond q (books.Refusal 1 0) (judged d n (books.surveyOf d))) (cond q (Refusal 1 0) (settled d n (surveyOf d)))
+        → SameOutcome (cond q (books.Refusal 1 0) (judged d n (books.surveyOf d))) (cond q (Refusal 1 0) (sssSettled d n (surveyOf d)))
     by true s = refused
     by false s = on s
 
-  answers : {o : books.Outcome} {q : Outcome} → SameOutcome o q → books.answerIn o ≡ answerOf q
-  unfolding books.answerIn answerOf
+  answers : {o : books.Outcome} {q : SssOutcome} → SameOutcome o q → books.answerIn o ≡ sssAnswer q
+  unfolding books.answerIn sssAnswer
   answers (built s) = rw (sames-count s, sames-lines s)
   answers refused = refl
 
-  tables : {o : books.Outcome} {q : Outcome} → SameOutcome o q → (t : List ℤ) → books.tableIn o t ≡ tableAfter q t
-  unfolding books.tableIn tableAfter
+  tables : {o : books.Outcome} {q : SssOutcome} → SameOutcome o q → (t : List ℤ) → books.tableIn o t ≡ sssTableAfter q t
+  unfolding books.tableIn sssTableAfter
   tables (built s) t = rw (sames-table s)
   tables refused t = refl
 
-  pub answer-same : (n : ℕ) → books.answerIn (books.outcomeIn d n) ≡ answerOf (outcomeOf d n)
+  pub answer-same : (n : ℕ) → books.answerIn (books.outcomeIn d n) ≡ sssAnswer (sssOutcome d n)
   answer-same n = answers (outcome-same n)
 
-  pub table-same : (n : ℕ) (t : List ℤ) → books.tableIn (books.outcomeIn d n) t ≡ tableAfter (outcomeOf d n) t
+  pub table-same : (n : ℕ) (t : List ℤ) → books.tableIn (books.outcomeIn d n) t ≡ sssTableAfter (sssOutcome d n) t
   table-same n t = tables (outcome-same n) t
 
   -- a table held against it
-  against-by : {o : books.Outcome} {q : Outcome} → SameOutcome o q → (t : List ℤ) → heldIn o t ≡ held q t
+  against-by : {o : books.Outcome} {q : SssOutcome} → SameOutcome o q → (t : List ℤ) → heldIn o t ≡ sssHeld q t
   unfolding heldIn
   against-by (built s) t = rw (sames-table s)
   against-by refused t = refl
 
-  pub against-same : (n : ℕ) (t : List ℤ) → heldIn (books.outcomeIn d n) t ≡ held (outcomeOf d n) t
+  pub against-same : (n : ℕ) (t : List ℤ) → heldIn (books.outcomeIn d n) t ≡ sssHeld (sssOutcome d n) t
   against-same n t = against-by (outcome-same n) t

@@ -38,7 +38,7 @@ use Rattle.definition.specs.Books.{Refusal, fitting, named, judged, outc
 use Rattle.definition.specs.rule.Definition as rule
 use Rattle.definition.proofs.Bridge.{SameOutcome, outcome-same, table-same}
 use Rattle.definition.proofs.Bridge as bridge
-use Rattle.definition.specs.rule.Definition.{DefinitionRead}
+use Rattle.definition.specs.rule.Definition.{SssRead}
 use Rattle.definition.specs.declared.Answer.{Answer}
 use Rattle.definition.specs.Books as variables
 use Rattle.definition.proofs.Courses.{next-entry}
@@ -154,15 +154,15 @@ in-well-formed d t l e =
     rw e (table-well-formed l t (g .0) (g .1) (g .2))
 
 -- so is the table of every survey that the rule reads
-pub read-well-formed : (d : List ℕ) (t : List ℤ) (l : List survey.Variable) → rule.outcomeOf d (length t) ≡ rule.Built l
-    → wellFormed (rule.tableAfter (rule.outcomeOf d (length t)) t) ≡ true
+pub read-well-formed : (d : List ℕ) (t : List ℤ) (l : List survey.Variable) → rule.sssOutcome d (length t) ≡ rule.Built l
+    → wellFormed (rule.sssTableAfter (rule.sssOutcome d (length t)) t) ≡ true
 read-well-formed d t l e = rw (← table-same d (length t) t) (by refl e (outcome-same d (length t))) where
-  by : {o : Outcome} {q : rule.Outcome} → outcomeIn d (length t) ≡ o → q ≡ rule.Built l → SameOutcome d o q
+  by : {o : Outcome} {q : rule.SssOutcome} → outcomeIn d (length t) ≡ o → q ≡ rule.Built l → SameOutcome d o q
       → wellFormed (tableIn (outcomeIn d (length t)) t) ≡ true
   by i j (bridge.built {l = m} s) = in-well-formed d t m i
   by i j bridge.refused = none cc
 
 -- ---- NO TWO OUTCOMES: the contract settles the answer and the table
-pub definition-settled : {d : List ℕ} {t t₁ t₂ : List ℤ} {r₁ r₂ : Answer} → DefinitionRead d t t₁ r₁ → DefinitionRead d t t₂ r₂ → (r₁ ≡ r₂)
+pub definition-settled : {d : List ℕ} {t t₁ t₂ : List ℤ} {r₁ r₂ : Answer} → SssRead d t t₁ r₁ → SssRead d t t₂ r₂ → (r₁ ≡ r₂)
     × (t₁ ≡ t₂)
 definition-settled a b = (a .says ∙ sym (b .says), a .leaves ∙ sym (b .leaves))

@@ -30,7 +30,7 @@ use Rattle.definition.specs.Books.{Outcome, Built, Refusal, fitting, nam
 use Rattle.definition.specs.Books as variables
 use Rattle.definition.specs.Code.{tallyOf, runOf, Laid, Held, NamesSettled, Standing, RoomsRead, fillSays, comparedBy, Lacking}
 use Rattle.definition.specs.Code.{in-rows, in-lines}
-use Rattle.laying.specs.rule.Begins.{begins}
+use Rattle.laying.specs.rule.Begins.{beginsTable}
 use Rattle.laying.specs.Code.{cellsIn, filledOver}
 use Rattle.definition.proofs.Bridge.{heldIn}
 use Rattle.definition.proofs.Settles.{count-is, lines-is, rows-fit, lines-fit, cells-are, says-fit, leaves-fit}
@@ -171,7 +171,7 @@ module _ (d : List ℕ) (rows lines : List ℤ) (y : Tally) (s : Standing d rows
       ) in
       rw (le-ltb (lineBase mostRows mostLines) (length (tableOf (s .read))) f)
 
-  pub held-says : (t : List ℤ) → comparedBy (begins (cellsIn mark y rows lines) t)
+  pub held-says : (t : List ℤ) → comparedBy (beginsTable (cellsIn mark y rows lines) t)
       ≡ heldIn (judged d (lineBase mostRows mostLines) (surveyOf d)) t
   unfolding comparedBy heldIn
   held-says t = rw (cells-are d y rows lines (s .read) (s .held))

@@ -21,10 +21,10 @@ ghost use Rattle.rows.specs.Cells.{nameColumn};
 ghost use Rattle.values.specs.Room.{short, Unless};
 ghost use Rattle.variables.specs.Ident.{marked};
 ghost use Rattle.entries.specs.Entry.{entryOf, Stored};
-ghost use Rattle.laying.specs.rule.Begins.{begins};
+ghost use Rattle.laying.specs.rule.Begins.{beginsTable};
 ghost use Rattle.laying.specs.Code.{zeros, cellsIn, filledOver};
-ghost use Rattle.definition.specs.rule.Definition.{DefinitionRead};
-ghost use Rattle.definition.specs.rule.Against.{againstOf};
+ghost use Rattle.definition.specs.rule.Definition.{SssRead};
+ghost use Rattle.definition.specs.rule.Against.{sssAgainst};
 ghost use Rattle.definition.specs.Books.{course, variablesFrom, endsOn};
 ghost use Rattle.definition.specs.Code.{followed, turnAfter, RowStored, runOf, Laid, NamesJudged, NamesSettled, RoomsRead};
 ghost use Rattle.definition.specs.Code.{fillSays, comparedBy, Lacking};
@@ -295,7 +295,7 @@ pub fn fill(mark: usize, rows: &[i64], lines: &[i64], y: Tally, table: &mut [i64
 
 // Reads a definition into a lent table. The table is filled from its start, or kept whole.
 pub fn read_definition(d: &[u8], table: &mut [i64]) -> Answer
-    ensures { λ r. ⌜ DefinitionRead (now (d .entry)) (now (table .entry)) (now (table .exit)) r ⌝ }
+    ensures { λ r. ⌜ SssRead (now (d .entry)) (now (table .entry)) (now (table .exit)) r ⌝ }
 {
     if 1_048_576 < d.len() {
         return Answer::Refused {
@@ -335,7 +335,7 @@ pub fn compare(mark: usize, rows: &[i64], lines: &[i64], y: Tally, t: &[i64]) ->
     requires { ⌜ mark ≤ markXml ⌝ }
     requires { ⌜ (y .rows ≤ mostRows) × (y .lines ≤ mostLines) × (y .length ≤ 16384) ⌝ }
     requires { ⌜ (rowSize * y .rows ≤ length (now rows)) × (lineSize * y .lines ≤ length (now lines)) ⌝ }
-    ensures { λ r. ⌜ r ≡ comparedBy (begins (cellsIn mark y (now (rows .entry)) (now (lines .entry))) (now (t .entry))) ⌝ }
+    ensures { λ r. ⌜ r ≡ comparedBy (beginsTable (cellsIn mark y (now (rows .entry)) (now (lines .entry))) (now (t .entry))) ⌝ }
 {
     if laying::matches(mark, rows, lines, y, t) {
         Against::Same
@@ -346,7 +346,7 @@ pub fn compare(mark: usize, rows: &[i64], lines: &[i64], y: Tally, t: &[i64]) ->
 
 // Holds a table against a definition: no second table, the rooms are compared in place.
 pub fn judge_against(d: &[u8], t: &[i64]) -> Against
-    ensures { λ r. ⌜ r ≡ againstOf (now (d .entry)) (now (t .entry)) ⌝ }
+    ensures { λ r. ⌜ r ≡ sssAgainst (now (d .entry)) (now (t .entry)) ⌝ }
 {
     if d.len() > 1_048_576 {
         return Against::Refused {

@@ -4,14 +4,14 @@ use mathlib.Core.Path.{_≡_}
 use mathlib.Core.List.{List, []}
 use Prim.Native.Nat.{ℕ, _<_}
 use lib.ListN.{length}
-use Rattle.definition.specs.rule.Definition.{Refusal, outcomeOf}
+use Rattle.definition.specs.rule.Definition.{Refusal, sssOutcome}
 use Rattle.definition_samples.specs.Bytes.{bytes}
 use Rattle.definition_samples.specs.Sample.{sample, sample-too-short}
 use Rattle.definition_samples.specs.Refused.{RefusedAt, after-version, after-record, variable, too-long, refused-2, refused-3}
 use Rattle.definition_samples.specs.Refused.{refused-4, refused-5, refused-6, refused-7, refused-8, refused-9}
 
 pub refused-each :
-    ((d : List ℕ) (n : ℕ) → 1048576 < length d → outcomeOf d n ≡ Refusal 1 0)
+    ((d : List ℕ) (n : ℕ) → 1048576 < length d → sssOutcome d n ≡ Refusal 1 0)
     × RefusedAt 2 [] " SSS VERSION 1.1"
     × RefusedAt 3 (after-version "DATE ") "\"a"
     × RefusedAt 4 (bytes "SSS VERSION ") "1.10 SURVEY"
@@ -21,7 +21,7 @@ pub refused-each :
     × RefusedAt 8 (variable "LOGICAL POSITION ") "16385"
     × RefusedAt 9 (after-version "STANDARD NAMES SURVEY RECORD R VARIABLE 1 NAME ")
     "\"1a\" LABEL \"\" TYPE LOGICAL POSITION 1 END VARIABLE END RECORD END SURVEY END SSS"
-    × ((n : ℕ) → n < 78 → outcomeOf sample n ≡ Refusal 10 0)
+    × ((n : ℕ) → n < 78 → sssOutcome sample n ≡ Refusal 10 0)
 refused-each = (
   too-long,
   refused-2 .0,

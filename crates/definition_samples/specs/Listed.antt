@@ -8,7 +8,7 @@ use lib.IntN.{ℤ}
 use lib.ListN.{length, drop}
 use borrow.Author.Tests.{le-leb}
 use Rattle.rows.specs.rule.Cells.{rowCells, headerCells}
-use Rattle.definition.specs.rule.Definition.{outcomeOf, tableAfter}
+use Rattle.definition.specs.rule.Definition.{sssOutcome, sssTableAfter}
 use Rattle.listing.specs.Listing.{listingOf}
 use Rattle.definition_samples.specs.Bytes.{bytes}
 use Rattle.definition_samples.specs.Tables.{tables}
@@ -37,5 +37,5 @@ unfolding tables rowCells headerCells
 by-table rest = rw (le-leb 78 (length (sampleTable ++ rest)) (long-enough rest)) (refl, refl)
 
 -- THE SAMPLE, whatever the lent table held and however long it is, from 78 numbers on (the lister's has 8,192)
-pub samples-listed : (t : List ℤ) → 78 ≤ length t → Lists (tableAfter (outcomeOf sample (length t)) t)
+pub samples-listed : (t : List ℤ) → 78 ≤ length t → Lists (sssTableAfter (sssOutcome sample (length t)) t)
 samples-listed t h = rw (sample-laid t h .1) (by-table (drop 78 t))

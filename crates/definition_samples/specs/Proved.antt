@@ -7,7 +7,7 @@ use Prim.Native.String.{String}
 use lib.IntN.{ℤ, pos, negsuc}
 use lib.ListN.{replicate}
 use Rattle.layout.specs.rule.Layout.{lineBase}
-use Rattle.definition.specs.rule.Definition.{outcomeOf, tableAfter}
+use Rattle.definition.specs.rule.Definition.{sssOutcome, sssTableAfter}
 use Rattle.faults.specs.declared.Fault.the-variants.{Stray}
 use Rattle.records.specs.rule.Value.{nothing, numberIs, setOf, truthIs, badField, readAs, listAs}
 use Rattle.definition_samples.specs.Bytes.{bytes}
@@ -26,7 +26,7 @@ lent = replicate (lineBase 1 4) (pos 79)
 -- the table once a definition of one variable is read into it: given are the variable's type, its position and what the type has. (A
 -- text that is refused would leave the numbers lent, by which nothing is read.)
 abbrev tableFrom : String → List ℤ
-tableFrom s = tableAfter (outcomeOf (variable s ++ bytes " END VARIABLE END RECORD END SURVEY END SSS") (lineBase 1 4)) lent
+tableFrom s = sssTableAfter (sssOutcome (variable s ++ bytes " END VARIABLE END RECORD END SURVEY END SSS") (lineBase 1 4)) lent
 
 abbrev single : List ℤ
 single = tableFrom "SINGLE POSITION 1 TO 2 VALUES 1 TO 20 END VALUES"

@@ -15,7 +15,7 @@ use Rattle.survey.specs.rule.Table.{tableOf}
 use Rattle.reading.specs.rule.Result.{Result, Is, Not}
 use Rattle.reading.specs.rule.Whole.{surveyOf}
 use Rattle.definition.specs.declared.Answer.the-variants as answer
-use Rattle.definition.specs.rule.Definition.{Built, Refusal, outcomeOf, answerOf, tableAfter}
+use Rattle.definition.specs.rule.Definition.{Built, Refusal, sssOutcome, sssAnswer, sssTableAfter}
 use Rattle.definition_samples.specs.Bytes.{bytes}
 use Rattle.definition_samples.specs.Definitions.{definitions}
 
@@ -126,7 +126,7 @@ variablesIn (Not f) = []
 pub sampleVariables : List Variable
 sampleVariables = variablesIn (surveyOf sample)
 
-by-room : (n : ℕ) → outcomeOf sample n ≡ cond (ltb n 78) (Refusal 10 0) (Built sampleVariables)
+by-room : (n : ℕ) → sssOutcome sample n ≡ cond (ltb n 78) (Refusal 10 0) (Built sampleVariables)
 unfolding definitions sampleVariables
 by-room n = refl
 
@@ -135,18 +135,19 @@ unfolding definitions sampleVariables
 gives-table = refl
 
 -- wherever there is room for 78 numbers the outcome is the variables that give its table
-pub sample-read : (n : ℕ) → 78 ≤ n → (l : List Variable) × (outcomeOf sample n ≡ Built l) × (tableOf l ≡ sampleTable)
+pub sample-read : (n : ℕ) → 78 ≤ n → (l : List Variable) × (sssOutcome sample n ≡ Built l) × (tableOf l ≡ sampleTable)
 sample-read n h = (sampleVariables, by-room n ∙ rw (le-ltb n 78 h), gives-table)
 
 -- and where there is less room it is 10
-pub sample-too-short : (n : ℕ) → n < 78 → outcomeOf sample n ≡ Refusal 10 0
+pub sample-too-short : (n : ℕ) → n < 78 → sssOutcome sample n ≡ Refusal 10 0
 sample-too-short n h = by-room n ∙ rw (lt-ltb n 78 h)
 
 -- in the words of the call: it answers three variables and three value lines, and the lent table begins with the sample's, its numbers
 -- behind that kept
 pub sample-laid : (t : List ℤ) → 78 ≤ length t
-    → (answerOf (outcomeOf sample (length t)) ≡ answer.Read 3 3) × (tableAfter (outcomeOf sample (length t)) t ≡ sampleTable ++ drop 78 t)
+    → (sssAnswer (sssOutcome sample (length t)) ≡ answer.Read 3 3)
+    × (sssTableAfter (sssOutcome sample (length t)) t ≡ sampleTable ++ drop 78 t)
 unfolding definitions sampleVariables
 sample-laid t h =
-    let e : outcomeOf sample (length t) ≡ Built sampleVariables = by-room (length t) ∙ rw (le-ltb (length t) 78 h) in
-    (ap answerOf e, ap (λ o. tableAfter o t) e)
+    let e : sssOutcome sample (length t) ≡ Built sampleVariables = by-room (length t) ∙ rw (le-ltb (length t) 78 h) in
+    (ap sssAnswer e, ap (λ o. sssTableAfter o t) e)

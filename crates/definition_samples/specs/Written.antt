@@ -5,13 +5,13 @@ use mathlib.Core.List.{List, _++_}
 use Prim.Native.Nat.{ℕ}
 use Prim.Native.String.{String}
 use Rattle.definition.specs.declared.Answer.the-variants as answer
-use Rattle.definition.specs.rule.Definition.{outcomeOf, answerOf}
+use Rattle.definition.specs.rule.Definition.{sssOutcome, sssAnswer}
 use Rattle.definition_samples.specs.Bytes.{bytes}
 use Rattle.definition_samples.specs.Definitions.{definitions}
 use Rattle.definition_samples.specs.Refused.{after-version, variable}
 
 abbrev Reads : List ℕ → ℕ → ℕ → Type 0
-Reads d rows lines = answerOf (outcomeOf d 100) ≡ answer.Read rows lines
+Reads d rows lines = sssAnswer (sssOutcome d 100) ≡ answer.Read rows lines
 
 -- a variable with nothing behind its position, and the ends
 abbrev rest : String

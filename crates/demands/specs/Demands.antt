@@ -23,7 +23,7 @@ use Rattle.sound.specs.rule.Rows.{rowsOf}
 use Rattle.cuts.specs.declared.Next.{Next}
 use Rattle.cuts.specs.declared.Terminator.{Terminator}
 use Rattle.cuts.specs.rule.Cut.{NextFound, terminatorOf}
-use Rattle.cuts.specs.rule.Records.{Records, recordsFrom, recordsOf, laid, countEnded}
+use Rattle.cuts.specs.rule.Records.{Records, recordsFrom, recordsOf, laid, countEnded, lengthOfFirst}
 use Rattle.cuts.specs.Records.{laid-again}
 use Rattle.faults.specs.rule.Fault.{faultNumber}
 use Rattle.faults.specs.declared.Fault.{Fault}
@@ -54,7 +54,7 @@ use Rattle.matrix_laws.specs.Matrix as matrix
 use Rattle.matrix_laws.specs.Kept as matrix-kept
 use Rattle.zarfolin.specs.rule.Matrix.{MatrixTold}
 use Rattle.commas.specs.rule.Csv.{doubled, fieldBytes, lineBytes}
-use Rattle.record_lines.specs.rule.Lines.{before, recordLine}
+use Rattle.record_lines.specs.rule.Lines.{soundBefore, recordLine}
 use Rattle.exports.specs.rule.Text.{exportLines, exportText, ExportVerdict}
 use Rattle.exports.specs.rule.Text as export
 use Rattle.exports.specs.rule.Export.{exportVerdict, Exported}
@@ -84,7 +84,7 @@ use Rattle.survey.specs.rule.Survey.{Survey}
 use Rattle.clean_text.specs.rule.Clean.{cleanLines, cleanOf}
 use Rattle.clean.specs.declared.Written as clean
 use Rattle.clean.specs.declared.Written.the-variants as clean-answer
-use Rattle.clean.specs.rule.Written.{writingOf, writtenOf, DefinitionWritten}
+use Rattle.clean.specs.rule.Written.{writingOf, cleanWritten, DefinitionWritten}
 use Rattle.clean_laws.specs.rule.Lined.{Lined}
 use Rattle.clean_laws.specs.rule.Reads.{Reads}
 use Rattle.clean_laws.specs.Reads as clean-back
@@ -111,7 +111,7 @@ use Rattle.read_laws.specs.rule.Reading.{ReadOutcome}
 use Rattle.read_laws.specs.Reading as reading
 use Rattle.read_laws.specs.rule.Refused.{RecordOutcome}
 use Rattle.read_laws.specs.Refused as judging
-use Rattle.file_laws.specs.rule.Files.{firstOf, FileOutcome}
+use Rattle.file_laws.specs.rule.Files.{FileOutcome}
 use Rattle.read_laws.specs.rule.Faults.{Told}
 use Rattle.read_laws.specs.Faults as faults
 use Rattle.file_laws.specs.Files as files
@@ -134,7 +134,7 @@ use Rattle.rule_laws.specs.Fits as fits
 use Rattle.rule_laws.specs.rule.Terminators.{First}
 use Rattle.rule_laws.specs.Terminators as terminators
 use Rattle.corrections.specs.declared.Correction.{Correction}
-use Rattle.corrections.specs.rule.Correction.{asks, askedOf, marked, markOf, ListCorrected}
+use Rattle.corrections.specs.rule.Correction.{asks, askedOf, markedWith, markOf, ListCorrected}
 use Rattle.correction_laws.specs.rule.Singles.{Chain, Clear}
 use Rattle.correction_laws.specs.rule.Outcomes.{ListOutcome, MarkOutcome}
 use Rattle.correction_laws.specs.Singles as singles
@@ -146,9 +146,9 @@ use Rattle.zarfolin.specs.rule.Mend.{MendTold}
 use Rattle.pieces.specs.rule.Pieces.{piecesOf, laidPieces}
 use Rattle.pieces.specs.Laid as pieces
 use Rattle.mends.specs.rule.Mend as mending
-use Rattle.mends.specs.rule.Mend.{bytesIn, listIn, widthIn, endingOf, Mends}
+use Rattle.mends.specs.rule.Mend.{bytesIn, listIn, widthOfRecords, endingOf, Mends}
 use Rattle.mends.specs.declared.Mended.{Mended}
-use Rattle.mend_laws.specs.rule.Mended.{AllUnbroken, MendOutcome, SoundLines, NoneOfFour, ByFields, keptOf, Rising, DueIn, In}
+use Rattle.mend_laws.specs.rule.Mended.{AllUnbroken, MendOutcome, SoundLines, NoneOfFour, ByFields, keptOf, RisingEntries, DueIn, In}
 use Rattle.mend_laws.specs.Pieces as unbroken
 use Rattle.mend_laws.specs.Sound as mended
 use Rattle.mend_laws.specs.Judged as mend-judged
@@ -361,7 +361,7 @@ module _ (t : List ℤ) (rs : List (List ℕ)) (out : List ℕ) (inside : totalO
 
   pub matrix-value : (n k : ℕ) → n < length rs → k < length (tableColumns t)
       → take 8 (drop (valuesAt (length rs) (length (tableColumns t)) + 8 * (n * length (tableColumns t) + k)) (putAt out 0 (matrixOf t rs)))
-      ≡ little.bytesOf 8 (toBits binary64 (floatOf (entryOf t (rowsOf t) (getD rs n []) (getD (tableColumns t) k (ofRow 0)))))
+      ≡ little.littleBytes 8 (toBits binary64 (floatOf (entryOf t (rowsOf t) (getD rs n []) (getD (tableColumns t) k (ofRow 0)))))
   matrix-value = matrix.value-is t rs out inside
 
   pub matrix-summary : (k : ℕ) → k < length (tableColumns t) → take 24 (drop (24 + 24 * k) (putAt out 0 (matrixOf t rs)))
@@ -382,7 +382,7 @@ matrix-extremes = summaries.sound-summary
 -- a file cut into parts of any sizes, each beginning where the one before left off, gets its own verdict; where a part left off, behind its
 -- count of records, none of it is ended; every file's terminator has a number, but for one that has none
 pub file-in-parts : (t : List ℤ) (d : List ℕ) (terminator : ℕ) (sizes : List ℕ) → terminatorOf d ≡ numbered terminator
-    → IsNumber terminator → inParts t terminator (firstOf (recordsOf d)) 0 d sizes ≡ judgedAs (fileVerdict t d)
+    → IsNumber terminator → inParts t terminator (lengthOfFirst (recordsOf d)) 0 d sizes ≡ judgedAs (fileVerdict t d)
 file-in-parts = parts.in-parts
 
 pub part-left-off : (t : List ℤ) (d : List ℕ) (terminator first last m : ℕ)
@@ -423,10 +423,10 @@ pub cut-one : (d : List ℕ) (rs : Records) → Clean (terminatorOf d) rs → la
 cut-one = cutting.cut-only
 
 -- a write is refused by its number exactly when what the number says is so
-pub write-so : (t : List ℤ) (i : ℕ) (x : Value) (n : ℕ) → rule.Outcome t i x n (refusalOf t i x n)
+pub write-so : (t : List ℤ) (i : ℕ) (x : Value) (n : ℕ) → rule.WritingOutcome t i x n (refusalOf t i x n)
 write-so = writing.named
 
-pub so-write : (t : List ℤ) (i : ℕ) (x : Value) (n : ℕ) {k : ℕ} → rule.Outcome t i x n k → refusalOf t i x n ≡ k
+pub so-write : (t : List ℤ) (i : ℕ) (x : Value) (n : ℕ) {k : ℕ} → rule.WritingOutcome t i x n k → refusalOf t i x n ≡ k
 so-write = writing.only
 
 -- and a value fits a row, is of another type (26), not legal (27) or of too many members (28) exactly when, in the paper's words
@@ -530,7 +530,7 @@ module _ {t : List ℤ} {list list′ : List Correction} {old new : List ℕ} wh
   singles-as-list = singles.singles-as
 
   -- a mark depends on the table, its correction and the record's length alone
-  pub marks-alone : ListCorrected t list list′ old new 0 → list′ ≡ map (λ (c : Correction). marked c (markOf t c (length old))) list
+  pub marks-alone : ListCorrected t list list′ old new 0 → list′ ≡ map (λ (c : Correction). markedWith c (markOf t c (length old))) list
   marks-alone = singles.marks-alone
 
   -- each number exactly when
@@ -552,8 +552,9 @@ module _ {t : List ℤ} {list list′ : List Correction} {old new : List ℕ} wh
   refused-list-keeps = singles.whole-refused-keeps
 
 -- the later accepted one counts
-pub later-counts : {t : List ℤ} (before : List Correction) (c : Correction) {after list′ : List Correction} {x : Value} {old new : List ℕ}
-    → ListCorrected t (before ++ c ∷ after) list′ old new 0 → askedOf (c .value) ≡ asks x → markOf t c (length old) ≡ 0
+pub later-counts : {t : List ℤ} (soundBefore : List Correction) (c : Correction) {after list′ : List Correction} {x : Value}
+    {old new : List ℕ}
+    → ListCorrected t (soundBefore ++ c ∷ after) list′ old new 0 → askedOf (c .value) ≡ asks x → markOf t c (length old) ≡ 0
     → Clear t (length old) (c .row) after → readingAt t (c .row) new ≡ holds x
 later-counts = later.later-counts
 
@@ -608,21 +609,22 @@ mender-unbroken = unbroken.pieces-unbroken
 pub mend-refusals : (t : List ℤ) (d : List ℕ) (room cells : ℕ) → MendOutcome t d room cells (mending.mendedAs t d room cells)
 mend-refusals = mend-once.mend-named
 
-pub mend-no-other : {t : List ℤ} {d : List ℕ} {room cells : ℕ} {o : mending.Outcome} → MendOutcome t d room cells o
+pub mend-no-other : {t : List ℤ} {d : List ℕ} {room cells : ℕ} {o : mending.MendAnswer} → MendOutcome t d room cells o
     → mending.mendedAs t d room cells ≡ o
 mend-no-other = mend-once.mend-only
 
 module _ {t : List ℤ} {d out out′ : List ℕ} {list list′ : List ℤ} {r : Mended} where
   pub mend-keeps-beyond : Mends t d out out′ list list′ r
       → (drop (length (bytesIn t d)) out′ ≡ drop (length (bytesIn t d)) out)
-      × (drop (length (mending.numbersOf (listIn t d))) list′ ≡ drop (length (mending.numbersOf (listIn t d))) list)
+      × (drop (length (mending.entryNumbers (listIn t d))) list′ ≡ drop (length (mending.entryNumbers (listIn t d))) list)
   mend-keeps-beyond = mend-once.kept-beyond
 
-  pub mend-keeps-refused : {k : ℕ} → Mends t d out out′ list list′ r → mending.said r ≡ mending.refused k → (out′ ≡ out) × (list′ ≡ list)
+  pub mend-keeps-refused : {k : ℕ} → Mends t d out out′ list list′ r → mending.mendSaid r ≡ mending.refused k → (out′ ≡ out)
+      × (list′ ≡ list)
   mend-keeps-refused = mend-once.kept-refused
 
 -- a file whose line ends, lengths and bytes are sound: no record of it is judged 30, 31, 22 or 23
-pub sound-lines-exactly : (t : List ℤ) (d : List ℕ) → SoundLines t d ↔ NoneOfFour t (firstOf (recordsOf d)) (recordsOf d)
+pub sound-lines-exactly : (t : List ℤ) (d : List ℕ) → SoundLines t d ↔ NoneOfFour t (lengthOfFirst (recordsOf d)) (recordsOf d)
 sound-lines-exactly = mend-judged.sound-exactly
 
 -- the mended file is sound in line ends, lengths and bytes, and judged with no 30, 31, 22, 23; a file is so exactly when nothing is listed,
@@ -648,17 +650,19 @@ mended-twice = mended.mend-twice
 -- no other byte differs: byte j of the kept record k, where it is 32 or more, stands at its place
 pub other-bytes-kept : (t : List ℤ) (d : List ℕ) (k j : ℕ) → k < length (keptOf (piecesOf d)) → j < length (getD (keptOf (piecesOf d)) k [])
     → 32 ≤ getD (getD (keptOf (piecesOf d)) k []) j 0
-    → getD (bytesIn t d) (k * (widthIn t d + endingOf d .size) + j) 0 ≡ getD (getD (keptOf (piecesOf d)) k []) j 0
+    → getD (bytesIn t d) (k * (widthOfRecords t d + endingOf d .size) + j) 0 ≡ getD (getD (keptOf (piecesOf d)) k []) j 0
 other-bytes-kept = mend-once.others-kept
 
 -- the list is in input order, and holds just what is due
-pub mend-list-rises : (t : List ℤ) (d : List ℕ) → Rising 0 (listIn t d)
+pub mend-list-rises : (t : List ℤ) (d : List ℕ) → RisingEntries 0 (listIn t d)
 mend-list-rises = mend-listed.list-rises
 
-pub due-is-listed : (t : List ℤ) (d : List ℕ) {x : mending.Entry} → DueIn (widthIn t d) (endingOf d) 1 0 (piecesOf d) x → In x (listIn t d)
+pub due-is-listed : (t : List ℤ) (d : List ℕ) {x : mending.MendEntry} → DueIn (widthOfRecords t d) (endingOf d) 1 0 (piecesOf d) x
+    → In x (listIn t d)
 due-is-listed = mend-listed.due-listed
 
-pub listed-is-due : (t : List ℤ) (d : List ℕ) {x : mending.Entry} → In x (listIn t d) → DueIn (widthIn t d) (endingOf d) 1 0 (piecesOf d) x
+pub listed-is-due : (t : List ℤ) (d : List ℕ) {x : mending.MendEntry} → In x (listIn t d)
+    → DueIn (widthOfRecords t d) (endingOf d) 1 0 (piecesOf d) x
 listed-is-due = mend-listed.listed-due
 
 -- ---- AN EXPORT (C-16): 20, 40, 60 or written, exactly when what that says is so
@@ -676,7 +680,7 @@ pub export-judged : {def : List ℕ} {t : List ℤ} {d out out′ : List ℕ} {v
 export-judged a = exports.export-judged a
 
 pub export-lines : (def : List ℕ) (t : List ℤ) (d : List ℕ) → wellFormed t ≡ true → length (exportLines def t d)
-    ≡ suc (before (fileVerdict t d))
+    ≡ suc (soundBefore (fileVerdict t d))
 export-lines = lines.export-lines
 
 -- the output keeps all it held, or holds the text, and behind it what stood there
@@ -719,10 +723,10 @@ so-import def t s room o = imports.import-only def t s room o
 
 -- the text's own refusal: that of its first line that has one, of a line the lowest number
 module _ (t : List ℤ) (g : wellFormed t ≡ true) (names : List (List ℕ)) (s : List ℕ) where
-  pub text-so : TextOutcome t names (csv.linesOf (page fresh s)) (textSays t names s)
+  pub text-so : TextOutcome t names (csv.pageLines (page fresh s)) (textSays t names s)
   text-so = imports.text-named t g names s
 
-  pub so-text : {x : TextSays} → TextOutcome t names (csv.linesOf (page fresh s)) x → textSays t names s ≡ x
+  pub so-text : {x : TextSays} → TextOutcome t names (csv.pageLines (page fresh s)) x → textSays t names s ≡ x
   so-text o = imports.text-only t g names s o
 
 -- the output keeps all it held, or holds the data, and behind them what stood there
@@ -770,10 +774,10 @@ module _ {t : List ℤ} (g : Table t) (def s : List ℕ) where
   accepted-exactly = accepted.accepted-exactly g def s
 
 -- ---- A CLEAN DEFINITION (C-11): 1 to 9 as reading refuses, 40, 41, 42, or written, exactly when what that says is so
-pub clean-so : (d : List ℕ) (t : List ℤ) (room : ℕ) → WriteOutcome d t room (writtenOf (writingOf d t room))
+pub clean-so : (d : List ℕ) (t : List ℤ) (room : ℕ) → WriteOutcome d t room (cleanWritten (writingOf d t room))
 clean-so = cleaning.write-named
 
-pub so-clean : (d : List ℕ) (t : List ℤ) (room : ℕ) {a : clean.Written} → WriteOutcome d t room a → writtenOf (writingOf d t room) ≡ a
+pub so-clean : (d : List ℕ) (t : List ℤ) (room : ℕ) {a : clean.Written} → WriteOutcome d t room a → cleanWritten (writingOf d t room) ≡ a
 so-clean d t room o = cleaning.write-only d t room o
 
 pub clean-to-nine : (d : List ℕ) {number place : ℕ} → Unread d number place → (1 ≤ number) × (number ≤ 9) × (place ≤ length d)

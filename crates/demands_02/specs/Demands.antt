@@ -14,8 +14,8 @@ use Rattle.utf.specs.rule.Cut.{firstBad}
 use Rattle.utf.proofs.Exactly as utf
 use Rattle.spans.specs.rule.Heard.{Says, All, heard}
 use Rattle.spans.proofs.Hearing as hearing
-use Rattle.contents.specs.rule.Grammar.{Text}
-use Rattle.contents.specs.rule.Content.{begun, signsFrom, signsAt, startOf, textOf}
+use Rattle.contents.specs.rule.Grammar.{ContentText}
+use Rattle.contents.specs.rule.Content.{begun, signsFrom, contentSigns, startOf, isText}
 use Rattle.contents.proofs.Exactly as contents
 use Rattle.stretches.specs.rule.Stretch.{StretchDecoded}
 use Rattle.stretches.proofs.Outcomes as stretches
@@ -31,10 +31,10 @@ use Rattle.ranks.proofs.Lowest as ranks
 use Rattle.reading.specs.rule.Result.{Is}
 use Rattle.survey.specs.rule.Survey as survey
 use Rattle.uses.specs.rule.Uses.{usesGood}
-use Rattle.xml_reading.specs.rule.Role.{Entry, filterOf}
+use Rattle.xml_reading.specs.rule.Role.{XmlEntry, filterOf}
 use Rattle.xml_reading.specs.rule.Variable.{Manner}
 use Rattle.xml_reading.specs.rule.Sheet.{variables}
-use Rattle.xml_reading.specs.rule.Whole.{tableOf}
+use Rattle.xml_reading.specs.rule.Whole.{xmlTable}
 use Rattle.filters.specs.rule.Kept.{Filters, Joins, Kept}
 use Rattle.filters.proofs.Filtering as filtering
 use Rattle.filters.proofs.Keeping as keeping
@@ -50,7 +50,7 @@ use Rattle.kind_laws.specs.rule.Meet.{Meet}
 use Rattle.kind_laws.specs.Meet as kind-meet
 use Rattle.kind_laws.specs.Numbers as kind-numbers
 use Rattle.kinds.specs.Plain as plain
-use Rattle.csv_fields.specs.rule.Page.{page, start, linesOf}
+use Rattle.csv_fields.specs.rule.Page.{page, start, pageLines}
 use Rattle.csv_laws.specs.rule.Grammar.{allOf, IsText}
 use Rattle.csv_laws.specs.Sound as csv
 
@@ -64,12 +64,12 @@ pub stretch-said : (s cs : List ℕ) → (heard s 0 ≡ All cs) ↔ Says s cs
 stretch-said = hearing.heard-exactly
 
 -- a text is derived, by its bytes, and the decoder says what the derivation says
-pub text-derived : (l : Bool) (d : List ℕ) (at : ℕ) → at ≤ length d → textOf l d at ≡ true
-    → (cs : List Sign) × Text l 2 at (drop at d) cs 0 × (signsFrom l d (begun at) ≡ cs)
+pub text-derived : (l : Bool) (d : List ℕ) (at : ℕ) → at ≤ length d → isText l d at ≡ true
+    → (cs : List Sign) × ContentText l 2 at (drop at d) cs 0 × (signsFrom l d (begun at) ≡ cs)
 text-derived l d at h e = let t = contents.text-exactly l d at h .0 e in (t .signs, t .text, contents.text-says l d at h t)
 
 -- the decoder begins with all the signs of a text
-pub decoder-begins : (l : Bool) (d : List ℕ) (at : ℕ) → signsAt l d (startOf at) ≡ signsFrom l d (begun at)
+pub decoder-begins : (l : Bool) (d : List ℕ) (at : ℕ) → contentSigns l d (startOf at) ≡ signsFrom l d (begun at)
 decoder-begins = stretches.start-signs
 
 -- the call that decodes promises of each kind of definition what its own decoder does
@@ -85,18 +85,19 @@ pub fault-ranked : (s : List Found) (f : Found) → (f .number ≡ 0 → ⊥) �
 fault-ranked = ranks.ranked-lowest
 
 -- ---- C-15: uses and filters
-pub filter-meant : (latin standard : Bool) (d : List ℕ) (earlier : List Entry) (name : survey.Text) (usage : ℕ) (t : survey.Text) (i : ℕ)
+pub filter-meant : (latin standard : Bool) (d : List ℕ) (earlier : List XmlEntry) (name : survey.KeptText) (usage : ℕ) (t : survey.KeptText)
+    (i : ℕ)
     → (filterOf latin standard d earlier name usage t ≡ suc i) ↔ Filters latin standard d earlier name usage t i
 filter-meant = filtering.filter-means
 
-pub uses-kept : (bad : Bool) (d : List ℕ) (m : Manner) (n : ℕ) {s : List Entry} {i : ℕ} → variables bad d m n ≡ Is s i → Kept s
+pub uses-kept : (bad : Bool) (d : List ℕ) (m : Manner) (n : ℕ) {s : List XmlEntry} {i : ℕ} → variables bad d m n ≡ Is s i → Kept s
 uses-kept = joining.variables-kept
 
-pub kept-joined : (latin standard : Bool) (d : List ℕ) (l : List Entry) (w : Entry) → Kept l → Joins latin standard d l w
+pub kept-joined : (latin standard : Bool) (d : List ℕ) (l : List XmlEntry) (w : XmlEntry) → Kept l → Joins latin standard d l w
     → Kept (l ++ w ∷ [])
 kept-joined = keeping.kept-more
 
-pub kept-good : (l : List Entry) → Kept l → usesGood (tableOf l) (length l) ≡ true
+pub kept-good : (l : List XmlEntry) → Kept l → usesGood (xmlTable l) (length l) ≡ true
 kept-good = keeping.uses-good
 
 -- ---- C-15: both kinds
@@ -109,13 +110,13 @@ pub sss-never-fifty : {d : List ℕ} {t t′ : List ℤ} {k p : ℕ} → Definit
 sss-never-fifty = kind-numbers.fifty-never-in-sss
 
 -- a definition in XML and one of 1.1 that say the same have tables that differ only where no record rule looks
-pub kinds-meet : {l : List Entry} {m : List survey.Variable} → Meet l m → Alike (tableOf l) (survey-table.tableOf m)
+pub kinds-meet : {l : List XmlEntry} {m : List survey.Variable} → Meet l m → Alike (xmlTable l) (survey-table.tableOf m)
 kinds-meet = kind-meet.roads-meet
 
 -- a table and a definition that is not XML: as 1.1 has it
-pub yields-plain : (d : List ℕ) → isXml d ≡ false → (t : List ℤ) → yields d t ≡ sss.yields d t
+pub yields-plain : (d : List ℕ) → isXml d ≡ false → (t : List ℤ) → yields d t ≡ sss.sssYields d t
 yields-plain = plain.plain-yields
 
 -- ---- C-23: comma-separated text
-pub text-lines : (s : List ℕ) (ls : List (List (List ℕ))) → (linesOf (page start s) ≡ allOf ls) ↔ IsText ls s
+pub text-lines : (s : List ℕ) (ls : List (List (List ℕ))) → (pageLines (page start s) ≡ allOf ls) ↔ IsText ls s
 text-lines = csv.text-exactly

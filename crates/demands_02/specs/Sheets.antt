@@ -13,30 +13,32 @@ use Rattle.cells.specs.rule.Cell.{pasted}
 use Rattle.survey.specs.rule.Table.{linesAll}
 use Rattle.prologs.specs.rule.Told.{isXml}
 use Rattle.definition.specs.declared.Answer.the-variants as answer
-use Rattle.xml_reading.specs.rule.Role.{Entry, variablesOf}
+use Rattle.xml_reading.specs.rule.Role.{XmlEntry, variablesOf}
 use Rattle.xml_reading.specs.rule.Whole as xml
 use Rattle.xml_derivations.specs.Document.{Taken}
 use Rattle.xml_derivation_laws.specs.Whole.{taken-exactly}
 use Rattle.xml_refusals.specs.Whole.{Refused, refused-exactly}
 use Rattle.xml_text_laws.specs.Decoded.{EntryDecodes, texts-decode}
 use Rattle.xml_text_laws.specs.Tables.{RowDecodes, rows-decode}
-use Rattle.kinds.specs.rule.Definition.{Outcome, ofXml, outcomeOf, answerOf, tableAfter, DefinitionRead}
+use Rattle.kinds.specs.rule.Definition.{DefinitionOutcome, ofXml, definitionOutcome, answerOf, tableAfter, DefinitionRead}
 use Rattle.kind_laws.specs.Numbers as numbers
 
 -- the answer and the table of a definition in XML that is taken
 pub data SheetRead (d : List ℕ) (t : List ℤ) : List ℤ → ℕ → ℕ → Type 0 where
-  sheet-read : {l : List Entry} → Taken d (length t) l → SheetRead d t (pasted t 0 (xml.tableOf l)) (length l) (linesAll (variablesOf l))
+  sheet-read : {l : List XmlEntry} → Taken d (length t) l
+      → SheetRead d t (pasted t 0 (xml.xmlTable l)) (length l) (linesAll (variablesOf l))
 
 module _ (d : List ℕ) (t : List ℤ) (x : isXml d ≡ true) where
-  of-xml : outcomeOf d (length t) ≡ ofXml (xml.outcomeOf d (length t))
-  unfolding outcomeOf
+  of-xml : definitionOutcome d (length t) ≡ ofXml (xml.xmlOutcome d (length t))
+  unfolding definitionOutcome
   of-xml = rw x
 
   read-of : (t′ : List ℤ) {v e : ℕ} → DefinitionRead d t t′ (answer.Read v e) → SheetRead d t t′ v e
   unfolding answerOf tableAfter
   read-of t′ {v} {e} p =
-      by (xml.outcomeOf d (length t)) refl (p .says ∙ ap answerOf of-xml) (p .leaves ∙ ap (λ (o : Outcome). tableAfter o t) of-xml) where
-        by : (o : xml.Outcome) → xml.outcomeOf d (length t) ≡ o → answer.Read v e ≡ answerOf (ofXml o) → t′ ≡ tableAfter (ofXml o) t
+      by (xml.xmlOutcome d (length t)) refl (p .says ∙ ap answerOf of-xml)
+      (p .leaves ∙ ap (λ (o : DefinitionOutcome). tableAfter o t) of-xml) where
+        by : (o : xml.XmlOutcome) → xml.xmlOutcome d (length t) ≡ o → answer.Read v e ≡ answerOf (ofXml o) → t′ ≡ tableAfter (ofXml o) t
             → SheetRead d t t′ v e
         by (xml.Built l) o a b =
             let f : v ≡ length l = cc in
@@ -55,8 +57,9 @@ module _ (d : List ℕ) (t : List ℤ) (x : isXml d ≡ true) where
   refused-of : (t′ : List ℤ) {k p : ℕ} → DefinitionRead d t t′ (answer.Refused k p) → (t′ ≡ t) × Refused d (length t) k p
   unfolding answerOf tableAfter
   refused-of t′ {k} {p} w =
-      by (xml.outcomeOf d (length t)) refl (w .says ∙ ap answerOf of-xml) (w .leaves ∙ ap (λ (o : Outcome). tableAfter o t) of-xml) where
-        by : (o : xml.Outcome) → xml.outcomeOf d (length t) ≡ o → answer.Refused k p ≡ answerOf (ofXml o) → t′ ≡ tableAfter (ofXml o) t
+      by (xml.xmlOutcome d (length t)) refl (w .says ∙ ap answerOf of-xml)
+      (w .leaves ∙ ap (λ (o : DefinitionOutcome). tableAfter o t) of-xml) where
+        by : (o : xml.XmlOutcome) → xml.xmlOutcome d (length t) ≡ o → answer.Refused k p ≡ answerOf (ofXml o) → t′ ≡ tableAfter (ofXml o) t
             → (t′ ≡ t) × Refused d (length t) k p
         by (xml.Built l) o a b = never cc
         by (xml.Refusal i j) o a b =
@@ -82,7 +85,7 @@ module _ (d : List ℕ) (t : List ℤ) (x : isXml d ≡ true) where
   sheets-refused w = numbers.numbers-in-xml w x
 
 -- every name, label and line of a definition in XML that was read is decoded as it was derived, never 3
-pub sheet-texts-decode : (d : List ℕ) (n : ℕ) (l : List Entry) → isXml d ≡ true → xml.outcomeOf d n ≡ xml.Built l → (v : Entry)
+pub sheet-texts-decode : (d : List ℕ) (n : ℕ) (l : List XmlEntry) → isXml d ≡ true → xml.xmlOutcome d n ≡ xml.Built l → (v : XmlEntry)
     → List·Memᴰ v l → EntryDecodes d v
 sheet-texts-decode = texts-decode
 
@@ -91,9 +94,9 @@ pub sheet-table-decodes : {d : List ℕ} {t t′ : List ℤ} {v e : ℕ} → isX
     → i < v → RowDecodes d t′ v i
 unfolding answerOf tableAfter
 sheet-table-decodes {d} {t} {t′} {v} {e} x w i h =
-    by (xml.outcomeOf d (length t)) refl (w .says ∙ ap answerOf (of-xml d t x))
-    (w .leaves ∙ ap (λ (o : Outcome). tableAfter o t) (of-xml d t x)) where
-      by : (o : xml.Outcome) → xml.outcomeOf d (length t) ≡ o → answer.Read v e ≡ answerOf (ofXml o) → t′ ≡ tableAfter (ofXml o) t
+    by (xml.xmlOutcome d (length t)) refl (w .says ∙ ap answerOf (of-xml d t x))
+    (w .leaves ∙ ap (λ (o : DefinitionOutcome). tableAfter o t) (of-xml d t x)) where
+      by : (o : xml.XmlOutcome) → xml.xmlOutcome d (length t) ≡ o → answer.Read v e ≡ answerOf (ofXml o) → t′ ≡ tableAfter (ofXml o) t
           → RowDecodes d t′ v i
       by (xml.Built l) o a b =
           let f : v ≡ length l = cc in

@@ -7,7 +7,7 @@ use native.Mathlib.Omega.{arith}
 use lib.ListN.{length}
 use Rattle.tokens.specs.declared.Fault.{Fault}
 use Rattle.tokens.specs.declared.Phrase.{Phrase}
-use Rattle.survey.specs.rule.Survey.{Text}
+use Rattle.survey.specs.rule.Survey.{KeptText}
 use Rattle.pairs.specs.declared.Pair.{Pair}
 use Rattle.pairs.specs.declared.Pair.the-variants as pair
 use Rattle.pairs.specs.rule.Pair.{pairOf}
@@ -15,7 +15,7 @@ use Rattle.contents.specs.declared.Content.{Content}
 use Rattle.contents.specs.declared.Content.the-variants as content
 use Rattle.contents.specs.rule.Content.{contentOf}
 use Rattle.ranks.specs.declared.Found.{Found}
-use Rattle.ranks.specs.rule.Rank.{faultOf, lowerOf}
+use Rattle.ranks.specs.rule.Rank.{foundAt, lowerFound}
 use Rattle.reading.specs.rule.Result.{Result, Is, Not, bind}
 use Rattle.reading.specs.rule.Least.{Charge, judged}
 use Rattle.xml_reading.specs.rule.Open as rule
@@ -108,14 +108,14 @@ body-tells bad d w m em n t = record {
 }
 
 -- an attribute that isn't known, before other charges
-pub behind-found : (u : ℕ) (l : List Charge) {x y : Found} → Numbered l → foundOf l ≡ y → x ≡ lowerOf (faultOf 51 u) y → x
+pub behind-found : (u : ℕ) (l : List Charge) {x y : Found} → Numbered l → foundOf l ≡ y → x ≡ lowerFound (foundAt 51 u) y → x
     ≡ foundOf (rule.unknownAt u ∷ l)
-behind-found u l {x} {y} h i j = j ∙ sym (found-behind u l h ∙ ap (λ (z : Found). lowerOf (faultOf 51 u) z) i)
+behind-found u l {x} {y} h i j = j ∙ sym (found-behind u l h ∙ ap (λ (z : Found). lowerFound (foundAt 51 u) z) i)
 
 -- an element that is only a text
 module _ (bad : Bool) (d w : List ℕ) (m : ℕ) (em : Bool) (n : ℕ) (u : ℕ) (b : Body)
     (e : bodiedOf (element.body bad d w m em n) ≡ bodied.Is b) where
-  pub text-said : (y : Found) → y ≡ lowerOf (faultOf 51 u) (b .found)
+  pub text-said : (y : Found) → y ≡ lowerFound (foundAt 51 u) (b .found)
       → phraseOf (ruled y (record { place = b .place; length = b .length }) (b .next))
       ≡ phraseOf (bind (element.body bad d w m em n) λ t. judged (rule.unknownAt u ∷ t .charges) (t .text))
   text-said y j =

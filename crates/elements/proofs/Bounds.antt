@@ -14,7 +14,7 @@ use Rattle.angles.specs.declared.Angle.the-variants as angle
 use Rattle.tags.specs.declared.Held.{Held}
 use Rattle.tags.specs.declared.Tag.{Tag}
 use Rattle.tags.specs.declared.Tag.the-variants as tag
-use Rattle.tags.specs.rule.Tag.{turnOf, tagOf, nothing}
+use Rattle.tags.specs.rule.Tag.{turnOf, tagOf, nothingHeld}
 use Rattle.tags.proofs.Turns.{turn-on}
 use Rattle.tags.proofs.Exactly.{Placed, none, one, tag-exactly}
 use Rattle.pairs.specs.declared.Stand.{Stand}

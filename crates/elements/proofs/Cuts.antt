@@ -8,7 +8,7 @@ use lib.Dec.{leb, eqb}
 use lib.ListN.{length, drop, getD}
 use borrow.Author.Tests.{leb-false}
 use Rattle.markup.specs.rule.Bytes as bytes
-use Rattle.markup.specs.rule.Gap.{gapOf, commentOf}
+use Rattle.markup.specs.rule.Gap.{gapOf, xmlComment}
 use Rattle.markup.specs.rule.Reference.{referenceOf}
 use Rattle.markup.specs.declared.Char.{Char}
 use Rattle.markup.specs.declared.Char.the-variants as char
@@ -27,7 +27,7 @@ use Rattle.pairs.specs.declared.Stand.the-variants as stand
 use Rattle.pairs.specs.declared.Pair.{Pair}
 use Rattle.pairs.specs.declared.Pair.the-variants as pair
 use Rattle.pairs.specs.rule.Stand as stands
-use Rattle.pairs.specs.rule.Stand.{textOf, standAt, standOf, shutOf, bareOf}
+use Rattle.pairs.specs.rule.Stand.{textStand, standAt, standOf, shutOf, bareOf}
 use Rattle.pairs.specs.rule.Pair as pairs
 use Rattle.pairs.specs.rule.Pair.{missedOf, closedOf, pairOf}
 use Rattle.pairs.proofs.Lies.{lies-within}
@@ -41,9 +41,10 @@ use Rattle.contents.specs.declared.Content.{Content}
 use Rattle.contents.specs.declared.Content.the-variants as content
 use Rattle.contents.specs.declared.Step.{Step}
 use Rattle.contents.specs.declared.Step.the-variants as step
-use Rattle.contents.specs.rule.Step.{goOn, brokenAt, cutAt, onChar, referAt, bracketAt, returnAt, onNote, noteAt, knowing, onPair, pairAt}
+use Rattle.contents.specs.rule.Step.{goOnSaying, brokenAt, cutAt, onChar, referAt, bracketAt, returnAt, onNote, noteAt, knowing}
+use Rattle.contents.specs.rule.Step.{contentPair, pairAt}
 use Rattle.contents.specs.rule.Step.{onBreak, breakAt}
-use Rattle.contents.specs.rule.Step.{onLanguage, languageAt, onOther, otherAt, modeIn, kindOf, startAt, onOut, onEnd, closeAt, onAngle}
+use Rattle.contents.specs.rule.Step.{onLanguage, languageAt, onOther, otherAt, modeIn, stepKind, startAt, onOut, onEnd, closeAt, onAngle}
 use Rattle.contents.specs.rule.Step.{markAt, stepOf}
 use Rattle.contents.specs.rule.Content.{begun, contentOf}
 use Rattle.contents.proofs.Goes.{Reached, content-reached}
@@ -60,10 +61,10 @@ isForeign (stand.Foreign p) = 1
 isForeign (stand.Text p) = 0
 isForeign (stand.Broken p) = 0
 
-text-known : (d : List ℕ) (p : ℕ) → isForeign (textOf d p) ≡ 0
-unfolding textOf
+text-known : (d : List ℕ) (p : ℕ) → isForeign (textStand d p) ≡ 0
+unfolding textStand
 text-known d p = by (eqb (getD d p 0) 38) (referenceOf p (drop (p + 1) d)) where
-  by : (x : Bool) (r : Char) → isForeign (cond x (stands.onChar p r) (stand.Text p)) ≡ 0
+  by : (x : Bool) (r : Char) → isForeign (cond x (stands.onTextChar p r) (stand.Text p)) ≡ 0
   by true (char.Is c n) = refl
   by true char.Bad = refl
   by false r = refl
@@ -74,7 +75,7 @@ foreign-within bad d at p f = on (gapOf bad d at) refl f where
   on : (g : Skip) → gapOf bad d at ≡ g → stands.onGap bad d g ≡ stand.Foreign p → (at ≤ p) × (p < length d)
   on (skip.Broken q) g f = never cc
   on (skip.Past n) g f = by (leb (length d) n) (eqb (getD d n 0) 60) refl f where
-    opened : (a : Angle) → leb (length d) n ≡ false → stands.onAngle n a ≡ stand.Foreign p → (at ≤ p) × (p < length d)
+    opened : (a : Angle) → leb (length d) n ≡ false → stands.standAngle n a ≡ stand.Foreign p → (at ≤ p) × (p < length d)
     opened (angle.Start m) h f = never cc
     opened (angle.Close m) h f = never cc
     opened angle.Foreign h f =
@@ -84,7 +85,7 @@ foreign-within bad d at p f = on (gapOf bad d at) refl f where
         (omega arith, omega arith)
     opened (angle.Broken q) h f = never cc
 
-    by : (x y : Bool) → leb (length d) n ≡ x → cond x (stand.Broken n) (cond y (stands.onAngle n (angleOf bad d n)) (textOf d n))
+    by : (x y : Bool) → leb (length d) n ≡ x → cond x (stand.Broken n) (cond y (stands.standAngle n (angleOf bad d n)) (textStand d n))
         ≡ stand.Foreign p → (at ≤ p) × (p < length d)
     by true y h f = never cc
     by false true h f = opened (angleOf bad d n) h f
@@ -95,7 +96,7 @@ module _ (bad : Bool) (d w : List ℕ) (at : ℕ) where
   pub pair-cut : (p : ℕ) → pairOf bad d at w ≡ pair.Cut p → (at ≤ p) × (p < length d)
   unfolding pairOf missedOf closedOf
   pair-cut p f = on (standOf bad d at) refl f where
-    bare : (q e : ℕ) (t : Tag) → standOf bad d at ≡ stand.Start q e → pairs.onBare q t ≡ pair.Cut p → (at ≤ p) × (p < length d)
+    bare : (q e : ℕ) (t : Tag) → standOf bad d at ≡ stand.Start q e → pairs.pairBare q t ≡ pair.Cut p → (at ≤ p) × (p < length d)
     bare q e (tag.Read h em r n) g f =
         let i : q ≡ p = cc in
         let t = start-within bad d at q e g in
@@ -105,7 +106,7 @@ module _ (bad : Bool) (d w : List ℕ) (at : ℕ) where
         (omega arith, omega arith)
     bare q e (tag.Fault k r) g f = never cc
 
-    shut : (r : Skip) → pairs.onShut r ≡ pair.Cut p → (at ≤ p) × (p < length d)
+    shut : (r : Skip) → pairs.pairShut r ≡ pair.Cut p → (at ≤ p) × (p < length d)
     shut (skip.Past n) f = never cc
     shut (skip.Broken q) f = never cc
 
@@ -141,7 +142,7 @@ module _ (bad : Bool) (d : List ℕ) (m : ℕ) (w : List ℕ) (g : Going) (p u :
   note-no (skip.Past n) f = never cc
   note-no (skip.Broken q) f = never cc
 
-  pair-in : (k : Going) (n : ℕ) (r : Pair) → g .next ≤ n → pairOf bad d n br ≡ r → onPair k r ≡ Over → Lies
+  pair-in : (k : Going) (n : ℕ) (r : Pair) → g .next ≤ n → pairOf bad d n br ≡ r → contentPair k r ≡ Over → Lies
   pair-in k n (pair.Past q) h e f = never cc
   pair-in k n (pair.Cut q) h e f =
       let i : q ≡ p = cc in
@@ -152,7 +153,8 @@ module _ (bad : Bool) (d : List ℕ) (m : ℕ) (w : List ℕ) (g : Going) (p u :
   break-in : (e : ℕ) (t : Tag) → g .next < e → bareOf bad d (g .next) e ≡ t → onBreak bad d g t ≡ Over → Lies
   unfolding pairAt
   break-in e (tag.Read h em q n) i o f = by em f where
-    by : (em : Bool) → cond em (goOn (knowing g (h .unknown)) n said.Break) (onPair (knowing g (h .unknown)) (pairOf bad d n br)) ≡ Over
+    by : (em : Bool) → cond em (goOnSaying (knowing g (h .unknown)) n said.Break) (contentPair (knowing g (h .unknown)) (pairOf bad d n br))
+        ≡ Over
         → Lies
     by true f = never cc
     by false f =
@@ -172,7 +174,7 @@ module _ (bad : Bool) (d : List ℕ) (m : ℕ) (w : List ℕ) (g : Going) (p u :
   unfolding startAt breakAt languageAt otherAt
   start-in e i j f = by (eqb kind 1) (eqb kind 2) f where
     kind : ℕ
-    kind = kindOf d (modeIn m (g .inside)) (g .next + 1) e
+    kind = stepKind d (modeIn m (g .inside)) (g .next + 1) e
 
     by : (x y : Bool) → cond x (onBreak bad d g (bareOf bad d (g .next) e))
         (cond y (onLanguage g (tagOf bad d (g .next) e lang [] [] 0 0 0 1)) (onOther g (bareOf bad d (g .next) e))) ≡ Over → Lies
@@ -201,12 +203,12 @@ module _ (bad : Bool) (d : List ℕ) (m : ℕ) (w : List ℕ) (g : Going) (p u :
   mark-in : g .next < length d → markAt bad d m w g ≡ Over → Lies
   unfolding markAt noteAt
   mark-in i f = by (bytes.stands (60 ∷ 33 ∷ 45 ∷ 45 ∷ []) (drop (g .next) d)) f where
-    by : (x : Bool) → cond x (onNote g (commentOf bad (g .next) (g .next + 4) (drop (g .next + 4) d)))
+    by : (x : Bool) → cond x (onNote g (xmlComment bad (g .next) (g .next + 4) (drop (g .next + 4) d)))
         (onAngle bad d m w g (angleOf bad d (g .next))) ≡ Over → Lies
-    by true f = note-no (commentOf bad (g .next) (g .next + 4) (drop (g .next + 4) d)) f
+    by true f = note-no (xmlComment bad (g .next) (g .next + 4) (drop (g .next + 4) d)) f
     by false f = angle-in (angleOf bad d (g .next)) refl i f
 
-  bracket-no : (x : Bool) → cond x (brokenAt (g .next)) (goOn g (g .next + 1) (said.Byte 93)) ≡ Over → Lies
+  bracket-no : (x : Bool) → cond x (brokenAt (g .next)) (goOnSaying g (g .next + 1) (said.Byte 93)) ≡ Over → Lies
   bracket-no true f = never cc
   bracket-no false f = never cc
 
@@ -218,9 +220,10 @@ module _ (bad : Bool) (d : List ℕ) (m : ℕ) (w : List ℕ) (g : Going) (p u :
 
     by : (x y z v t : Bool) → leb (length d) (g .next) ≡ x
         → cond x (brokenAt (g .next)) (cond y (markAt bad d m w g) (cond z (onChar g (referenceOf (g .next) (drop (g .next + 1) d)))
-        (cond v (cond (bytes.stands (93 ∷ 93 ∷ 62 ∷ []) (drop (g .next) d)) (brokenAt (g .next)) (goOn g (g .next + 1) (said.Byte 93)))
-        (cond t (goOn g (g .next + 1) (cond (bytes.stands (10 ∷ []) (drop (g .next + 1) d)) said.Nothing (said.Byte 10)))
-        (goOn g (g .next + 1) (said.Byte b)))))) ≡ Over → Lies
+        (cond v (cond (bytes.stands (93 ∷ 93 ∷ 62 ∷ []) (drop (g .next) d)) (brokenAt (g .next))
+        (goOnSaying g (g .next + 1) (said.Byte 93)))
+        (cond t (goOnSaying g (g .next + 1) (cond (bytes.stands (10 ∷ []) (drop (g .next + 1) d)) said.Nothing (said.Byte 10)))
+        (goOnSaying g (g .next + 1) (said.Byte b)))))) ≡ Over → Lies
     by true y z v t e f = never cc
     by false true z v t e f = mark-in (leb-false (length d) (g .next) e) f
     by false false true v t e f = char-no g (referenceOf (g .next) (drop (g .next + 1) d)) f

@@ -47,8 +47,8 @@ module _ (bad : Bool) (d : List ℕ) where
 
   -- EITHER: and where another thing may stand, by `is_start`
   pub either-then : {A : Type 0} (w : List ℕ) (o : Open) (k : ℕ → Reader A) (q : rule.Open → Reader A)
-      → bind (readOf o) (λ x. rule.either bad d w x k (q x))
-      ≡ cond (startsOf d o w) (bind (readOf o) λ x. rule.either bad d w x k (q x)) (bind (readOf o) q)
+      → bind (readOf o) (λ x. rule.eitherElement bad d w x k (q x))
+      ≡ cond (startsOf d o w) (bind (readOf o) λ x. rule.eitherElement bad d w x k (q x)) (bind (readOf o) q)
   either-then w (opened.Start p e) k q = by (isNamed d (p + 1) e w) where
     by : (b : Bool) → cond b (k p e) (q (rule.start p) e) ≡ cond b (cond b (k p e) (q (rule.start p) e)) (q (rule.start p) e)
     by true = refl

@@ -26,7 +26,7 @@ use Rattle.spans.specs.rule.Heard.{heard}
 use Rattle.forms.specs.rule.Form.{fitsOf}
 use Rattle.tokens.specs.declared.Fault.{Fault}
 use Rattle.tokens.specs.rule.Gap.{fault}
-use Rattle.survey.specs.rule.Survey.{Figure, Text, Spread}
+use Rattle.survey.specs.rule.Survey.{Figure, KeptText, Spread}
 use Rattle.reading.specs.rule.Result.{Result, Is, Not, bind}
 use Rattle.reading.specs.rule.Least.{Charge, _when_, judged}
 use Rattle.reading.specs.rule.Statement.{Position, positionCharges, spreadCharges, sizeCharges}
@@ -139,12 +139,12 @@ module _ (bad : Bool) (d w : List ℕ) (m : ℕ) (em : Bool) (n : ℕ) where
     by false (content.Fault j p) g f = never cc
 
 -- an element that is only a text: it lies behind its start tag, whose name ends at e, and before k
-pub record TextGood (d : List ℕ) (e : ℕ) (t : Text) (k : ℕ) : Type 0 where
+pub record TextGood (d : List ℕ) (e : ℕ) (t : KeptText) (k : ℕ) : Type 0 where
   pub starts : e < t .place
   pub ends : t .place + t .length ≤ k
   pub within : k ≤ length d
 
-pub text-good : (bad : Bool) (d w : List ℕ) (m p e : ℕ) {t : Text} {k : ℕ} → text bad d w m p e ≡ Is t k → TextGood d e t k
+pub text-good : (bad : Bool) (d w : List ℕ) (m p e : ℕ) {t : KeptText} {k : ℕ} → text bad d w m p e ≡ Is t k → TextGood d e t k
 unfolding text
 text-good bad d w m p e {t} {k} f = on (bareOf bad d p e) refl f where
   inner : (h : Held) (n : ℕ) (r : Result Body) → (em : Bool) → e < n → n ≤ length d → body bad d w m em n ≡ r

@@ -17,7 +17,7 @@ use Rattle.statements.specs.declared.Spreading.{Spreading}
 use Rattle.survey.specs.rule.Survey.{Figure, Spread}
 use Rattle.ranks.specs.declared.Found.{Found}
 use Rattle.ranks.specs.rule.Rank as rank
-use Rattle.ranks.specs.rule.Rank.{lowerOf}
+use Rattle.ranks.specs.rule.Rank.{lowerFound}
 use Rattle.reading.specs.rule.Result.{Result, Is, Not}
 use Rattle.reading.specs.rule.Least.{Charge, _when_, judged}
 use Rattle.reading.specs.rule.Statement.{Position, positionCharges, spreadCharges, sizeCharges}
@@ -51,14 +51,14 @@ module _ (a y : Figure) (l : List Charge) (h : Numbered l) where
       (found-cons (fault 7 (a .place)) (eqb (a .value) 0)
       (fault 7 (y .place) when ltb (y .value) (a .value) ∷ fault 8 (a .place) when ltb 16384 (a .value)
       ∷ fault 8 (y .place) when ltb 16384 (y .value) ∷ l) (omega arith) (omega arith, (omega arith, (omega arith, h)))
-      ∙ ap (lowerOf (alone (fault 7 (a .place)) (eqb (a .value) 0)))
+      ∙ ap (lowerFound (alone (fault 7 (a .place)) (eqb (a .value) 0)))
       (found-cons (fault 7 (y .place)) (ltb (y .value) (a .value))
       (fault 8 (a .place) when ltb 16384 (a .value) ∷ fault 8 (y .place) when ltb 16384 (y .value) ∷ l) (omega arith)
       (omega arith, (omega arith, h))
-      ∙ ap (lowerOf (alone (fault 7 (y .place)) (ltb (y .value) (a .value))))
+      ∙ ap (lowerFound (alone (fault 7 (y .place)) (ltb (y .value) (a .value))))
       (found-cons (fault 8 (a .place)) (ltb 16384 (a .value)) (fault 8 (y .place) when ltb 16384 (y .value) ∷ l) (omega arith)
       (omega arith, h)
-      ∙ ap (lowerOf (alone (fault 8 (a .place)) (ltb 16384 (a .value))))
+      ∙ ap (lowerFound (alone (fault 8 (a .place)) (ltb 16384 (a .value))))
       (found-cons (fault 8 (y .place)) (ltb 16384 (y .value)) l (omega arith) h))))
 
   position-numbered : Numbered (positionCharges a y ++ l)
@@ -90,64 +90,65 @@ spread-ruled room x w n l h f e = judged-to (toSpreading room) (spreadCharges ro
 -- of a width of their own
 module _ (room : ℕ) (x w : Figure) (l : List Charge) (h : Numbered l) where
   fields-found : foundOf (spreadCharges room x (some w) ++ l)
-      ≡ lowerOf (alone (fault 7 (x .place)) (eqb (capped (x .value)) 0))
-      (lowerOf (alone (fault 7 (w .place)) (eqb (capped (w .value)) 0)) (foundOf l))
+      ≡ lowerFound (alone (fault 7 (x .place)) (eqb (capped (x .value)) 0))
+      (lowerFound (alone (fault 7 (w .place)) (eqb (capped (w .value)) 0)) (foundOf l))
   unfolding spreadCharges
   fields-found =
       rw (capped-zero (x .value), capped-zero (w .value))
       (found-cons (fault 7 (x .place)) (eqb (x .value) 0) (fault 7 (w .place) when eqb (w .value) 0 ∷ l) (omega arith) (omega arith, h)
-      ∙ ap (lowerOf (alone (fault 7 (x .place)) (eqb (x .value) 0))) (found-cons (fault 7 (w .place)) (eqb (w .value) 0) l (omega arith) h))
+      ∙ ap (lowerFound (alone (fault 7 (x .place)) (eqb (x .value) 0)))
+      (found-cons (fault 7 (w .place)) (eqb (w .value) 0) l (omega arith) h))
 
 pub fields-ruled : (room : ℕ) (x w : Figure) (n : ℕ) {a b : Figures} (e k : ℕ) → a ≡ figures x e → b ≡ figures w k → (l : List Charge)
     → Numbered l
-    → {f g : Found} → g ≡ foundOf l → f ≡ lowerOf (alone (fault 7 (a .place)) (eqb (a .size) 0))
-    (lowerOf (alone (fault 7 (b .place)) (eqb (b .size) 0)) g)
+    → {f g : Found} → g ≡ foundOf l → f ≡ lowerFound (alone (fault 7 (a .place)) (eqb (a .size) 0))
+    (lowerFound (alone (fault 7 (b .place)) (eqb (b .size) 0)) g)
     → sharedOf (a .size) (b .size) n f ≡ toSpreading room (spreadJudged room x (some w) l n)
 fields-ruled room x w n {a} {b} e k p q l h {f} {g} i j =
     rw (p, q) (spread-ruled room x (some w) n l h f (fields-found room x w l h ∙ sym (rw (p, q, i) at j)))
 
 -- sharing the position's
 even-found : (room : ℕ) (x : Figure) (l : List Charge) → Numbered l → foundOf (spreadCharges room x none ++ l)
-    ≡ lowerOf (alone (fault 7 (x .place)) (eqb (x .value) 0))
-    (lowerOf (alone (fault 7 (x .place)) (not (eqb (room % x .value) 0))) (foundOf l))
+    ≡ lowerFound (alone (fault 7 (x .place)) (eqb (x .value) 0))
+    (lowerFound (alone (fault 7 (x .place)) (not (eqb (room % x .value) 0))) (foundOf l))
 unfolding spreadCharges
 even-found room x l h =
     found-cons (fault 7 (x .place)) (eqb (x .value) 0) (fault 7 (x .place) when not (eqb (room % x .value) 0) ∷ l) (omega arith)
     (omega arith, h)
-    ∙ ap (lowerOf (alone (fault 7 (x .place)) (eqb (x .value) 0)))
+    ∙ ap (lowerFound (alone (fault 7 (x .place)) (eqb (x .value) 0)))
     (found-cons (fault 7 (x .place)) (not (eqb (room % x .value) 0)) l (omega arith) h)
 
 module _ (room : ℕ) (small : room < 1000000000000000) (x : Figure) (n : ℕ) (l : List Charge) (h : Numbered l) where
   abbrev seven : Bool → Found
   seven q = alone (fault 7 (x .place)) q
 
-  none-ruled : {f : Found} → capped (x .value) ≡ 0 → f ≡ lowerOf (seven true) (foundOf l) → sharedOf 0 0 n f
+  none-ruled : {f : Found} → capped (x .value) ≡ 0 → f ≡ lowerFound (seven true) (foundOf l) → sharedOf 0 0 n f
       ≡ toSpreading room (spreadJudged room x none l n)
   none-ruled {f} z j =
       let v : eqb (x .value) 0 ≡ true = sym (capped-zero (x .value)) ∙ eq-eqb (capped (x .value)) 0 z in
       let o = not (eqb (room % x .value) 0) in
-      let q : lowerOf (seven true) (lowerOf (seven o) (foundOf l)) ≡ f =
+      let q : lowerFound (seven true) (lowerFound (seven o) (foundOf l)) ≡ f =
       lower-join (seven true) (seven o) (foundOf l)
-      ∙ ap (λ (y : Found). lowerOf y (foundOf l)) (lower-same (fault 7 (x .place)) o (omega arith)) ∙ sym j in
+      ∙ ap (λ (y : Found). lowerFound y (foundOf l)) (lower-same (fault 7 (x .place)) o (omega arith)) ∙ sym j in
       let s = spread-ruled room x none n l h f (even-found room x l h ∙ (rw v q)) in
       let y : eqb (f .number) 0 ≡ false = rw j (lower-some (seven true) (foundOf l) (omega arith)) in
       rw y (rw y at s)
 
-  some-ruled : {f : Found} → (capped (x .value) ≡ 0 → ⊥) → f ≡ lowerOf (seven (not (eqb (room % capped (x .value)) 0))) (foundOf l)
+  some-ruled : {f : Found} → (capped (x .value) ≡ 0 → ⊥) → f ≡ lowerFound (seven (not (eqb (room % capped (x .value)) 0))) (foundOf l)
       → sharedOf (capped (x .value)) (room / capped (x .value)) n f ≡ toSpreading room (spreadJudged room x none l n)
   some-ruled {f} z j =
       let v : eqb (x .value) 0 ≡ false = sym (capped-zero (x .value)) ∙ ne-eqb (capped (x .value)) 0 z in
       let i = rw (capped-mod room (x .value) small) at j in
-      let q : lowerOf (seven false) (lowerOf (seven (not (eqb (room % x .value) 0))) (foundOf l)) ≡ f =
-      lower-left (seven false) (lowerOf (seven (not (eqb (room % x .value) 0))) (foundOf l)) refl ∙ sym i in
+      let q : lowerFound (seven false) (lowerFound (seven (not (eqb (room % x .value) 0))) (foundOf l)) ≡ f =
+      lower-left (seven false) (lowerFound (seven (not (eqb (room % x .value) 0))) (foundOf l)) refl ∙ sym i in
       spread-ruled room x none n l h f (even-found room x l h ∙ (rw v q))
 
   module _ {a : Figures} (e : ℕ) (p : a ≡ figures x e) {f g : Found} (i : g ≡ foundOf l) where
-    pub even-none : a .size ≡ 0 → f ≡ lowerOf (alone (fault 7 (a .place)) true) g → sharedOf 0 0 n f
+    pub even-none : a .size ≡ 0 → f ≡ lowerFound (alone (fault 7 (a .place)) true) g → sharedOf 0 0 n f
         ≡ toSpreading room (spreadJudged room x none l n)
     even-none z j = none-ruled (rw p at z) (rw (p, i) at j)
 
-    pub even-ruled : (a .size ≡ 0 → ⊥) → f ≡ lowerOf (alone (fault 7 (a .place)) (not (eqb (room % a .size) 0))) g
+    pub even-ruled : (a .size ≡ 0 → ⊥) → f ≡ lowerFound (alone (fault 7 (a .place)) (not (eqb (room % a .size) 0))) g
         → sharedOf (a .size) (room / a .size) n f ≡ toSpreading room (spreadJudged room x none l n)
     even-ruled z j = rw p (some-ruled (rw p at z) (rw (p, i) at j))
 
@@ -158,13 +159,13 @@ size-ruled y n {x} e p l h {f} i = rw p (judged-to toNumber l y n f h (sym i))
 
 module _ (y : Figure) (l : List Charge) (h : Numbered l) where
   size-found : foundOf (sizeCharges y ++ l)
-      ≡ lowerOf (alone (fault 7 (y .place)) (eqb (capped (y .value)) 0))
-      (lowerOf (alone (fault 8 (y .place)) (ltb 4096 (capped (y .value)))) (foundOf l))
+      ≡ lowerFound (alone (fault 7 (y .place)) (eqb (capped (y .value)) 0))
+      (lowerFound (alone (fault 8 (y .place)) (ltb 4096 (capped (y .value)))) (foundOf l))
   unfolding sizeCharges
   size-found =
       rw (capped-zero (y .value), capped-limit 4096 (y .value) (omega arith))
       (found-cons (fault 7 (y .place)) (eqb (y .value) 0) (fault 8 (y .place) when ltb 4096 (y .value) ∷ l) (omega arith) (omega arith, h)
-      ∙ ap (lowerOf (alone (fault 7 (y .place)) (eqb (y .value) 0)))
+      ∙ ap (lowerFound (alone (fault 7 (y .place)) (eqb (y .value) 0)))
       (found-cons (fault 8 (y .place)) (ltb 4096 (y .value)) l (omega arith) h))
 
   size-numbered : Numbered (sizeCharges y ++ l)
@@ -173,7 +174,7 @@ module _ (y : Figure) (l : List Charge) (h : Numbered l) where
 
 pub size-ranked : (y : Figure) (n : ℕ) {x : Figures} (e : ℕ) → x ≡ figures y e → (l : List Charge) → Numbered l → {f g : Found} → g
     ≡ foundOf l
-    → f ≡ lowerOf (alone (fault 7 (x .place)) (eqb (x .size) 0)) (lowerOf (alone (fault 8 (x .place)) (ltb 4096 (x .size))) g)
+    → f ≡ lowerFound (alone (fault 7 (x .place)) (eqb (x .size) 0)) (lowerFound (alone (fault 8 (x .place)) (ltb 4096 (x .size))) g)
     → sizedOf x n f ≡ toNumber (judged (sizeCharges y ++ l) y n)
 size-ranked y n {x} e p l h {f} {g} i j =
     size-ruled y n e p (sizeCharges y ++ l) (size-numbered y l h) (rw (p, i) at j ∙ sym (size-found y l h))

@@ -13,7 +13,7 @@ use Rattle.markup.specs.rule.Bytes.{isDigit}
 use Rattle.scan.specs.rule.Number.{decimalOf}
 use Rattle.scan.specs.Number.{capped}
 use Rattle.spans.specs.rule.Heard.{Heard, All, Ill, heard, nothing}
-use Rattle.spans.specs.rule.Says.{eachOf, ofClass, countAfter}
+use Rattle.spans.specs.rule.Says.{eachChar, ofClass, countAfter}
 use Rattle.spans.specs.Figures.{figuresAfter, figuresOf}
 use Rattle.spans.specs.declared.Figures as span
 use Rattle.spans.specs.declared.Figures.the-variants.{Good, Wrong}
@@ -28,21 +28,21 @@ use Rattle.bridge.specs.Statements.{figures}
 use Rattle.xml_reading.specs.rule.Element.{saidIn, charsOf, figureOf}
 use Rattle.elements.specs.Code.{Written}
 
-class-digits : (cs : List ℕ) → eachOf (ofClass 1) cs ≡ eachOf isDigit cs
-unfolding eachOf ofClass
+class-digits : (cs : List ℕ) → eachChar (ofClass 1) cs ≡ eachChar isDigit cs
+unfolding eachChar ofClass
 class-digits [] = refl
 class-digits (c ∷ cs) = ap (λ (q : Bool). isDigit c && q) (class-digits cs)
 
 -- a stretch of digits: what is heard, and that all are digits
 record Digits (h : Heard) : Type 0 where
   pub all : h ≡ All (saidIn h)
-  pub each : eachOf isDigit (saidIn h) ≡ true
+  pub each : eachChar isDigit (saidIn h) ≡ true
   pub some : 0 < length (saidIn h)
 
 digits-of : (h : Heard) → fitsOf 1 h ≡ true → Digits h
 unfolding fitsOf countAfter
-digits-of (All cs) q = by (eachOf (ofClass 1) cs) refl q where
-  by : (p : Bool) → eachOf (ofClass 1) cs ≡ p → ltb 0 (cond p (0 + length cs) 0) ≡ true → Digits (All cs)
+digits-of (All cs) q = by (eachChar (ofClass 1) cs) refl q where
+  by : (p : Bool) → eachChar (ofClass 1) cs ≡ p → ltb 0 (cond p (0 + length cs) 0) ≡ true → Digits (All cs)
   by true e q = let h = ltb-true 0 (0 + length cs) q in record { all = refl; each = sym (class-digits cs) ∙ e; some = omega arith }
   by false e q = holds-not q (le-ltb 0 0 (omega arith))
 digits-of Ill q = holds-not q (le-ltb 0 0 (omega arith))
@@ -75,16 +75,17 @@ take-nothing : (d : List ℕ) (v e : ℕ) → v ≡ e → stretch d v e ≡ []
 take-nothing d v e h = let z : e - v ≡ 0 = omega arith in rw z
 
 pub figure-told : (d : List ℕ) (v e : ℕ) → Written d v e → toFigures v e (figuresOf (heard (stretch d v e) 0)) ≡ figures (figureOf d v e) e
-unfolding figureOf charsOf figuresAfter decimalOf eachOf
+unfolding figureOf charsOf figuresAfter decimalOf eachChar
 figure-told d v e = ⊎-elim (λ q. number-of v e (heard (stretch d v e) 0) (fits-digits d v e q))
     (λ q. rw (take-nothing d v e q, heard-nothing))
 
 -- ---- which says less
-digits-all : (cs : List ℕ) → eachOf isDigit cs ≡ true → digitsIn cs ≡ cs
-unfolding eachOf digitsIn
+digits-all : (cs : List ℕ) → eachChar isDigit cs ≡ true → digitsIn cs ≡ cs
+unfolding eachChar digitsIn
 digits-all [] e = refl
 digits-all (c ∷ cs) e = by (isDigit c) refl e (digits-all cs) where
-  by : (q : Bool) → isDigit c ≡ q → (q && eachOf isDigit cs) ≡ true → (eachOf isDigit cs ≡ true → digitsIn cs ≡ cs) → digitsIn (c ∷ cs) ≡ c
+  by : (q : Bool) → isDigit c ≡ q → (q && eachChar isDigit cs) ≡ true → (eachChar isDigit cs ≡ true → digitsIn cs ≡ cs) → digitsIn (c ∷ cs)
+      ≡ c
       ∷ cs
   by true f e ih = rw (digit-yes c f) (ap (λ (s : List ℕ). c ∷ s) (ih e))
   by false f e ih = let z : _≡_ {A = ℕ} 0 1 = cc in absurd (omega arith)

@@ -10,42 +10,42 @@ use borrow.Author.Tests.{eq-eqb, ne-eqb, eqb-true, eqb-false, ltb-true, ltb-fals
 use Rattle.tokens.specs.declared.Fault.{Fault}
 use Rattle.tokens.specs.rule.Gap.{fault}
 use Rattle.ranks.specs.declared.Found.{Found}
-use Rattle.ranks.specs.rule.Rank.{none, faultOf, precedes, lowerOf}
+use Rattle.ranks.specs.rule.Rank.{noneFound, foundAt, precedes, lowerFound}
 use Rattle.ranks.proofs.Lowest.{Below, below-of, below-join, turned, same}
 use Rattle.reading.specs.rule.Result.{Result, Is, Not}
-use Rattle.reading.specs.rule.Least.{Charge, _when_, named, before, Finding, clean, first, lower, least, found, judged}
+use Rattle.reading.specs.rule.Least.{Charge, _when_, named, goesBefore, Finding, clean, first, lower, least, found, judged}
 use Rattle.xml_reading.specs.rule.Open.{unknownAt}
 use Rattle.elements.specs.Code.{foundIn, foundOf, alone, ruled, Numbered}
 
 -- ---- of two the one that counts
 module _ (a b : Found) where
-  pub lower-left : eqb (a .number) 0 ≡ true → lowerOf a b ≡ b
-  unfolding lowerOf
+  pub lower-left : eqb (a .number) 0 ≡ true → lowerFound a b ≡ b
+  unfolding lowerFound
   lower-left e = rw e
 
-  pub lower-right : eqb (a .number) 0 ≡ false → eqb (b .number) 0 ≡ true → lowerOf a b ≡ a
-  unfolding lowerOf
+  pub lower-right : eqb (a .number) 0 ≡ false → eqb (b .number) 0 ≡ true → lowerFound a b ≡ a
+  unfolding lowerFound
   lower-right e f = rw (e, f)
 
-  pub lower-take : eqb (a .number) 0 ≡ false → eqb (b .number) 0 ≡ false → precedes b a ≡ true → lowerOf a b ≡ b
-  unfolding lowerOf
+  pub lower-take : eqb (a .number) 0 ≡ false → eqb (b .number) 0 ≡ false → precedes b a ≡ true → lowerFound a b ≡ b
+  unfolding lowerFound
   lower-take e f g = rw (e, f, g)
 
-  pub lower-keep : eqb (a .number) 0 ≡ false → eqb (b .number) 0 ≡ false → precedes b a ≡ false → lowerOf a b ≡ a
-  unfolding lowerOf
+  pub lower-keep : eqb (a .number) 0 ≡ false → eqb (b .number) 0 ≡ false → precedes b a ≡ false → lowerFound a b ≡ a
+  unfolding lowerFound
   lower-keep e f g = rw (e, f, g)
 
-pub lower-join : (a b c : Found) → lowerOf a (lowerOf b c) ≡ lowerOf (lowerOf a b) c
+pub lower-join : (a b c : Found) → lowerFound a (lowerFound b c) ≡ lowerFound (lowerFound a b) c
 lower-join a b c = by (eqb (a .number) 0) (eqb (b .number) 0) (eqb (c .number) 0) (precedes b a) (precedes c b) (precedes c a) refl refl
     refl refl refl refl where
       by : (x y z p q r : Bool) → eqb (a .number) 0 ≡ x → eqb (b .number) 0 ≡ y → eqb (c .number) 0 ≡ z → precedes b a ≡ p → precedes c b
           ≡ q
           → precedes c a ≡ r
-          → lowerOf a (lowerOf b c) ≡ lowerOf (lowerOf a b) c
-      by true y z p q r e f g i j k = rw (lower-left a b e) (lower-left a (lowerOf b c) e)
+          → lowerFound a (lowerFound b c) ≡ lowerFound (lowerFound a b) c
+      by true y z p q r e f g i j k = rw (lower-left a b e) (lower-left a (lowerFound b c) e)
       by false true z p q r e f g i j k = rw (lower-left b c f, lower-right a b e f)
       by false false true p q r e f g i j k = rw (lower-right b c f g) (of p i) where
-        of : (p : Bool) → precedes b a ≡ p → lowerOf a b ≡ lowerOf (lowerOf a b) c
+        of : (p : Bool) → precedes b a ≡ p → lowerFound a b ≡ lowerFound (lowerFound a b) c
         of true i = rw (lower-take a b e f i) (sym (lower-right b c f g))
         of false i = rw (lower-keep a b e f i) (sym (lower-right a c e g))
       by false false false true true true e f g i j k = rw (lower-take b c f g j, lower-take a b e f i, lower-take b c f g j)
@@ -61,12 +61,12 @@ lower-join a b c = by (eqb (a .number) 0) (eqb (b .number) 0) (eqb (c .number) 0
           (sym (lower-take a c e g k ∙ sym (same a c (below-join a b c (below-of a b i) (below-of b c j)) (turned a c k))))
       by false false false false false false e f g i j k = rw (lower-keep b c f g j, lower-keep a b e f i) (sym (lower-keep a c e g k))
 
-pub lower-some : (a b : Found) → 0 < a .number → eqb (lowerOf a b .number) 0 ≡ false
+pub lower-some : (a b : Found) → 0 < a .number → eqb (lowerFound a b .number) 0 ≡ false
 lower-some a b h = by (eqb (b .number) 0) (precedes b a) refl refl where
   s : eqb (a .number) 0 ≡ false
   s = ne-eqb (a .number) 0 (λ e. omega arith)
 
-  by : (x y : Bool) → eqb (b .number) 0 ≡ x → precedes b a ≡ y → eqb (lowerOf a b .number) 0 ≡ false
+  by : (x y : Bool) → eqb (b .number) 0 ≡ x → precedes b a ≡ y → eqb (lowerFound a b .number) 0 ≡ false
   by true y e f = rw (lower-right a b s e) s
   by false true e f = rw (lower-take a b s e f) e
   by false false e f = rw (lower-keep a b s e f) s
@@ -80,22 +80,22 @@ same-keeps a = rw (le-ltb (a .number) (a .number) (omega arith), le-ltb (a .plac
       by false = refl
 
 -- a fault that is named twice
-pub lower-same : (f : Fault) (q : Bool) → 0 < f .number → lowerOf (alone f true) (alone f q) ≡ alone f true
+pub lower-same : (f : Fault) (q : Bool) → 0 < f .number → lowerFound (alone f true) (alone f q) ≡ alone f true
 lower-same f q h = by q where
   s : eqb (f .number) 0 ≡ false
   s = ne-eqb (f .number) 0 (λ e. omega arith)
 
-  by : (q : Bool) → lowerOf (alone f true) (alone f q) ≡ alone f true
+  by : (q : Bool) → lowerFound (alone f true) (alone f q) ≡ alone f true
   by true = lower-keep (alone f true) (alone f true) s s (same-keeps (alone f true))
-  by false = lower-right (alone f true) none s refl
+  by false = lower-right (alone f true) noneFound s refl
 
 -- ---- one fault more
 abbrev asFound : Fault → Found
 asFound f = record { number = f .number; place = f .place }
 
 -- f goes first exactly when the other doesn't come before it
-before-precedes : (f g : Fault) → before f g ≡ not (precedes (asFound g) (asFound f))
-unfolding before precedes
+before-precedes : (f g : Fault) → goesBefore f g ≡ not (precedes (asFound g) (asFound f))
+unfolding goesBefore precedes
 before-precedes f g = by (f .number) (g .number) (f .place) (g .place) where
   places : (p q : ℕ) (z : Bool) → ltb q p ≡ z → leb p q ≡ not (ltb q p)
   places p q true k = let h = ltb-true q p k in rw (k, lt-leb p q h)
@@ -124,7 +124,7 @@ Marked (first f) = 0 < f .number
 lower-marked : (f : Fault) (x : Finding) → 0 < f .number → Marked x → Marked (lower f x)
 unfolding lower
 lower-marked f clean h i = h
-lower-marked f (first g) h i = by (before f g) where
+lower-marked f (first g) h i = by (goesBefore f g) where
   by : (q : Bool) → Marked (cond q (first f) (first g))
   by true = h
   by false = i
@@ -140,29 +140,29 @@ least-marked (f when q ∷ l) h = by q (least-marked l (h .1)) where
 some : (n : ℕ) → 0 < n → eqb n 0 ≡ false
 some n h = ne-eqb n 0 (λ e. omega arith)
 
-lower-found : (f : Fault) (x : Finding) → 0 < f .number → Marked x → foundIn (lower f x) ≡ lowerOf (asFound f) (foundIn x)
+lower-found : (f : Fault) (x : Finding) → 0 < f .number → Marked x → foundIn (lower f x) ≡ lowerFound (asFound f) (foundIn x)
 unfolding lower
-lower-found f clean h i = sym (lower-right (asFound f) none (some (f .number) h) refl)
-lower-found f (first g) h i = by (before f g) refl where
+lower-found f clean h i = sym (lower-right (asFound f) noneFound (some (f .number) h) refl)
+lower-found f (first g) h i = by (goesBefore f g) refl where
   back : (x y : Bool) → x ≡ not y → y ≡ not x
   back true true e = e
   back true false e = refl
   back false true e = refl
   back false false e = e
 
-  by : (q : Bool) → before f g ≡ q → foundIn (cond q (first f) (first g)) ≡ lowerOf (asFound f) (asFound g)
+  by : (q : Bool) → goesBefore f g ≡ q → foundIn (cond q (first f) (first g)) ≡ lowerFound (asFound f) (asFound g)
   by true e = sym (lower-keep (asFound f) (asFound g) (some (f .number) h) (some (g .number) i)
-      (back (before f g) (precedes (asFound g) (asFound f)) (before-precedes f g) ∙ ap not e))
+      (back (goesBefore f g) (precedes (asFound g) (asFound f)) (before-precedes f g) ∙ ap not e))
   by false e = sym (lower-take (asFound f) (asFound g) (some (f .number) h) (some (g .number) i)
-      (back (before f g) (precedes (asFound g) (asFound f)) (before-precedes f g) ∙ ap not e))
+      (back (goesBefore f g) (precedes (asFound g) (asFound f)) (before-precedes f g) ∙ ap not e))
 
 pub found-cons : (f : Fault) (q : Bool) (l : List Charge) → 0 < f .number → Numbered l → foundOf (f when q ∷ l)
-    ≡ lowerOf (alone f q) (foundOf l)
+    ≡ lowerFound (alone f q) (foundOf l)
 unfolding foundOf named least
 found-cons f q l h i = by q where
-  by : (q : Bool) → foundIn (least (cond q (f ∷ named l) (named l))) ≡ lowerOf (cond q (asFound f) none) (foundIn (least (named l)))
+  by : (q : Bool) → foundIn (least (cond q (f ∷ named l) (named l))) ≡ lowerFound (cond q (asFound f) noneFound) (foundIn (least (named l)))
   by true = lower-found f (least (named l)) h (least-marked l i)
-  by false = sym (lower-left none (foundIn (least (named l))) refl)
+  by false = sym (lower-left noneFound (foundIn (least (named l))) refl)
 
 pub numbered-join : (l m : List Charge) → Numbered l → Numbered m → Numbered (l ++ m)
 numbered-join [] m h i = i
@@ -173,25 +173,25 @@ unfolding foundOf named least
 found-none = refl
 
 -- RANKED: the least of two lists of charges is the lower of the least of each
-pub found-join : (l m : List Charge) → Numbered l → Numbered m → foundOf (l ++ m) ≡ lowerOf (foundOf l) (foundOf m)
+pub found-join : (l m : List Charge) → Numbered l → Numbered m → foundOf (l ++ m) ≡ lowerFound (foundOf l) (foundOf m)
 found-join [] m h i = sym (lower-left (foundOf []) (foundOf m) found-none)
 found-join (f when q ∷ l) m h i =
     found-cons f q (l ++ m) (h .0) (numbered-join l m (h .1) i)
-    ∙ ap (λ (x : Found). lowerOf (alone f q) x) (found-join l m (h .1) i)
+    ∙ ap (λ (x : Found). lowerFound (alone f q) x) (found-join l m (h .1) i)
     ∙ lower-join (alone f q) (foundOf l) (foundOf m)
-    ∙ sym (ap (λ (x : Found). lowerOf x (foundOf m)) (found-cons f q l (h .0) (h .1)))
+    ∙ sym (ap (λ (x : Found). lowerFound x (foundOf m)) (found-cons f q l (h .0) (h .1)))
 
 -- 51 where it stands
-pub found-unknown : (p : ℕ) → foundOf (unknownAt p ∷ []) ≡ faultOf 51 p
+pub found-unknown : (p : ℕ) → foundOf (unknownAt p ∷ []) ≡ foundAt 51 p
 unfolding foundOf named least lower
 found-unknown p = by (eqb p 0) where
-  by : (q : Bool) → foundIn (least (cond (not q) (fault 51 p ∷ []) [])) ≡ cond q none (record { number = 51; place = p })
+  by : (q : Bool) → foundIn (least (cond (not q) (fault 51 p ∷ []) [])) ≡ cond q noneFound (record { number = 51; place = p })
   by true = refl
   by false = refl
 
 -- and before other charges
-pub found-behind : (p : ℕ) (l : List Charge) → Numbered l → foundOf (unknownAt p ∷ l) ≡ lowerOf (faultOf 51 p) (foundOf l)
-found-behind p l h = found-join (unknownAt p ∷ []) l (omega arith, tt) h ∙ ap (λ (x : Found). lowerOf x (foundOf l)) (found-unknown p)
+pub found-behind : (p : ℕ) (l : List Charge) → Numbered l → foundOf (unknownAt p ∷ l) ≡ lowerFound (foundAt 51 p) (foundOf l)
+found-behind p l h = found-join (unknownAt p ∷ []) l (omega arith, tt) h ∙ ap (λ (x : Found). lowerFound x (foundOf l)) (found-unknown p)
 
 -- JUDGED: what is answered follows from the least alone
 pub judged-ruled : {A : Type 0} (l : List Charge) (a : A) (n : ℕ) → Numbered l → judged l a n ≡ ruled (foundOf l) a n

@@ -21,9 +21,9 @@ use Rattle.statements.specs.declared.Spreading.{Spreading}
 use Rattle.statements.specs.declared.Spreading.the-variants as spreading
 use Rattle.tokens.specs.declared.Phrase.{Phrase}
 use Rattle.tokens.specs.declared.Phrase.the-variants as phrase
-use Rattle.survey.specs.rule.Survey.{Figure, Text, Spread}
+use Rattle.survey.specs.rule.Survey.{Figure, KeptText, Spread}
 use Rattle.ranks.specs.declared.Found.{Found}
-use Rattle.ranks.specs.rule.Rank.{none, lowerOf}
+use Rattle.ranks.specs.rule.Rank.{noneFound, lowerFound}
 use Rattle.reading.specs.rule.Result.{Result, Is, Not, Reader, _>>=_, bind}
 use Rattle.reading.specs.rule.Least.{Charge, _when_, Finding, clean, first, named, least, judged}
 use Rattle.reading.specs.rule.Statement.{Position, positionCharges, spreadCharges}
@@ -81,7 +81,7 @@ dueRead (due.Not f) = Not f
 
 -- ---- charges
 abbrev pub foundIn : Finding → Found
-foundIn clean = none
+foundIn clean = noneFound
 foundIn (first f) = record { number = f .number; place = f .place }
 
 -- the least of the charges that are named
@@ -90,7 +90,7 @@ foundOf l = foundIn (least (named l))
 
 -- a charge by itself
 abbrev pub alone : Fault → Bool → Found
-alone f q = cond q (record { number = f .number; place = f .place }) none
+alone f q = cond q (record { number = f .number; place = f .place }) noneFound
 
 -- what is answered where that was found
 abbrev pub ruled : {A : Type 0} → Found → A → ℕ → Result A
@@ -116,7 +116,7 @@ bodiedOf (Is b n) = bodied.Is (record {
 })
 bodiedOf (Not f) = bodied.Not f
 
-abbrev pub phraseOf : Result Text → Phrase
+abbrev pub phraseOf : Result KeptText → Phrase
 phraseOf (Is t n) = phrase.Is (record { place = t .place; length = t .length; next = n })
 phraseOf (Not f) = phrase.Not f
 
@@ -158,10 +158,10 @@ spreadBehind bad d room h empty = nothing bad d SPREAD empty >>= λ l. spreadHel
 -- what is wrong with two locations, before what lies behind them
 abbrev pub positionFound : Bool → Figures → Figures → Found → Found
 positionFound below a b behind =
-    lowerOf (alone (fault 7 (a .place)) (eqb (a .size) 0))
-    (lowerOf (alone (fault 7 (b .place)) below)
-    (lowerOf (alone (fault 8 (a .place)) (ltb 16384 (a .size)))
-    (lowerOf (alone (fault 8 (b .place)) (ltb 16384 (b .size))) behind)))
+    lowerFound (alone (fault 7 (a .place)) (eqb (a .size) 0))
+    (lowerFound (alone (fault 7 (b .place)) below)
+    (lowerFound (alone (fault 8 (a .place)) (ltb 16384 (a .size)))
+    (lowerFound (alone (fault 8 (b .place)) (ltb 16384 (b .size))) behind)))
 
 abbrev pub locatedOf : Figures → Figures → ℕ → Found → Stated
 locatedOf a b n x =

@@ -25,14 +25,14 @@ ghost use lib.Dec.{eqb, ltb};
 ghost use lib.ListN.{length};
 ghost use Rattle.tokens.specs.rule.Gap.{fault};
 ghost use Rattle.survey.specs.rule.Survey.{Figure};
-ghost use Rattle.ranks.specs.rule.Rank.{faultOf, lowerOf};
+ghost use Rattle.ranks.specs.rule.Rank.{foundAt, lowerFound};
 ghost use Rattle.reading.specs.rule.Least.{Charge, judged};
 ghost use Rattle.reading.specs.rule.Statement.{sizeCharges};
 ghost use Rattle.bridge.specs.Tokens.{toNumber};
 ghost use Rattle.bridge.specs.Statements.{figures, toStated, toSpreading};
 ghost use Rattle.pairs.specs.rule.Stand.{shutOf};
 ghost use Rattle.reading.specs.rule.Result.{Is, bind, give};
-ghost use Rattle.xml_reading.specs.rule.Open.{start, onShut, unknownAt, within, misplaced, due, nothing};
+ghost use Rattle.xml_reading.specs.rule.Open.{start, onShut, unknownAt, withinElement, misplaced, due, nothing};
 ghost use Rattle.xml_reading.specs.rule.Element as rule;
 ghost use Rattle.xml_reading.specs.rule.Element.{bodyOf, body, text, figureOf, position, spread, sizeIn, size};
 ghost use Rattle.elements.specs.Code.{openOf, readOf, Within, blamed, dueOf, startsOf, passedOf, bodiedOf, phraseOf, ruled};
@@ -65,7 +65,7 @@ fn shut_at(bad: bool, d: &[u8], p: usize, e: usize, w: &[u8]) -> Open
 // What stands from a place on inside an element w.
 pub fn find_open(bad: bool, d: &[u8], at: usize, w: &[u8]) -> Open
     requires { ⌜ at ≤ length (now d) ⌝ }
-    ensures { λ r. ⌜ (r ≡ openOf (within bad (now (d .entry)) (now (w .entry)) at)) × Within (now (d .entry)) at r ⌝ }
+    ensures { λ r. ⌜ (r ≡ openOf (withinElement bad (now (d .entry)) (now (w .entry)) at)) × Within (now (d .entry)) at r ⌝ }
 {
     match pairs::find_stand(bad, d, at) {
         Stand::Start { place, end } => Open::Start { place, end },
@@ -347,7 +347,7 @@ fn locate(d: &[u8], h: Held, behind: Found, next: usize) -> Stated
 
 // What is wrong behind a tag's numbers: an attribute that isn't known, and then what was found inside the element.
 fn behind_tag(unknown: usize, found: Found) -> Found
-    ensures { λ r. ⌜ r ≡ lowerOf (faultOf 51 unknown) found ⌝ }
+    ensures { λ r. ⌜ r ≡ lowerFound (foundAt 51 unknown) found ⌝ }
 {
     let attribute = ranks::fault_at(51, unknown);
     ranks::lower(attribute, found)
@@ -498,7 +498,7 @@ fn size_judged(x: Figures, behind: Found, next: usize) -> Number
 // A size whose text was read: it has to be digits, unless something cuts it.
 fn size_in(d: &[u8], b: Body, behind: Found) -> Number
     requires { ⌜ (b .place + b .length ≤ length (now d)) × (b .whole ≡ false → b .length ≡ 0) ⌝ }
-    ensures { λ r. ⌜ ((bad : Bool) (u : ℕ) (t : rule.Body) → Tells t b → behind ≡ lowerOf (faultOf 51 u) (b .found) → r
+    ensures { λ r. ⌜ ((bad : Bool) (u : ℕ) (t : rule.Body) → Tells t b → behind ≡ lowerFound (foundAt 51 u) (b .found) → r
         ≡ toNumber (sizeIn bad (now (d .entry)) u t (b .next))) ⌝ }
 {
     let v = b.place;

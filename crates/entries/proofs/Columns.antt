@@ -19,8 +19,8 @@ use Rattle.layout.specs.declared.Columns.{Columns}
 use Rattle.layout.specs.declared.Kind.{Kind}
 use Rattle.layout.specs.declared.Kind.the-variants.{Single, Multiple, Quantity, Character, Logical}
 use Rattle.layout.specs.declared.Spread.the-variants.{Bits, Fields}
-use Rattle.widths.specs.rule.Width.{fitsKind, lowest, highest}
-use Rattle.widths.specs.Width.{decimalsOf, FewDecimals, size-within, size-fits}
+use Rattle.widths.specs.rule.Width.{fitsKind, lowest, highest, decimalsOf}
+use Rattle.widths.specs.Width.{FewDecimals, size-within, size-fits}
 use Rattle.sound.specs.rule.Sound.{rangeGood, valuesFit}
 use Rattle.sound.specs.Block.{Subfielded}
 use Rattle.values.specs.Line.{numberAt, cellsOf}

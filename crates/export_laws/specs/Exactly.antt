@@ -12,7 +12,7 @@ use lib.ListN.{length, take, drop}
 use Rattle.sound.specs.rule.Sound.{wellFormed}
 use Rattle.files.specs.rule.File.{FileVerdict, fileVerdict}
 use Rattle.kinds.specs.rule.Against.{yields}
-use Rattle.exports.specs.rule.Text.{exportText, ExportVerdict, refused, written, fitted, outputAfter}
+use Rattle.exports.specs.rule.Text.{exportText, ExportVerdict, refused, written, fitted, exportAfter}
 use Rattle.exports.specs.rule.Export.{exportVerdict, Exported}
 use Rattle.export_laws.specs.rule.Exactly.{ExportOutcome, bad-table, other-table, short-room, all-written}
 
@@ -66,13 +66,13 @@ drop-front (b ∷ s) u = drop-front s u
 
 -- ---- THE OUTPUT: kept whole by a refusal; else the text, and behind it what stood there
 pub export-kept : {def : List ℕ} {t : List ℤ} {d out out′ : List ℕ} {k : ℕ} → Exported def t d out out′ (refused k) → out′ ≡ out
-unfolding outputAfter
-export-kept {def} {t} {d} {out} a = a .leaves ∙ ap (λ v. outputAfter v (exportText def t d) out) (sym (a .says))
+unfolding exportAfter
+export-kept {def} {t} {d} {out} a = a .leaves ∙ ap (λ v. exportAfter v (exportText def t d) out) (sym (a .says))
 
 module _ {def : List ℕ} {t : List ℤ} {d out out′ : List ℕ} {v : FileVerdict} {n : ℕ} (a : Exported def t d out out′ (written v n)) where
   whole : out′ ≡ exportText def t d ++ drop (length (exportText def t d)) out
-  unfolding outputAfter
-  whole = a .leaves ∙ ap (λ w. outputAfter w (exportText def t d) out) (sym (a .says))
+  unfolding exportAfter
+  whole = a .leaves ∙ ap (λ w. exportAfter w (exportText def t d) out) (sym (a .says))
 
   pub export-stands : take (length (exportText def t d)) out′ ≡ exportText def t d
   export-stands = ap (take (length (exportText def t d))) whole ∙ take-front (exportText def t d) _

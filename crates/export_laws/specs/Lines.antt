@@ -11,19 +11,19 @@ use Rattle.cuts.specs.rule.Records.{Records, over, unended, record-and, records
 use Rattle.sound.specs.rule.Sound.{wellFormed}
 use Rattle.records.specs.rule.Verdict.{Verdict, sound, refused, lowByte, badField}
 use Rattle.files.specs.rule.File.{FileVerdict, fileVerdict, recordVerdict, goOn, firstLength, recordsVerdict}
-use Rattle.record_lines.specs.rule.Lines.{before, recordLine, linesOf}
+use Rattle.record_lines.specs.rule.Lines.{soundBefore, recordLine, recordsLines}
 use Rattle.exports.specs.rule.Text.{linesWith, exportLines}
 
 -- so many records are there, each with its line
 abbrev Counted : List ℤ → ℕ → ℕ → Records → Type 0
-Counted t n b rs = (n ≤ b) × (length (linesOf t (b - n) rs) ≡ b - n)
+Counted t n b rs = (n ≤ b) × (length (recordsLines t (b - n) rs) ≡ b - n)
 
-none : (t : List ℤ) (m : ℕ) (rs : Records) → m ≡ 0 → length (linesOf t m rs) ≡ m
-unfolding linesOf
+none : (t : List ℤ) (m : ℕ) (rs : Records) → m ≡ 0 → length (recordsLines t m rs) ≡ m
+unfolding recordsLines
 none t m rs e = rw e
 
-counted : (t : List ℤ) (rs : Records) (n first : ℕ) → Counted t n (before (recordsVerdict t n first rs)) rs
-unfolding recordsVerdict before goOn linesOf
+counted : (t : List ℤ) (rs : Records) (n first : ℕ) → Counted t n (soundBefore (recordsVerdict t n first rs)) rs
+unfolding recordsVerdict soundBefore goOn recordsLines
 counted t over n first = (omega arith, none t (n - n) over (omega arith))
 counted t (unended r) n first = (omega arith, none t (n + 1 - 1 - n) (unended r) (omega arith))
 counted t (record-and r rs) n first =
@@ -35,17 +35,18 @@ counted t (record-and r rs) n first =
     step : (b : ℕ) → Counted t (n + 1) b rs → Counted t n b (record-and r rs)
     step b h = let e : b - n ≡ suc (b - (n + 1)) = omega (arith, h .0) in (omega (arith, h .0), rw e (ap suc (h .1)))
 
-    go : (v : Verdict) (rest : FileVerdict) → Counted t (n + 1) (before rest) rs → Counted t n (before (goOn v n rest)) (record-and r rs)
-    go sound rest h = step (before rest) h
+    go : (v : Verdict) (rest : FileVerdict) → Counted t (n + 1) (soundBefore rest) rs
+        → Counted t n (soundBefore (goOn v n rest)) (record-and r rs)
+    go sound rest h = step (soundBefore rest) h
     go (refused k) rest h = stop (n + 1 - 1) refl
     go (lowByte p) rest h = stop (n + 1 - 1) refl
     go (badField i x) rest h = stop (n + 1 - 1) refl
 
 pub export-lines : (def : List ℕ) (t : List ℤ) (d : List ℕ) → wellFormed t ≡ true
-    → length (exportLines def t d) ≡ suc (before (fileVerdict t d))
+    → length (exportLines def t d) ≡ suc (soundBefore (fileVerdict t d))
 unfolding exportLines linesWith fileVerdict
 export-lines def t d g =
-    let n = before (recordsVerdict t 0 0 (recordsOf d)) in
+    let n = soundBefore (recordsVerdict t 0 0 (recordsOf d)) in
     let e : n - 0 ≡ n = omega arith in
     rw g (ap suc (rw e at (counted t (recordsOf d) 0 0 .1)))
 
@@ -55,14 +56,14 @@ pub data Nth : ℕ → Records → List ℕ → Type 0 where
   this : {r : List ℕ} {rs : Records} → Nth 0 (record-and r rs) r
   later : {k : ℕ} {q r : List ℕ} {rs : Records} → Nth k rs r → Nth (suc k) (record-and q rs) r
 
-line-is : (t : List ℤ) {k : ℕ} {rs : Records} {r : List ℕ} → Nth k rs r → (n : ℕ) → k < n → getD (linesOf t n rs) k [] ≡ recordLine t r
-unfolding linesOf
+line-is : (t : List ℤ) {k : ℕ} {rs : Records} {r : List ℕ} → Nth k rs r → (n : ℕ) → k < n → getD (recordsLines t n rs) k [] ≡ recordLine t r
+unfolding recordsLines
 line-is t x zero h = absurd (omega arith)
 line-is t this (suc n) h = refl
 line-is t (later x) (suc n) h = line-is t x n (omega arith)
 
 -- behind the names, line k of an export is that of record k
-pub export-line : (def : List ℕ) (t : List ℤ) (d : List ℕ) {k : ℕ} {r : List ℕ} → Nth k (recordsOf d) r → k < before (fileVerdict t d)
+pub export-line : (def : List ℕ) (t : List ℤ) (d : List ℕ) {k : ℕ} {r : List ℕ} → Nth k (recordsOf d) r → k < soundBefore (fileVerdict t d)
     → getD (exportLines def t d) (suc k) [] ≡ recordLine t r
 unfolding exportLines linesWith
-export-line def t d x h = line-is t x (before (fileVerdict t d)) h
+export-line def t d x h = line-is t x (soundBefore (fileVerdict t d)) h

@@ -18,7 +18,7 @@ use Rattle.widths.specs.Width.{ten-some}
 use Rattle.fields.specs.rule.Number.{digitsOnly, padded}
 use Rattle.fieldlaws.specs.NumberLaws.{length-padded, padded-digits}
 use Rattle.lines.specs.rule.Text.{numeral}
-use Rattle.value_fields.specs.rule.Values.{amountText, numberText}
+use Rattle.value_fields.specs.rule.Values.{amountText, exportNumber}
 
 -- a size with k decimals, in the paper's words
 pub record Formed (k : ℕ) (s : List ℕ) : Type 0 where
@@ -65,6 +65,6 @@ amount-formed k n h =
 
 -- with its minus, exactly where it is below zero
 pub number-formed : (k : ℕ) (z : ℤ) → signedOf z .size < 10 ^ 16
-    → (s : List ℕ) × Formed k s × (numberText k z ≡ cond (signedOf z .minus) (45 ∷ s) s)
-unfolding numberText
+    → (s : List ℕ) × Formed k s × (exportNumber k z ≡ cond (signedOf z .minus) (45 ∷ s) s)
+unfolding exportNumber
 number-formed k z h = (amountText k (signedOf z .size), amount-formed k (signedOf z .size) h, refl)

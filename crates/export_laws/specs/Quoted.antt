@@ -9,7 +9,7 @@ use borrow.Author.Tests.{eqb-true}
 use lib.Dec.{eqb}
 use Rattle.commas.specs.rule.Csv.{isSpecial, holdsSpecial, doubled, fieldBytes}
 use Rattle.commas.specs.Csv.{field-quoted, field-plain}
-use Rattle.export_laws.specs.rule.Quoted.{Special, comma, quote, cr, lf, Among, here, there, HoldsOne}
+use Rattle.export_laws.specs.rule.Quoted.{Special, comma, quote, cr, lf, AmongBytes, here, there, HoldsOne}
 
 special-is : (b : ℕ) → isSpecial b ≡ true → Special b
 unfolding isSpecial
@@ -38,7 +38,7 @@ holds-named (b ∷ f) e = go (isSpecial b) refl e (λ h. holds-named f h)
     go true q k rest = record { byte = b; special = special-is b q; among = here }
     go false q k rest = let o = rest k in record { byte = o .byte; special = o .special; among = there (o .among) }
 
-among-holds : {b : ℕ} {f : List ℕ} → isSpecial b ≡ true → Among b f → holdsSpecial f ≡ true
+among-holds : {b : ℕ} {f : List ℕ} → isSpecial b ≡ true → AmongBytes b f → holdsSpecial f ≡ true
 unfolding holdsSpecial
 among-holds e here = rw e
 among-holds {f = c ∷ f} e (there a) = rw (among-holds e a) (or-true (isSpecial c))

@@ -24,15 +24,15 @@ use Rattle.files.specs.rule.Tested.{Tested}
 use Rattle.files.specs.Tested.{tested-rows}
 use Rattle.sink.specs.rule.Sent.{Sent}
 use Rattle.sink.specs.Sent.{sets-front}
-use Rattle.commas.specs.rule.Csv.{lineBytes, textBytes}
+use Rattle.commas.specs.rule.Csv.{lineBytes, csvBytes}
 use Rattle.name_line.specs.rule.Names.{nameLine}
-use Rattle.record_lines.specs.rule.Lines.{before, linesOf}
+use Rattle.record_lines.specs.rule.Lines.{soundBefore, recordsLines}
 use Rattle.record_lines.specs.Lines.{SoundFirst, verdict-sound}
-use Rattle.exports.specs.rule.Text.{linesWith, exportLines, exportText, ExportVerdict, refused, written, fitted, outputAfter}
+use Rattle.exports.specs.rule.Text.{linesWith, exportLines, exportText, ExportVerdict, refused, written, fitted, exportAfter}
 
 -- the text of the names and the first n records
 abbrev pub textWith : List ℕ → List ℤ → ℕ → Records → List ℕ
-textWith def t n rs = textBytes (linesWith def t n rs)
+textWith def t n rs = csvBytes (linesWith def t n rs)
 
 -- ---- a tested table's rows stand in it
 pub rows-stand : {t : List ℤ} {h : Header} → Tested t h → (h .rows ≤ mostRows) × (rowBase (h .rows) ≤ length t)
@@ -43,20 +43,20 @@ rows-stand {t} {h} g =
 
 -- ---- the text by its parts
 pub names-and : {t : List ℤ} {h : Header} → Tested t h → (def : List ℕ) (n : ℕ) (rs : Records)
-    → lineBytes (nameLine def t (h .rows)) ++ textBytes (linesOf t n rs) ≡ textWith def t n rs
-unfolding linesWith textBytes
+    → lineBytes (nameLine def t (h .rows)) ++ csvBytes (recordsLines t n rs) ≡ textWith def t n rs
+unfolding linesWith csvBytes
 names-and g def n rs = rw (tested-rows g)
 
 -- ---- the records before the first fault
-pub before-sound : (t : List ℤ) (d : List ℕ) → wellFormed t ≡ true → SoundFirst t (before (fileVerdict t d)) (recordsOf d)
+pub before-sound : (t : List ℤ) (d : List ℕ) → wellFormed t ≡ true → SoundFirst t (soundBefore (fileVerdict t d)) (recordsOf d)
 unfolding fileVerdict
 before-sound t d g =
-    let n = before (recordsVerdict t 0 0 (recordsOf d)) in
+    let n = soundBefore (recordsVerdict t 0 0 (recordsOf d)) in
     let e : n - 0 ≡ n = omega arith in
     rw g (rw e at (verdict-sound t (recordsOf d) 0 0 .1))
 
 -- so many records as come before the fault that was told
-module _ (t : List ℤ) (d : List ℕ) {n : ℕ} {v : FileVerdict} (e : n ≡ before v) (f : v ≡ fileVerdict t d) where
+module _ (t : List ℤ) (d : List ℕ) {n : ℕ} {v : FileVerdict} (e : n ≡ soundBefore v) (f : v ≡ fileVerdict t d) where
   pub told-sound : {h : Header} → Tested t h → SoundFirst t n (recordsOf d)
   told-sound g = rw (e, f) (before-sound t d (g .good))
 
@@ -114,12 +114,12 @@ module _ (def : List ℕ) (t : List ℤ) (d out : List ℕ) where
   answered = fitted (fileVerdict t d) (exportText def t d) (length out)
 
   pub too-long : leb (length (exportText def t d)) (length out) ≡ false
-      → (refused 60 ≡ answered) × (out ≡ outputAfter answered (exportText def t d) out)
-  unfolding fitted outputAfter
+      → (refused 60 ≡ answered) × (out ≡ exportAfter answered (exportText def t d) out)
+  unfolding fitted exportAfter
   too-long e = (rw e, rw e)
 
   pub all-there : {v : FileVerdict} {r : ℕ} {out′ : List ℕ} → leb (length (exportText def t d)) (length out) ≡ true
       → v ≡ fileVerdict t d → r ≡ length (exportText def t d) → out′ ≡ exportText def t d ++ drop (length (exportText def t d)) out
-      → (written v r ≡ answered) × (out′ ≡ outputAfter answered (exportText def t d) out)
-  unfolding fitted outputAfter
+      → (written v r ≡ answered) × (out′ ≡ exportAfter answered (exportText def t d) out)
+  unfolding fitted exportAfter
   all-there e f g k = (rw (e, f, g), rw (e, k))

@@ -15,7 +15,7 @@ ghost use Rattle.files.specs.rule.Tested.{Tested};
 ghost use Rattle.listing.specs.rule.Turns.{Ready};
 ghost use Rattle.sink.specs.rule.Sent.{Sent};
 ghost use Rattle.record_lines.specs.Lines.{SoundFirst};
-ghost use Rattle.exports.specs.rule.Text.{exportText, exportSaid, fitted, outputAfter};
+ghost use Rattle.exports.specs.rule.Text.{exportText, exportSaid, fitted, exportAfter};
 ghost use Rattle.exports.specs.rule.Export.{Exported};
 ghost use Rattle.exports.specs.Sizes.{textWith};
 ghost use Rattle.definition.specs.rule.Against.{isSame};
@@ -133,7 +133,7 @@ fn export_tested(def: &[u8], t: &[i64], d: &[u8], out: &mut [u8]) -> Export
     requires { ⌜ wellFormed (now t) ≡ true ⌝ }
     ensures { λ r. ⌜ (exportSaid r ≡ fitted (fileVerdict (now (t .entry)) (now (d .entry)))
         (exportText (now (def .entry)) (now (t .entry)) (now (d .entry))) (length (now (out .entry))))
-        × (now (out .exit) ≡ outputAfter (fitted (fileVerdict (now (t .entry)) (now (d .entry)))
+        × (now (out .exit) ≡ exportAfter (fitted (fileVerdict (now (t .entry)) (now (d .entry)))
         (exportText (now (def .entry)) (now (t .entry)) (now (d .entry))) (length (now (out .entry))))
         (exportText (now (def .entry)) (now (t .entry)) (now (d .entry))) (now (out .entry))) ⌝ }
 {

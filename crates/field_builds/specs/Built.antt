@@ -22,14 +22,15 @@ use Rattle.fieldlaws.specs.RisingLaws.{Rising, rising-empty}
 use Rattle.lines.specs.rule.Text.{numeral}
 use Rattle.commas.specs.rule.Csv.{holdsSpecial}
 use Rattle.csv_fields.specs.Page.{part, part-rest, BareTo}
-use Rattle.value_fields.specs.rule.Values.{numberText, setText, valueText, decimalsOf}
+use Rattle.value_fields.specs.rule.Values.{exportNumber, setText, exportValue}
+use Rattle.widths.specs.rule.Width.{decimalsOf}
 use Rattle.value_fields.specs.Plain.{number-plain, set-plain, truth-plain}
 use Rattle.number_fields.specs.Reads.{Reads, reads-none, reads-byte, reads-join, reads-as, CodeAt}
 use Rattle.writes.specs.declared.Value as given
 use Rattle.writes.specs.declared.Value.the-variants.{Missing, Number, Set, Text, Truth}
 use Rattle.writes.specs.declared.Wrote.{Wrote}
 use Rattle.writes.specs.declared.Wrote.the-variants.{Done}
-use Rattle.writes.specs.rule.Write.{valueOf}
+use Rattle.writes.specs.rule.Write.{lentValue}
 use Rattle.writes.specs.Write.{WrittenBy, answerBy, leftBy}
 use Rattle.field_values.specs.Guess.{code-text}
 use Rattle.field_values.specs.Steps.{isDone}
@@ -66,24 +67,25 @@ by-fit tooMany x y = (λ e. holds-not e refl, λ e. refl)
 module _ {t : List ℤ} {v : ℕ} {r : Row} {value : given.Value} {list : List ℤ} {bytes : List ℕ} {old new : List ℕ} {a : Wrote} {b : Bool}
     (w : WrittenBy (r .kind) t v r value list bytes old new a) (d : b ≡ isDone a) where
   abbrev fit : Fit
-  fit = fitOf t v r (valueOf value list bytes)
+  fit = fitOf t v r (lentValue value list bytes)
 
   left : (isDone (answerBy fit) ≡ true
-      → (fit ≡ fits) × (leftBy fit (writtenOf t v r (valueOf value list bytes) old) old ≡ writtenOf t v r (valueOf value list bytes) old))
-      × (isDone (answerBy fit) ≡ false → leftBy fit (writtenOf t v r (valueOf value list bytes) old) old ≡ old)
-  left = by-fit fit (writtenOf t v r (valueOf value list bytes) old) old
+      → (fit ≡ fits) × (leftBy fit (writtenOf t v r (lentValue value list bytes) old) old
+      ≡ writtenOf t v r (lentValue value list bytes) old))
+      × (isDone (answerBy fit) ≡ false → leftBy fit (writtenOf t v r (lentValue value list bytes) old) old ≡ old)
+  left = by-fit fit (writtenOf t v r (lentValue value list bytes) old) old
 
   pub write-kept : b ≡ false → new ≡ old
   unfolding writtenOf
   write-kept e = w .leaves ∙ left .1 (ap isDone (sym (w .says)) ∙ sym d ∙ e)
 
-  write-done : b ≡ true → (fit ≡ fits) × (new ≡ writtenOf t v r (valueOf value list bytes) old)
+  write-done : b ≡ true → (fit ≡ fits) × (new ≡ writtenOf t v r (lentValue value list bytes) old)
   unfolding writtenOf
   write-done e = let k = left .0 (ap isDone (sym (w .says)) ∙ sym d ∙ e) in (k .0, w .leaves ∙ k .1)
 
   -- the value that was written stands in the text
-  stood : {s : List ℕ} {at to : ℕ} {x : Value} → x ≡ valueOf value list bytes → b ≡ true
-      → Reads s at (valueText (decimalsOf (r .kind)) x) to → holdsSpecial (valueText (decimalsOf (r .kind)) x) ≡ false → StopsAt s to
+  stood : {s : List ℕ} {at to : ℕ} {x : Value} → x ≡ lentValue value list bytes → b ≡ true
+      → Reads s at (exportValue (decimalsOf (r .kind)) x) to → holdsSpecial (exportValue (decimalsOf (r .kind)) x) ≡ false → StopsAt s to
       → Built t v r s at to old new
   stood {x = x} q e reads plain stop =
       let k = write-done e in
@@ -95,9 +97,9 @@ module _ {t : List ℤ} {v : ℕ} {r : Row} {value : given.Value} {list : List �
 -- ---- by what was written
 module _ {t : List ℤ} {v : ℕ} {r : Row} {d : List ℕ} {at to : ℕ} {old new : List ℕ} {a : Wrote} {b : Bool} (stop : StopsAt d to)
     (done : b ≡ isDone a) (yes : b ≡ true) where
-  pub number-built : {k : ℕ} {z : ℤ} → k ≡ decimalsOf (r .kind) → Reads d at (numberText k z) to
+  pub number-built : {k : ℕ} {z : ℤ} → k ≡ decimalsOf (r .kind) → Reads d at (exportNumber k z) to
       → WrittenBy (r .kind) t v r (Number z) [] [] old new a → Built t v r d at to old new
-  unfolding valueOf valueText
+  unfolding lentValue exportValue
   number-built {k} {z} e reads w = stood w done {x = number z} refl yes (rw e at reads) (number-plain (decimalsOf (r .kind)) z) stop
 
   pub code-built : (n : ℕ) {z : ℤ} → 0 ≡ decimalsOf (r .kind) → z ≡ pos n → Reads d at (numeral n) to
@@ -106,19 +108,19 @@ module _ {t : List ℤ} {v : ℕ} {r : Row} {d : List ℕ} {at to : ℕ} {old ne
 
   pub set-built : {ms : List ℤ} {bytes : List ℕ} → Reads d at (setText ms) to → WrittenBy (r .kind) t v r Set ms bytes old new a
       → Built t v r d at to old new
-  unfolding valueOf valueText
+  unfolding lentValue exportValue
   set-built {ms} reads w = stood w done {x = members ms} refl yes reads (set-plain ms) stop
 
   pub text-built : {list : List ℤ} → BareTo d at to → WrittenBy (r .kind) t v r Text list (part d at to) old new a
       → Built t v r d at to old new
-  unfolding valueOf valueText
+  unfolding lentValue exportValue
   text-built b w =
       stood w done {x = text (part d at to)} refl yes
       (record { on = b .on; inside = b .within; is = sym (part-rest d at to (b .on)) }) (b .plain) stop
 
   pub truth-built : at < length d → 48 ≤ getD d at 0 → getD d at 0 ≤ 49 → to ≡ at + 1
       → WrittenBy (r .kind) t v r (Truth (eqb (getD d at 0) 49)) [] [] old new a → Built t v r d at to old new
-  unfolding valueOf valueText
+  unfolding lentValue exportValue
   truth-built h l u e w = stood w done {x = truth (eqb (getD d at 0) 49)} refl yes
       (rw e (reads-byte d at h (byte (eqb (getD d at 0) 49) refl)))
       (truth-plain (eqb (getD d at 0) 49)) stop
@@ -129,7 +131,7 @@ module _ {t : List ℤ} {v : ℕ} {r : Row} {d : List ℕ} {at to : ℕ} {old ne
 
 pub missing-built : {t : List ℤ} {v : ℕ} {r : Row} {d : List ℕ} {at : ℕ} {old new : List ℕ} → StopsAt d at
     → WrittenBy (r .kind) t v r Missing [] [] old new Done → Built t v r d at at old new
-unfolding valueOf valueText isDone holdsSpecial
+unfolding lentValue exportValue isDone holdsSpecial
 missing-built {d = d} {at} stop w =
     let h = stop .within in
     stood w refl {x = missing} refl refl (reads-none d at (omega arith)) refl stop

@@ -27,7 +27,8 @@ use Rattle.sets.specs.Full.{EachLegal}
 use Rattle.lines.specs.rule.Text.{numeral}
 use Rattle.commas.specs.rule.Csv.{isSpecial, holdsSpecial}
 use Rattle.csv_fields.specs.Page.{part, part-none, part-more, part-rest, Bared, bared-none, bared-more, bared-to, BareTo, Bounded}
-use Rattle.value_fields.specs.rule.Values.{numberText, codesBehind, setText, valueText, decimalsOf}
+use Rattle.value_fields.specs.rule.Values.{exportNumber, codesBehind, setText, exportValue}
+use Rattle.widths.specs.rule.Width.{decimalsOf}
 use Rattle.value_fields.specs.Plain.{number-plain, set-plain, truth-plain}
 use Rattle.number_fields.specs.Reads.{Reads, reads-none, reads-byte, reads-join, reads-as, reads-part, NumberAt, CodeAt}
 use Rattle.writes.specs.Write.{answerBy}
@@ -56,8 +57,8 @@ stops-cr d i h e = record { within = h; special = rw e; unquoted = λ q. omega a
 pub record Standing (t : List ℤ) (v : ℕ) (r : Row) (d : List ℕ) (at to : ℕ) : Type 0 where
   pub value : Value
   pub accepted : fitOf t v r value ≡ fits
-  pub reads : Reads d at (valueText (decimalsOf (r .kind)) value) to
-  pub plain : holdsSpecial (valueText (decimalsOf (r .kind)) value) ≡ false
+  pub reads : Reads d at (exportValue (decimalsOf (r .kind)) value) to
+  pub plain : holdsSpecial (exportValue (decimalsOf (r .kind)) value) ≡ false
   pub stop : StopsAt d to
 
 -- behind what stops it; or nothing is said
@@ -140,14 +141,14 @@ text-fits w d at to h l f p e =
 -- ---- by the row's kind
 module _ (t : List ℤ) (v : ℕ) (r : Row) {d : List ℕ} {at to : ℕ} (stop : StopsAt d to) where
   pub missing-stands : at ≡ to → Standing t v r d at to
-  unfolding fitsBy valueText holdsSpecial
+  unfolding fitsBy exportValue holdsSpecial
   missing-stands e =
       let h = stop .within in
       record { value = missing; accepted = refl; reads = rw e (reads-none d to (omega arith)); plain = refl; stop = stop }
 
   pub code-stands : (n : ℕ) (z : ℤ) → r .kind ≡ Single → z ≡ pos n → legal t v r z ≡ true → Reads d at (numeral n) to
       → Standing t v r d at to
-  unfolding fitsBy legalFit valueText decimalsOf
+  unfolding fitsBy legalFit exportValue decimalsOf
   code-stands n z k e l a = record {
     value = number (pos n);
     accepted = ap (λ (x : Kind). fitsBy x t v r (number (pos n))) k ∙ ap legalFit (ap (legal t v r) (sym e) ∙ l);
@@ -156,9 +157,9 @@ module _ (t : List ℤ) (v : ℕ) (r : Row) {d : List ℕ} {at to : ℕ} (stop :
     stop = stop;
   }
 
-  pub amount-stands : {q : Format} (z : ℤ) → r .kind ≡ Quantity q → legal t v r z ≡ true → Reads d at (numberText (q .decimals) z) to
+  pub amount-stands : {q : Format} (z : ℤ) → r .kind ≡ Quantity q → legal t v r z ≡ true → Reads d at (exportNumber (q .decimals) z) to
       → Standing t v r d at to
-  unfolding fitsBy legalFit valueText decimalsOf
+  unfolding fitsBy legalFit exportValue decimalsOf
   amount-stands {q} z k l a = record {
     value = number z;
     accepted = ap (λ (x : Kind). fitsBy x t v r (number z)) k ∙ ap legalFit l;
@@ -169,7 +170,7 @@ module _ (t : List ℤ) (v : ℕ) (r : Row) {d : List ℕ} {at to : ℕ} (stop :
 
   pub bits-stand : (ms : List ℤ) → r .kind ≡ Multiple Bits → setFits (legal t v r) ms ≡ true → Reads d at (setText ms) to
       → Standing t v r d at to
-  unfolding fitsBy legalFit valueText
+  unfolding fitsBy legalFit exportValue
   bits-stand ms k l a = record {
     value = members ms;
     accepted = ap (λ (x : Kind). fitsBy x t v r (members ms)) k ∙ ap legalFit l;
@@ -180,7 +181,7 @@ module _ (t : List ℤ) (v : ℕ) (r : Row) {d : List ℕ} {at to : ℕ} (stop :
 
   pub spread-stands : {n b : ℕ} (ms : List ℤ) → r .kind ≡ Multiple (Fields n b) → setFits (legal t v r) ms ≡ true → length ms ≤ n
       → Reads d at (setText ms) to → Standing t v r d at to
-  unfolding fitsBy valueText
+  unfolding fitsBy exportValue
   spread-stands {n} {b} ms k l h a =
       record {
         value = members ms;
@@ -195,7 +196,7 @@ module _ (t : List ℤ) (v : ℕ) (r : Row) {d : List ℕ} {at to : ℕ} (stop :
       room p q e f = rw (e, f)
 
   pub text-stands : BareTo d at to → fitOf t v r (text (part d at to)) ≡ fits → Standing t v r d at to
-  unfolding valueText
+  unfolding exportValue
   text-stands b l = record {
     value = text (part d at to);
     accepted = l;
@@ -212,7 +213,7 @@ module _ (t : List ℤ) (v : ℕ) (r : Row) {d : List ℕ} {at to : ℕ} (stop :
       ∙ ap legalFit (text-fits (r .width) d at to (b .bared .within) l w (b .plain) e))
 
   pub truth-stands : (b : Bool) → r .kind ≡ Logical → Reads d at (cond b 49 48 ∷ []) to → Standing t v r d at to
-  unfolding fitsBy valueText
+  unfolding fitsBy exportValue
   truth-stands b k a = record { value = truth b; accepted = rw k; reads = a; plain = truth-plain b; stop = stop }
 
   pub truth-read : r .kind ≡ Logical → at < length d → 48 ≤ getD d at 0 → getD d at 0 ≤ 49 → to ≡ at + 1 → Standing t v r d at to
@@ -273,7 +274,7 @@ set-more n m ms = rw (code-text n)
 
 pub set-one : (n : ℕ) → numeral n ≡ setText (pos n ∷ [])
 unfolding setText codesBehind
-set-one n = sym (append-nil (numberText 0 (pos n)) ∙ code-text n)
+set-one n = sym (append-nil (exportNumber 0 (pos n)) ∙ code-text n)
 
 module _ {d : List ℕ} {at low high most least left i n p : ℕ} (g : Rise d at low high most least left i) (a : CodeAt d i n p)
     (some : n ≡ 0 → ⊥) (l : least ≤ n) (h : n ≤ high) (more : 0 < left) where

@@ -11,7 +11,7 @@ use lib.IntN.{ℤ, pos, negsuc}
 use lib.ListN.{length, take, drop, getD, set, drop-of-length-le}
 use lib.Seq.{drop-cons, take-suc-set}
 use Rattle.lines.specs.rule.Text.{numeral}
-use Rattle.value_fields.specs.rule.Values.{numberText, codesBehind, setText}
+use Rattle.value_fields.specs.rule.Values.{exportNumber, codesBehind, setText}
 use Rattle.value_fields.specs.Numeral.{numeral-one, numeral-more}
 use Rattle.field_values.specs.Guess.{AreCodes, code-text, set-back}
 use Rattle.field_values.specs.rule.Read.{setGuess, leftOf}
@@ -21,7 +21,7 @@ use Rattle.field_values.specs.Left.{is-left}
 -- codes, each with its semicolon
 unfoldable pub ended : List ℤ → List ℕ
 ended [] = []
-ended (m ∷ ms) = numberText 0 m ++ ((59 ∷ []) ++ ended ms)
+ended (m ∷ ms) = exportNumber 0 m ++ ((59 ∷ []) ++ ended ms)
 
 -- the digits of a code so far
 unfoldable pub begun : ℕ → List ℕ
@@ -37,23 +37,24 @@ begun-some n h = rw (ne-eqb n 0 h)
 
 behind-last : (ms : List ℤ) (n : ℕ) → codesBehind (ms ++ (pos n ∷ [])) ≡ (59 ∷ []) ++ (ended ms ++ numeral n)
 unfolding codesBehind ended
-behind-last [] n = ap (λ (s : List ℕ). 59 ∷ s) (append-nil (numberText 0 (pos n)) ∙ code-text n)
+behind-last [] n = ap (λ (s : List ℕ). 59 ∷ s) (append-nil (exportNumber 0 (pos n)) ∙ code-text n)
 behind-last (m ∷ ms) n =
-    ap (λ (s : List ℕ). 59 ∷ (numberText 0 m ++ s)) (behind-last ms n)
-    ∙ ap (λ (s : List ℕ). 59 ∷ s) (sym (append-assoc (numberText 0 m) ((59 ∷ []) ++ ended ms) (numeral n)))
+    ap (λ (s : List ℕ). 59 ∷ (exportNumber 0 m ++ s)) (behind-last ms n)
+    ∙ ap (λ (s : List ℕ). 59 ∷ s) (sym (append-assoc (exportNumber 0 m) ((59 ∷ []) ++ ended ms) (numeral n)))
 
 pub text-last : (ms : List ℤ) (n : ℕ) → setText (ms ++ (pos n ∷ [])) ≡ ended ms ++ numeral n
 unfolding setText codesBehind ended
-text-last [] n = append-nil (numberText 0 (pos n)) ∙ code-text n
+text-last [] n = append-nil (exportNumber 0 (pos n)) ∙ code-text n
 text-last (m ∷ ms) n =
-    ap (λ (s : List ℕ). numberText 0 m ++ s) (behind-last ms n) ∙ sym (append-assoc (numberText 0 m) ((59 ∷ []) ++ ended ms) (numeral n))
+    ap (λ (s : List ℕ). exportNumber 0 m ++ s) (behind-last ms n)
+    ∙ sym (append-assoc (exportNumber 0 m) ((59 ∷ []) ++ ended ms) (numeral n))
 
 pub ended-more : (ms : List ℤ) (n : ℕ) → ended (ms ++ (pos n ∷ [])) ≡ ended ms ++ (numeral n ++ (59 ∷ []))
 unfolding ended
 ended-more [] n = ap (λ (s : List ℕ). s ++ (59 ∷ [])) (code-text n)
 ended-more (m ∷ ms) n =
-    ap (λ (s : List ℕ). numberText 0 m ++ ((59 ∷ []) ++ s)) (ended-more ms n)
-    ∙ sym (append-assoc (numberText 0 m) ((59 ∷ []) ++ ended ms) (numeral n ++ (59 ∷ [])))
+    ap (λ (s : List ℕ). exportNumber 0 m ++ ((59 ∷ []) ++ s)) (ended-more ms n)
+    ∙ sym (append-assoc (exportNumber 0 m) ((59 ∷ []) ++ ended ms) (numeral n ++ (59 ∷ [])))
 
 codes-more : (ms : List ℤ) (n : ℕ) → n ≤ 9999 → AreCodes ms → AreCodes (ms ++ (pos n ∷ []))
 codes-more [] n h c = (h, tt)

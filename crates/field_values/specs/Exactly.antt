@@ -23,7 +23,8 @@ use Rattle.fields.specs.rule.Row.{Fit, fits, otherType, notLegal, tooMany, lega
 use Rattle.fields.specs.Facts.{RowFacts}
 use Rattle.fieldlaws.specs.BackLaws.{Limits, limits, fit-legal, fit-set, bits-members, spread-members, illegal-holds, held}
 use Rattle.fieldlaws.specs.TextLaws.{fitting}
-use Rattle.value_fields.specs.rule.Values.{valueText, numberText, setText, decimalsOf}
+use Rattle.value_fields.specs.rule.Values.{exportValue, exportNumber, setText}
+use Rattle.widths.specs.rule.Width.{decimalsOf}
 use Rattle.field_values.specs.rule.Value.{zeros, Left, whole, cut, unpointed, IsValue}
 use Rattle.field_values.specs.rule.Read.{numberGuess, setGuess, truthGuess, someGuess, guessOf, leftOf, isFits, triedAs, valueFrom}
 use Rattle.field_values.specs.Left.{left-is, is-left}
@@ -52,7 +53,7 @@ guess-some k b s e = rw e
 
 guess-number : (k : Kind) (d : ℕ) → someGuess k ≡ (λ f. number (numberGuess d f)) → (t : List ℤ) (v : ℕ) (r : Row) → Limits k t v r
     → (z : ℤ) → legal t v r z ≡ true
-    → (f : List ℕ) → Left d (numberText d z) f → guessOf k f ≡ number z
+    → (f : List ℕ) → Left d (exportNumber d z) f → guessOf k f ≡ number z
 guess-number k d g t v r l z e f w =
     let n = number-left d z f (size-small k z (l .least z e) (l .most z e)) w in
     guess-some k (n .first) (n .others) (n .is) ∙ ap (λ (h : List ℕ → Value). h f) g ∙ ap number (n .guess)
@@ -92,8 +93,8 @@ guess-truth false f e = rw (← e)
 
 -- THE GUESS is the value of every field that is one
 pub guess-value : (k : Kind) (t : List ℤ) (v : ℕ) (r : Row) → Limits k t v r → (x : Value) → fitsBy k t v r x ≡ fits
-    → (f : List ℕ) → Left (decimalsOf k) (valueText (decimalsOf k) x) f → guessOf k f ≡ x
-unfolding fitsBy valueText decimalsOf guessOf someGuess
+    → (f : List ℕ) → Left (decimalsOf k) (exportValue (decimalsOf k) x) f → guessOf k f ≡ x
+unfolding fitsBy exportValue decimalsOf guessOf someGuess
 guess-value k t v r l missing e f w = rw (nothing-left _ f w)
 guess-value Single t v r l (number z) e f w = guess-number Single 0 refl t v r l z (fit-legal (legal t v r z) e) f w
 guess-value (Quantity g) t v r l (number z) e f w = guess-number (Quantity g) (g .decimals) refl t v r l z (fit-legal (legal t v r z) e) f w
@@ -131,10 +132,10 @@ fits-is tooMany e = holds-not e refl
 module _ {t : List ℤ} {v len : ℕ} {r : Row} (g : RowFacts t v len r) (f : List ℕ) where
   found-is : (x : Value) → valueFrom t v r f ≡ holds x → IsValue t v r f x
   unfolding valueFrom triedAs
-  found-is x e = go (leftOf (decimalsOf (r .kind)) (valueText (decimalsOf (r .kind)) (guessOf (r .kind) f)) f)
+  found-is x e = go (leftOf (decimalsOf (r .kind)) (exportValue (decimalsOf (r .kind)) (guessOf (r .kind) f)) f)
       (isFits (fitOf t v r (guessOf (r .kind) f))) refl refl e
     where
-      go : (p q : Bool) → leftOf (decimalsOf (r .kind)) (valueText (decimalsOf (r .kind)) (guessOf (r .kind) f)) f ≡ p
+      go : (p q : Bool) → leftOf (decimalsOf (r .kind)) (exportValue (decimalsOf (r .kind)) (guessOf (r .kind) f)) f ≡ p
           → isFits (fitOf t v r (guessOf (r .kind) f)) ≡ q
           → cond p (cond q (holds (guessOf (r .kind) f)) illegal) illegal ≡ holds x → IsValue t v r f x
       go true true a b e = subst (IsValue t v r f) (held e)
@@ -146,7 +147,7 @@ module _ {t : List ℤ} {v len : ℕ} {r : Row} (g : RowFacts t v len r) (f : Li
   unfolding valueFrom triedAs isFits
   is-found x i =
       let e = guess-value (r .kind) t v r (limits g) x (i .accepted) f (i .written) in
-      rw (e, is-left (decimalsOf (r .kind)) (valueText (decimalsOf (r .kind)) x) f (i .written), i .accepted)
+      rw (e, is-left (decimalsOf (r .kind)) (exportValue (decimalsOf (r .kind)) x) f (i .written), i .accepted)
 
   -- A FIELD HOLDS A VALUE EXACTLY WHEN it is what is left of what export writes for it, and the row's write accepts it
   pub value-exactly : (x : Value) → (valueFrom t v r f ≡ holds x) ↔ IsValue t v r f x

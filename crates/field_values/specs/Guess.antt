@@ -17,7 +17,7 @@ use Rattle.fieldlaws.specs.RisingLaws.{Rising, none, skip, keep}
 use Rattle.lines.specs.rule.Text.{numeral}
 use Rattle.lines.specs.Appended.{numeral-length}
 use Rattle.ascii.specs.Tens.{digits-least}
-use Rattle.value_fields.specs.rule.Values.{amountText, numberText, codesBehind, setText}
+use Rattle.value_fields.specs.rule.Values.{amountText, exportNumber, codesBehind, setText}
 use Rattle.value_fields.specs.Values.{amount-whole, amount-parts}
 use Rattle.field_values.specs.rule.Value.{zeros, Left, whole, cut, unpointed}
 use Rattle.field_values.specs.rule.Read.{capped, cappedFrom, sizeGuess, numberGuess, codesIn, setGuess}
@@ -158,8 +158,8 @@ up-left k n f s =
           (ap (λ (x : List ℕ). pos (sizeGuess k x)) (sym e) ∙ ap pos (s .size));
     }
 
-pub number-left : (k : ℕ) (z : ℤ) (f : List ℕ) → sizeOf z ≤ 999999999999999 → Left k (numberText k z) f → Numbered k z f
-unfolding numberText signedOf numberOf numberGuess
+pub number-left : (k : ℕ) (z : ℤ) (f : List ℕ) → sizeOf z ≤ 999999999999999 → Left k (exportNumber k z) f → Numbered k z f
+unfolding exportNumber signedOf numberOf numberGuess
 number-left k (pos n) f h l = up-left k n f (amount-left k n (omega arith) f l)
 number-left k (negsuc n) f h l =
     let b = left-head k 45 (amountText k (suc n)) f (λ e. omega arith) (λ e. omega arith) l in
@@ -182,8 +182,8 @@ unfolding codesIn cappedFrom
 codes-digits [] u n h = refl
 codes-digits (b ∷ a) u n h = rw (ne-eqb b 59 (h .0)) (codes-digits a u (capped (n * 10 + (b - 48))) (h .1))
 
-pub code-text : (n : ℕ) → numberText 0 (pos n) ≡ numeral n
-unfolding numberText signedOf
+pub code-text : (n : ℕ) → exportNumber 0 (pos n) ≡ numeral n
+unfolding exportNumber signedOf
 code-text n = sym (amount-whole 0 n refl) ∙ ap numeral (div-one n)
 
 code-said : (n : ℕ) → n ≤ 9999 → cappedFrom 0 (numeral n) ≡ n
@@ -201,11 +201,11 @@ unfolding codesIn
 code-next n u h = let e : min n 9999 ≡ n = omega arith in
     codes-digits (numeral n) (59 ∷ u) 0 (free-numeral 59 no-semicolon n) ∙ rw (code-said n h, e)
 
-codes-back : (n : ℕ) (ms : List ℤ) → n ≤ 9999 → AreCodes ms → codesIn 0 (numberText 0 (pos n) ++ codesBehind ms) ≡ pos n ∷ ms
+codes-back : (n : ℕ) (ms : List ℤ) → n ≤ 9999 → AreCodes ms → codesIn 0 (exportNumber 0 (pos n) ++ codesBehind ms) ≡ pos n ∷ ms
 unfolding codesBehind
 codes-back n [] h c = rw (code-text n) (code-last n h)
 codes-back n (pos m ∷ ms) h c =
-    rw (code-text n) (code-next n (numberText 0 (pos m) ++ codesBehind ms) h)
+    rw (code-text n) (code-next n (exportNumber 0 (pos m) ++ codesBehind ms) h)
     ∙ ap (λ (x : List ℤ). pos n ∷ x) (codes-back m ms (c .0) (c .1))
 codes-back n (negsuc m ∷ ms) h c = absurd c
 
@@ -215,7 +215,7 @@ unfolding setText setGuess
 set-back [] c = refl
 set-back (pos n ∷ ms) c =
     let l = led-numeral n in
-    let e : numberText 0 (pos n) ++ codesBehind ms ≡ l .first
+    let e : exportNumber 0 (pos n) ++ codesBehind ms ≡ l .first
     ∷ (l .others ++ codesBehind ms) = ap (λ (x : List ℕ). x ++ codesBehind ms) (code-text n ∙ l .is) in
     ap setGuess e ∙ rw (ne-eqb (l .first) 110 (λ q. omega (arith, l .high))) (ap (codesIn 0) (sym e) ∙ codes-back n ms (c .0) (c .1))
 set-back (negsuc n ∷ ms) c = absurd c
@@ -235,19 +235,24 @@ set-filled (pos n ∷ ms) c =
 set-filled (negsuc n ∷ ms) c = absurd c
 
 -- how long it is
-code-long : (n : ℕ) → n ≤ 9999 → length (numberText 0 (pos n)) ≤ 4
+code-long : (n : ℕ) → n ≤ 9999 → length (exportNumber 0 (pos n)) ≤ 4
 code-long n h = rw (code-text n) (omega (arith, numeral-length n, digits-least n 4 (omega arith) (omega arith)))
 
 behind-long : (ms : List ℤ) → AreCodes ms → length (codesBehind ms) ≤ 5 * length ms
 unfolding codesBehind
 behind-long [] c = omega arith
-behind-long (pos n ∷ ms) c = omega (arith, code-long n (c .0), length-append (numberText 0 (pos n)) (codesBehind ms), behind-long ms (c .1))
+behind-long (pos n ∷ ms) c = omega (
+  arith,
+  code-long n (c .0),
+  length-append (exportNumber 0 (pos n)) (codesBehind ms),
+  behind-long ms (c .1),
+)
 behind-long (negsuc n ∷ ms) c = absurd c
 
 pub set-long : (ms : List ℤ) → AreCodes ms → length (setText ms) ≤ 5 * length ms + 4
 unfolding setText
 set-long [] c = omega arith
-set-long (pos n ∷ ms) c = omega (arith, code-long n (c .0), length-append (numberText 0 (pos n)) (codesBehind ms), behind-long ms (c .1))
+set-long (pos n ∷ ms) c = omega (arith, code-long n (c .0), length-append (exportNumber 0 (pos n)) (codesBehind ms), behind-long ms (c .1))
 set-long (negsuc n ∷ ms) c = absurd c
 
 pub rising-few : {c n : ℕ} {ms : List ℤ} → Rising c n ms → length ms ≤ n

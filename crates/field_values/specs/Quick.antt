@@ -14,11 +14,12 @@ use Rattle.layout.specs.declared.Kind.the-variants.{Multiple}
 use Rattle.layout.specs.declared.Spread.{Spread}
 use Rattle.fields.specs.rule.Field.{Field, holds, illegal}
 use Rattle.writes.specs.Write.{Ready, WrittenBy, takesNumbers}
-use Rattle.writes.specs.rule.Write.{valueOf}
+use Rattle.writes.specs.rule.Write.{lentValue}
 use Rattle.writes.specs.declared.Value as given
 use Rattle.writes.specs.declared.Value.the-variants.{Number, Set}
 use Rattle.writes.specs.declared.Wrote.{Wrote}
-use Rattle.value_fields.specs.rule.Values.{numberText, decimalsOf}
+use Rattle.value_fields.specs.rule.Values.{exportNumber}
+use Rattle.widths.specs.rule.Width.{decimalsOf}
 use Rattle.number_fields.specs.Reads.{reads-part, NumberAt}
 use Rattle.field_values.specs.rule.Value.{Left, whole}
 use Rattle.field_values.specs.rule.Read.{valueFrom, numberGuess, leftOf}
@@ -58,7 +59,7 @@ pub written-as : {k k′ : Kind} {t : List ℤ} {v : ℕ} {r : Row} {value : giv
 written-as e w = rw e w
 
 -- ---- a number that a whole field is
-pub number-whole : {k : ℕ} {f : List ℕ} {z : ℤ} {to : ℕ} → NumberAt k f 0 z to → (length f ≡ 0 → ⊥) → to ≡ length f → numberText k z ≡ f
+pub number-whole : {k : ℕ} {f : List ℕ} {z : ℤ} {to : ℕ} → NumberAt k f 0 z to → (length f ≡ 0 → ⊥) → to ≡ length f → exportNumber k z ≡ f
 number-whole {k} {f} {z} {to} n some e =
     reads-part (n .reads (λ w. some (sym e ∙ w))) ∙ take-all (to - 0) f (omega arith)
 
@@ -67,7 +68,7 @@ module _ {t : List ℤ} {v : ℕ} {r : Row} {f old new : List ℕ} (some : lengt
   pub number-quick : {k : ℕ} {z : ℤ} {to : ℕ} {a : Wrote} {b : Bool} → takesNumbers (r .kind) ≡ true → k ≡ decimalsOf (r .kind)
       → NumberAt k f 0 z to → to ≡ length f → WrittenBy (r .kind) t v r (Number z) [] [] old new a → b ≡ isDone a
       → Quick t v r f old new b
-  unfolding valueOf
+  unfolding lentValue
   number-quick {k} {z} takes is n e w d =
       let text = number-whole n some e in
       let g : z ≡ numberGuess k f = sym (number-left k z f (n .few) (whole text) .guess) in
@@ -76,7 +77,7 @@ module _ {t : List ℤ} {v : ℕ} {r : Row} {f old new : List ℕ} (some : lengt
 
   pub set-quick : {s : Spread} {list : List ℤ} {n : ℕ} {text : List ℕ} {a : Wrote} {b : Bool} → r .kind ≡ Multiple s → Coded f list n
       → (n ≡ 0 → ⊥) → WrittenBy (r .kind) t v r Set (take n list) text old new a → b ≡ isDone a → Quick t v r f old new b
-  unfolding valueOf
+  unfolding lentValue
   set-quick kind c z w d =
       quick-took (wrote (set-is r f some kind (coded-guess c z))
       (set-left-is r f some kind (coded-guess c z) (sym (c .text z)) (coded-left c z))

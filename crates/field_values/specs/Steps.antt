@@ -32,11 +32,12 @@ use Rattle.lines.specs.Lines.{Codes}
 use Rattle.sink.specs.rule.Sent.{Sent}
 use Rattle.sink.specs.Sent.{sets-front}
 use Rattle.writes.specs.Write.{Ready, WrittenBy, answerBy, leftBy, takesNumbers}
-use Rattle.writes.specs.rule.Write.{valueOf}
+use Rattle.writes.specs.rule.Write.{lentValue}
 use Rattle.writes.specs.declared.Value as given
 use Rattle.writes.specs.declared.Wrote.{Wrote}
 use Rattle.writes.specs.declared.Wrote.the-variants.{Done, NotWellFormed, NoRow, TooShort, OtherType, NotLegal, TooMany}
-use Rattle.value_fields.specs.rule.Values.{amountText, numberText, setText, valueText, decimalsOf}
+use Rattle.value_fields.specs.rule.Values.{amountText, exportNumber, setText, exportValue}
+use Rattle.widths.specs.rule.Width.{decimalsOf}
 use Rattle.field_values.specs.rule.Value.{zeros, Left, whole}
 use Rattle.field_values.specs.rule.Read.{capped, cappedFrom, pointAt, sizeGuess, numberGuess, codesIn, setGuess, truthGuess}
 use Rattle.field_values.specs.rule.Read.{someGuess, guessOf}
@@ -162,8 +163,8 @@ amount-short k n h = by (eqb k 0) (numeral-few (n / 10 ^ k))
     by true l = omega (arith, length-append (numeral (n / 10 ^ k)) [])
     by false l = omega (arith, length-append (numeral (n / 10 ^ k)) (46 ∷ padded k n), length-padded k n)
 
-pub text-short : (k : ℕ) (z : ℤ) → k ≤ 9 → length (numberText k z) ≤ 27
-unfolding numberText
+pub text-short : (k : ℕ) (z : ℤ) → k ≤ 9 → length (exportNumber k z) ≤ 27
+unfolding exportNumber
 text-short k z h = go (signedOf z .minus) (amount-short k (signedOf z .size) h)
   where
     go : (q : Bool) → length (amountText k (signedOf z .size)) ≤ 26
@@ -373,7 +374,7 @@ isDone TooMany = false
 
 -- the guess of a field, written as it stands
 abbrev pub LeftOf : Row → List ℕ → Bool → Type 0
-LeftOf r f b = leftOf (decimalsOf (r .kind)) (valueText (decimalsOf (r .kind)) (guessOf (r .kind) f)) f ≡ b
+LeftOf r f b = leftOf (decimalsOf (r .kind)) (exportValue (decimalsOf (r .kind)) (guessOf (r .kind) f)) f ≡ b
 
 pub none-taken : {t : List ℤ} {v : ℕ} {r : Row} {f old : List ℕ} → valueFrom t v r f ≡ illegal → Took t v r f old old false
 unfolding isHeld tookBy
@@ -399,7 +400,7 @@ unfolding valueFrom
 left-tried t v r f e = rw e
 
 pub wrote : {t : List ℤ} {v : ℕ} {r : Row} {f old new : List ℕ} {x : given.Value} {list : List ℤ} {bytes : List ℕ} {a : Wrote} {b : Bool}
-    → valueOf x list bytes ≡ guessOf (r .kind) f → LeftOf r f true → WrittenBy (r .kind) t v r x list bytes old new a → b ≡ isDone a
+    → lentValue x list bytes ≡ guessOf (r .kind) f → LeftOf r f true → WrittenBy (r .kind) t v r x list bytes old new a → b ≡ isDone a
     → Took t v r f old new b
 unfolding writtenOf
 wrote {t} {v} {r} {f} {old} {new} {x} {list} {bytes} {a} {b} g l w d =
@@ -420,7 +421,7 @@ guess-none k [] h = refl
 guess-none k (b ∷ f) h = absurd (omega arith)
 
 pub left-empty : (r : Row) (f : List ℕ) → length f ≡ 0 → LeftOf r f true
-unfolding guessOf valueText leftOf tailGood
+unfolding guessOf exportValue leftOf tailGood
 left-empty r [] h = refl
 left-empty r (b ∷ f) h = absurd (omega arith)
 
@@ -444,11 +445,11 @@ module _ (r : Row) (f : List ℕ) (some : length f ≡ 0 → ⊥) (takes : takes
   number-is = sym (some-is (r .kind) f some ∙ number-guessed (r .kind) f takes ∙ ap (λ (i : ℕ). number (numberGuess i f)) (sym is)
       ∙ ap number (sym guess))
 
-  pub number-left-is : {s : List ℕ} {b : Bool} → s ≡ numberText k z → b ≡ leftOf k s f → LeftOf r f b
-  unfolding valueText
+  pub number-left-is : {s : List ℕ} {b : Bool} → s ≡ exportNumber k z → b ≡ leftOf k s f → LeftOf r f b
+  unfolding exportValue
   number-left-is {s} {b} e l =
-      ap (λ (x : Value). leftOf (decimalsOf (r .kind)) (valueText (decimalsOf (r .kind)) x) f) (sym number-is)
-      ∙ ap (λ (i : ℕ). leftOf i (numberText i z) f) (sym is) ∙ ap (λ (x : List ℕ). leftOf k x f) (sym e) ∙ sym l
+      ap (λ (x : Value). leftOf (decimalsOf (r .kind)) (exportValue (decimalsOf (r .kind)) x) f) (sym number-is)
+      ∙ ap (λ (i : ℕ). leftOf i (exportNumber i z) f) (sym is) ∙ ap (λ (x : List ℕ). leftOf k x f) (sym e) ∙ sym l
 
 -- sets
 module _ (r : Row) (f : List ℕ) (some : length f ≡ 0 → ⊥) {s : Spread} (kind : r .kind ≡ Multiple s) where
@@ -464,9 +465,9 @@ module _ (r : Row) (f : List ℕ) (some : length f ≡ 0 → ⊥) {s : Spread} (
   set-is e = sym (set-guessed ∙ ap members (sym e))
 
   pub set-left-is : {ms : List ℤ} {u : List ℕ} {b : Bool} → ms ≡ setGuess f → u ≡ setText ms → b ≡ leftOf 0 u f → LeftOf r f b
-  unfolding valueText
+  unfolding exportValue
   set-left-is {ms} {u} {b} g e l =
-      ap (λ (x : Value). leftOf (decimalsOf (r .kind)) (valueText (decimalsOf (r .kind)) x) f) (sym (set-is g))
+      ap (λ (x : Value). leftOf (decimalsOf (r .kind)) (exportValue (decimalsOf (r .kind)) x) f) (sym (set-is g))
       ∙ ap (λ (i : ℕ). leftOf i (setText ms) f) no-decimals ∙ ap (λ (x : List ℕ). leftOf 0 x f) (sym e) ∙ sym l
 
   -- a set that fits is made of codes, and few
@@ -489,9 +490,9 @@ module _ (r : Row) (f : List ℕ) (some : length f ≡ 0 → ⊥) {s : Spread} (
     unfolding valueFrom triedAs
     not-a-set no-set =
         let x = guessOf (r .kind) f in
-        go (leftOf (decimalsOf (r .kind)) (valueText (decimalsOf (r .kind)) x) f) (isFits (fitOf t v r x)) refl refl
+        go (leftOf (decimalsOf (r .kind)) (exportValue (decimalsOf (r .kind)) x) f) (isFits (fitOf t v r x)) refl refl
       where
-        go : (p q : Bool) → leftOf (decimalsOf (r .kind)) (valueText (decimalsOf (r .kind)) (guessOf (r .kind) f)) f ≡ p
+        go : (p q : Bool) → leftOf (decimalsOf (r .kind)) (exportValue (decimalsOf (r .kind)) (guessOf (r .kind) f)) f ≡ p
             → isFits (fitOf t v r (guessOf (r .kind) f)) ≡ q
             → cond p (cond q (holds (guessOf (r .kind) f)) illegal) illegal ≡ illegal
         go true true a b =
@@ -597,9 +598,9 @@ module _ (r : Row) (f : List ℕ) (some : length f ≡ 0 → ⊥) (kind : r .kin
   truth-is e = sym (truth-guessed ∙ ap truth (sym (e ∙ truth-first f some)))
 
   pub truth-left-is : {b : Bool} {u : List ℕ} {q : Bool} → b ≡ eqb (getD f 0 0) 49 → u ≡ cond b 49 48 ∷ [] → q ≡ leftOf 0 u f → LeftOf r f q
-  unfolding valueText decimalsOf
+  unfolding exportValue decimalsOf
   truth-left-is {b} {u} {q} e w l =
-      ap (λ (x : Value). leftOf (decimalsOf (r .kind)) (valueText (decimalsOf (r .kind)) x) f) (sym (truth-is e))
+      ap (λ (x : Value). leftOf (decimalsOf (r .kind)) (exportValue (decimalsOf (r .kind)) x) f) (sym (truth-is e))
       ∙ ap (λ (k : Kind). leftOf (decimalsOf k) (cond b 49 48 ∷ []) f) kind ∙ ap (λ (x : List ℕ). leftOf 0 x f) (sym w) ∙ sym l
 
 -- texts
@@ -609,9 +610,9 @@ module _ (r : Row) (f : List ℕ) (some : length f ≡ 0 → ⊥) (kind : r .kin
   text-is = sym (some-is (r .kind) f some ∙ ap (λ (k : Kind). someGuess k f) kind)
 
   pub text-left-is : LeftOf r f true
-  unfolding valueText decimalsOf
+  unfolding exportValue decimalsOf
   text-left-is =
-      ap (λ (x : Value). leftOf (decimalsOf (r .kind)) (valueText (decimalsOf (r .kind)) x) f) (sym text-is)
+      ap (λ (x : Value). leftOf (decimalsOf (r .kind)) (exportValue (decimalsOf (r .kind)) x) f) (sym text-is)
       ∙ ap (λ (k : Kind). leftOf (decimalsOf k) f f) kind ∙ is-left 0 f f (whole refl)
 
 pub ready-limits : {k : Kind} {t : List ℤ} {v n : ℕ} {r : Row} → Ready k t v n r → Limits k t v r
@@ -637,9 +638,9 @@ unfolding decimalsOf
 quantity-number r q t v n e g = (ap takesNumbers e, sym (ap decimalsOf e), (rw e at (g .kind)) .decimals)
 
 -- a number's text in its room
-module _ (k : ℕ) (z : ℤ) {out out′ : List ℕ} {r : ℕ} (a : Sent 33 out 0 (numberText k z) out′ r) (few : k ≤ 9) (size : length out ≡ 32)
+module _ (k : ℕ) (z : ℤ) {out out′ : List ℕ} {r : ℕ} (a : Sent 33 out 0 (exportNumber k z) out′ r) (few : k ≤ 9) (size : length out ≡ 32)
   where
-    pub number-stands : (r ≡ length (numberText k z)) × (take r out′ ≡ numberText k z)
+    pub number-stands : (r ≡ length (exportNumber k z)) × (take r out′ ≡ exportNumber k z)
     number-stands = sent-stands a (omega (arith, text-short k z few)) (omega (arith, size))
 
     pub number-inside : r ≤ length out′

@@ -6,7 +6,7 @@ ghost use lib.ListN.{length};
 ghost use Rattle.ascii.specs.rule.Tens.{Tens};
 ghost use Rattle.layout.specs.declared.Kind.the-variants as kind;
 ghost use Rattle.writes.specs.Write.{Ready, takesNumbers};
-ghost use Rattle.value_fields.specs.rule.Values.{decimalsOf};
+ghost use Rattle.widths.specs.rule.Width.{decimalsOf};
 ghost use Rattle.field_values.specs.rule.Value.{zeros};
 ghost use Rattle.field_values.specs.rule.Read.{capped, cappedFrom, pointAt, sizeGuess, numberGuess, allZeros, tailGood, leftOf};
 ghost use Rattle.field_values.specs.Steps.{small, SemiTo, Gathered, Members, TakesSets, Took, isDone};

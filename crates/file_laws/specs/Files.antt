@@ -9,13 +9,13 @@ use lib.Dec.{eqb}
 use lib.IntN.{ℤ}
 use lib.ListN.{length, length-append}
 use Rattle.below.specs.Below.{holds-not}
-use Rattle.cuts.specs.rule.Records.{Records, over, unended, record-and, recordsOf, countEnded}
+use Rattle.cuts.specs.rule.Records.{Records, over, unended, record-and, recordsOf, countEnded, lengthOfFirst}
 use Rattle.sound.specs.rule.Sound.{wellFormed}
 use Rattle.records.specs.rule.Verdict.{Verdict, sound, refused, lowByte, badField, verdictOf}
 use Rattle.files.specs.rule.File.{FileVerdict, soundWith, badTable, faultIn, recordVerdict, goOn, firstLength, recordsVerdict}
 use Rattle.files.specs.rule.File.{fileVerdict, isSound}
 use Rattle.files.specs.File.{go-fault, verdict-other}
-use Rattle.file_laws.specs.rule.Files.{before, firstOf, AllSound, none-yet, one-more, SoundBefore, FileOutcome, not-formed}
+use Rattle.file_laws.specs.rule.Files.{recordsBefore, AllSound, none-yet, one-more, SoundBefore, FileOutcome, not-formed}
 use Rattle.file_laws.specs.rule.Files.{all-sound, not-ended, other-length, record-fault}
 
 -- ---- one record, of the first one's length, is judged as the public record call judges it
@@ -69,27 +69,28 @@ module _ (t : List ℤ) (good : wellFormed t ≡ true) (first : ℕ) where
   -- what is left behind sound records
   record Left (n f : ℕ) (rs : List (List ℕ)) (rest : Records) : Type 0 where
     pub length-known : ℕ
-    pub same : recordsVerdict t n f (before rs rest) ≡ recordsVerdict t (n + length rs) length-known rest
-    pub still : firstLength (n + length rs) length-known (firstOf rest) ≡ first
+    pub same : recordsVerdict t n f (recordsBefore rs rest) ≡ recordsVerdict t (n + length rs) length-known rest
+    pub still : firstLength (n + length rs) length-known (lengthOfFirst rest) ≡ first
 
-  left : {rs : List (List ℕ)} → AllSound t first rs → (n f : ℕ) (rest : Records) → firstLength n f (firstOf (before rs rest)) ≡ first
+  left : {rs : List (List ℕ)} → AllSound t first rs → (n f : ℕ) (rest : Records) → firstLength n f (lengthOfFirst (recordsBefore rs rest))
+      ≡ first
       → Left n f rs rest
-  unfolding before firstOf
+  unfolding recordsBefore lengthOfFirst
   left none-yet n f rest k = let z : n + 0 ≡ n = omega arith in record { length-known = f; same = rw z; still = rw z k }
   left (one-more {r} {rs} e s a) n f rest k =
-      let i = left a (n + 1) first rest (known-on n first (firstOf (before rs rest))) in
+      let i = left a (n + 1) first rest (known-on n first (lengthOfFirst (recordsBefore rs rest))) in
       let z : n + length (r ∷ rs) ≡ n + 1 + length rs = omega arith in
       record {
         length-known = i .length-known;
-        same = next-sound n f r (before rs rest) k e s ∙ rw z (i .same);
+        same = next-sound n f r (recordsBefore rs rest) k e s ∙ rw z (i .same);
         still = rw z (i .still);
       }
 
 -- ---- WHAT IS SO HAS ITS VERDICT
 module _ {t : List ℤ} {d : List ℕ} {rs : List (List ℕ)} {rest : Records} (s : SoundBefore t d rs rest) where
-  behind : Left t (s .formed) (firstOf (recordsOf d)) 0 0 rs rest
+  behind : Left t (s .formed) (lengthOfFirst (recordsOf d)) 0 0 rs rest
   unfolding firstLength
-  behind = left t (s .formed) (firstOf (recordsOf d)) (s .all) 0 0 rest (ap firstOf (sym (s .records)))
+  behind = left t (s .formed) (lengthOfFirst (recordsOf d)) (s .all) 0 0 rest (ap lengthOfFirst (sym (s .records)))
 
   file-is : fileVerdict t d ≡ recordsVerdict t (0 + length rs) (behind .length-known) rest
   unfolding fileVerdict
@@ -99,22 +100,23 @@ zero-plus : (n : ℕ) → 0 + n ≡ n
 zero-plus n = omega arith
 
 pub file-only : {t : List ℤ} {d : List ℕ} {v : FileVerdict} → FileOutcome t d v → fileVerdict t d ≡ v
-unfolding fileVerdict recordsVerdict firstOf
+unfolding fileVerdict recordsVerdict lengthOfFirst
 file-only (not-formed e) = rw e
 file-only (all-sound rs s) = rw (zero-plus (length rs)) at (file-is s)
 file-only (not-ended rs r s) = rw (zero-plus (length rs)) at (file-is s)
 file-only {t} {d} (other-length rs r rest s n) =
     let b = behind s in
-    let q = next-other t (s .formed) (firstOf (recordsOf d)) (0 + length rs) (b .length-known) r rest (b .still) n in
+    let q = next-other t (s .formed) (lengthOfFirst (recordsOf d)) (0 + length rs) (b .length-known) r rest (b .still) n in
     rw (zero-plus (length rs)) at (file-is s ∙ q)
 file-only {t} {d} (record-fault rs r rest s e n) =
     let b = behind s in
-    let q = next-fault t (s .formed) (firstOf (recordsOf d)) (0 + length rs) (b .length-known) r rest (b .still) e n in
+    let q = next-fault t (s .formed) (lengthOfFirst (recordsOf d)) (0 + length rs) (b .length-known) r rest (b .still) e n in
     rw (zero-plus (length rs)) at (file-is s ∙ q)
 
 -- ---- AND THE VERDICT NAMES WHAT IS SO
-pub before-more : (rs : List (List ℕ)) (r : List ℕ) (rest : Records) → before (rs ++ r ∷ []) rest ≡ before rs (record-and r rest)
-unfolding before
+pub before-more : (rs : List (List ℕ)) (r : List ℕ) (rest : Records) → recordsBefore (rs ++ r ∷ []) rest
+    ≡ recordsBefore rs (record-and r rest)
+unfolding recordsBefore
 before-more [] r rest = refl
 before-more (x ∷ rs) r rest = ap (record-and x) (before-more rs r rest)
 
@@ -125,15 +127,15 @@ sound-more r (one-more f q a) e s = one-more f q (sound-more r a e s)
 
 module _ (t : List ℤ) (d : List ℕ) (good : wellFormed t ≡ true) where
   named-from : (rest : Records) (rs : List (List ℕ)) (f : ℕ) → SoundBefore t d rs rest
-      → firstLength (length rs) f (firstOf rest) ≡ firstOf (recordsOf d) → FileOutcome t d (recordsVerdict t (length rs) f rest)
-  unfolding recordsVerdict firstOf
+      → firstLength (length rs) f (lengthOfFirst rest) ≡ lengthOfFirst (recordsOf d) → FileOutcome t d (recordsVerdict t (length rs) f rest)
+  unfolding recordsVerdict lengthOfFirst
   named-from over rs f s k = all-sound rs s
   named-from (unended r) rs f s k = not-ended rs r s
   named-from (record-and r rest) rs f s k = go (eqb (length r) first) refl (isSound (verdictOf t r)) refl
       (λ g i. named-from rest (rs ++ r ∷ []) first g i)
     where
       first : ℕ
-      first = firstOf (recordsOf d)
+      first = lengthOfFirst (recordsOf d)
 
       more : length r ≡ first → verdictOf t r ≡ sound → SoundBefore t d (rs ++ r ∷ []) rest
       more e v = record {
@@ -146,7 +148,7 @@ module _ (t : List ℤ) (d : List ℕ) (good : wellFormed t ≡ true) where
       long = length-append rs (r ∷ [])
 
       go : (p : Bool) → eqb (length r) first ≡ p → (q : Bool) → isSound (verdictOf t r) ≡ q
-          → (SoundBefore t d (rs ++ r ∷ []) rest → firstLength (length (rs ++ r ∷ [])) first (firstOf rest) ≡ first
+          → (SoundBefore t d (rs ++ r ∷ []) rest → firstLength (length (rs ++ r ∷ [])) first (lengthOfFirst rest) ≡ first
           → FileOutcome t d (recordsVerdict t (length (rs ++ r ∷ [])) first rest))
           → FileOutcome t d (recordsVerdict t (length rs) f (record-and r rest))
       go false e q v ih =
@@ -159,11 +161,11 @@ module _ (t : List ℤ) (d : List ℕ) (good : wellFormed t ≡ true) where
       go true e true v ih =
           let l = eqb-true (length r) first e in
           let y = is-sound (verdictOf t r) v in
-          let z = ih (more l y) (rw long (known-on (length rs) first (firstOf rest))) in
+          let z = ih (more l y) (rw long (known-on (length rs) first (lengthOfFirst rest))) in
           rw (next-sound t good first (length rs) f r rest k l y) (rw long at z)
 
 pub file-named : (t : List ℤ) (d : List ℕ) → FileOutcome t d (fileVerdict t d)
-unfolding fileVerdict before firstLength
+unfolding fileVerdict recordsBefore firstLength
 file-named t d = go (wellFormed t) refl
   where
     start : wellFormed t ≡ true → SoundBefore t d [] (recordsOf d)
@@ -174,8 +176,8 @@ file-named t d = go (wellFormed t) refl
     go false g = not-formed g
 
 -- ---- THE COUNT of a sound file is the number of terminators passed
-count-before : (rs : List (List ℕ)) → countEnded (before rs over) ≡ length rs
-unfolding countEnded before
+count-before : (rs : List (List ℕ)) → countEnded (recordsBefore rs over) ≡ length rs
+unfolding countEnded recordsBefore
 count-before [] = refl
 count-before (r ∷ rs) = rw (count-before rs) (omega arith)
 

@@ -12,21 +12,21 @@ use lib.ListN.{length, drop, length-append, drop-of-length-le}
 use lib.Seq.{drop-append-le, drop-append-seam, drop-cons}
 use Rattle.below.specs.Below.{holds-not, lt-or-le}
 use Rattle.cuts.specs.declared.Terminator.{Terminator}
-use Rattle.cuts.specs.rule.Cut.{single, pair, none, beginsWith, terminatorAt, terminatorOf, wholeAt, beginsAt}
+use Rattle.cuts.specs.rule.Cut.{oneByte, twoBytes, noEnding, beginsWith, terminatorAt, terminatorOf, wholeAt, beginsAt}
 use Rattle.cuts.specs.rule.Records.{Records, unended, record-and, atEnd, cut, recordsOf, terminatorBytes, laid}
 use Rattle.file_laws.specs.rule.Only.{NoneInside, Clean, none-left, last, next}
 
 -- ---- a terminator is none, one byte, or two that differ
 pub data Known : Terminator → Type 0 where
-  no-terminator : Known none
-  one-byte : {a b : ℕ} → Known (single a b)
-  two-bytes : {a b : ℕ} → (a ≡ b → ⊥) → Known (pair a b)
+  no-terminator : Known noEnding
+  one-byte : {a b : ℕ} → Known (oneByte a b)
+  two-bytes : {a b : ℕ} → (a ≡ b → ⊥) → Known (twoBytes a b)
 
 known-at : (a b : ℕ) (s : List ℕ) → (a ≡ b → ⊥) → Known (terminatorAt a b s)
 unfolding terminatorAt
 known-at a b s h = go (beginsWith b s)
   where
-    go : (q : Bool) → Known (cond q (pair a b) (single a b))
+    go : (q : Bool) → Known (cond q (twoBytes a b) (oneByte a b))
     go true = two-bytes h
     go false = one-byte
 
@@ -171,9 +171,9 @@ one-ended : {w : Terminator} → Known w → (r : List ℕ) (x : List ℕ) → 1
 unfolding terminatorBytes cut beginsAt wholeAt beginsWith
 one-ended no-terminator r x h n = absurd (omega arith)
 one-ended (one-byte {a} {b}) r x h n =
-    run-on (single a b) r [] (a ∷ x) (apart-all (single a b) r a x (λ z e. omega arith) n) ∙ rw (eq-eqb a a refl)
+    run-on (oneByte a b) r [] (a ∷ x) (apart-all (oneByte a b) r a x (λ z e. omega arith) n) ∙ rw (eq-eqb a a refl)
 one-ended (two-bytes {a} {b} d) r x h n =
-    run-on (pair a b) r [] (a ∷ b ∷ x) (apart-all (pair a b) r a (b ∷ x) (λ z e. d e) n) ∙ rw (eq-eqb a a refl, eq-eqb b b refl)
+    run-on (twoBytes a b) r [] (a ∷ b ∷ x) (apart-all (twoBytes a b) r a (b ∷ x) (λ z e. d e) n) ∙ rw (eq-eqb a a refl, eq-eqb b b refl)
 
 only : {w : Terminator} → Known w → {rs : Records} → Clean w rs → cut w 0 [] (laid w rs) ≡ rs
 unfolding laid cut atEnd

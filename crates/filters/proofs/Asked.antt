@@ -16,11 +16,12 @@ use Rattle.names.specs.Name.{keyOf}
 use Rattle.names.specs.Clash.{faultOf}
 use Rattle.names.specs.rule.Standard.{nameAt}
 use Rattle.names.proofs.Standards.{keys-fault}
-use Rattle.survey.specs.rule.Survey.{Text}
+use Rattle.survey.specs.rule.Survey.{KeptText}
 use Rattle.survey.specs.rule.Width.{someOf}
-use Rattle.xml_reading.specs.rule.Role.{Entry, mayServe, useWrong, signsIn, sameName, isNameOf, hasServed, countNamed, filterFrom, filterOf}
-use Rattle.xml_reading.specs.rule.Whole.{namesOf}
-use Rattle.filters.specs.rule.Kept.{At, nameOf, kindOf}
+use Rattle.xml_reading.specs.rule.Role.{XmlEntry, mayServe, useWrong, signsIn, sameName, isNameOf, hasServed, countNamed, filterFrom}
+use Rattle.xml_reading.specs.rule.Role.{filterOf}
+use Rattle.xml_reading.specs.rule.Whole.{xmlNames}
+use Rattle.filters.specs.rule.Kept.{At, nameOf, entryKind}
 use Rattle.filters.specs.rule.Kept as kept
 use Rattle.filters.specs.Code.{columnIn, nameIn, Lying, RowsOf, ServedSaid, CountSaid, FoundSaid, FilterSaid, TakenSaid, UseSaid}
 use Rattle.filters.specs.Code.{NamesSaid}
@@ -31,16 +32,16 @@ above zero k = absurd (k refl)
 above (suc n) k = omega arith
 
 -- ---- whether one of them passes
-module _ (rows : List ℤ) (count : ℕ) (all : List Entry → Entry → Bool) where
+module _ (rows : List ℤ) (count : ℕ) (all : List XmlEntry → XmlEntry → Bool) where
   -- those before row i don't
   abbrev pub SomeFrom : ℕ → Type 0
-  SomeFrom i = (l : List Entry) → RowsOf rows count l → someOf (all l) l ≡ someOf (all l) (drop i l)
+  SomeFrom i = (l : List XmlEntry) → RowsOf rows count l → someOf (all l) l ≡ someOf (all l) (drop i l)
 
   -- row i passes, or not
   abbrev pub Passes : ℕ → Bool → Type 0
-  Passes i q = (l : List Entry) → RowsOf rows count l → (v : Entry) → RowReads rows i v → all l v ≡ q
+  Passes i q = (l : List XmlEntry) → RowsOf rows count l → (v : XmlEntry) → RowReads rows i v → all l v ≡ q
 
-  some-step : (i : ℕ) (q : Bool) → i < count → SomeFrom i → Passes i q → (l : List Entry) → RowsOf rows count l
+  some-step : (i : ℕ) (q : Bool) → i < count → SomeFrom i → Passes i q → (l : List XmlEntry) → RowsOf rows count l
       → someOf (all l) l ≡ (q || someOf (all l) (drop (i + 1) l))
   unfolding someOf
   some-step i q k s f l h =
@@ -48,13 +49,13 @@ module _ (rows : List ℤ) (count : ℕ) (all : List Entry → Entry → Bool) w
       let r = next-row l i (omega arith) in
       s l h ∙ rw (add-one i, r .cut) (rw (f l h (r .row) (row-reads h (r .at))))
 
-  pub some-found : (i : ℕ) → i < count → SomeFrom i → Passes i true → (l : List Entry) → RowsOf rows count l → true ≡ someOf (all l) l
+  pub some-found : (i : ℕ) → i < count → SomeFrom i → Passes i true → (l : List XmlEntry) → RowsOf rows count l → true ≡ someOf (all l) l
   some-found i k s f l h = sym (some-step i true k s f l h)
 
   pub some-next : (i : ℕ) → i < count → SomeFrom i → Passes i false → SomeFrom (i + 1)
   some-next i k s f l h = some-step i false k s f l h
 
-  pub some-over : (i : ℕ) → count ≤ i → SomeFrom i → (l : List Entry) → RowsOf rows count l → false ≡ someOf (all l) l
+  pub some-over : (i : ℕ) → count ≤ i → SomeFrom i → (l : List XmlEntry) → RowsOf rows count l → false ≡ someOf (all l) l
   unfolding someOf
   some-over i k s l h =
       let n = h .counted in
@@ -62,7 +63,7 @@ module _ (rows : List ℤ) (count : ℕ) (all : List Entry → Entry → Bool) w
       sym (s l h ∙ rw (drop-of-length-le l g))
 
 -- ---- names that have served
-abbrev pub servedBy : Bool → Bool → List ℕ → Text → List Entry → Entry → Bool
+abbrev pub servedBy : Bool → Bool → List ℕ → KeptText → List XmlEntry → XmlEntry → Bool
 servedBy latin standard d t l v = ltb 0 (v .filter) && isNameOf (sameName latin standard d t) l (v .filter - 1)
 
 pub none-served : (f : ℕ) (q : Bool) → f ≡ 0 → false ≡ (ltb 0 f && q)
@@ -71,7 +72,7 @@ none-served f q e = rw (le-ltb 0 f (omega arith))
 pub some-served : (f : ℕ) (q : Bool) → (f ≡ 0 → ⊥) → q ≡ (ltb 0 f && q)
 some-served f q k = rw (lt-ltb 0 f (above f k))
 
-module _ (latin standard : Bool) (d : List ℕ) (rows : List ℤ) (count : ℕ) (t : Text) where
+module _ (latin standard : Bool) (d : List ℕ) (rows : List ℤ) (count : ℕ) (t : KeptText) where
   pub served-begin : SomeFrom rows count (servedBy latin standard d t) 0
   served-begin l h = refl
 
@@ -89,23 +90,24 @@ module _ (latin standard : Bool) (d : List ℕ) (rows : List ℤ) (count : ℕ) 
         rw (name-in (sameName latin standard d t) h (v .filter - 1) (omega arith))
     by false f = rw f
 
-  pub served-said : (r : Bool) → ((l : List Entry) → RowsOf rows count l → r ≡ someOf (servedBy latin standard d t l) l)
+  pub served-said : (r : Bool) → ((l : List XmlEntry) → RowsOf rows count l → r ≡ someOf (servedBy latin standard d t l) l)
       → ServedSaid latin standard d rows count t r
   unfolding hasServed
   served-said r f = record { is = f }
 
   -- ---- how many have the name
-  abbrev same : Text → Bool
+  abbrev same : KeptText → Bool
   same = sameName latin standard d t
 
   abbrev pub CountFrom : ℕ → ℕ → Type 0
-  CountFrom found i = (l : List Entry) → RowsOf rows count l → countNamed (sameName latin standard d t) l ≡ found
+  CountFrom found i = (l : List XmlEntry) → RowsOf rows count l → countNamed (sameName latin standard d t) l ≡ found
       + countNamed (sameName latin standard d t) (drop i l)
 
   pub count-begin : CountFrom 0 0
   count-begin l h = omega arith
 
-  count-step : (found i : ℕ) (q : Bool) → i < count → CountFrom found i → q ≡ same (nameIn rows i) → (l : List Entry) → RowsOf rows count l
+  count-step : (found i : ℕ) (q : Bool) → i < count → CountFrom found i → q ≡ same (nameIn rows i) → (l : List XmlEntry)
+      → RowsOf rows count l
       → countNamed same l ≡ found + cond q (1 + countNamed same (drop (i + 1) l)) (countNamed same (drop (i + 1) l))
   unfolding countNamed
   count-step found i q k s e l h =
@@ -131,13 +133,13 @@ module _ (latin standard : Bool) (d : List ℕ) (rows : List ℤ) (count : ℕ) 
 
   -- ---- the first logical that has it
   abbrev pub FoundFrom : ℕ → Type 0
-  FoundFrom i = (l : List Entry) → RowsOf rows count l → filterFrom (sameName latin standard d t) 0 l
+  FoundFrom i = (l : List XmlEntry) → RowsOf rows count l → filterFrom (sameName latin standard d t) 0 l
       ≡ filterFrom (sameName latin standard d t) i (drop i l)
 
   pub found-begin : FoundFrom 0
   found-begin l h = refl
 
-  found-step : (i : ℕ) (q : Bool) → i < count → FoundFrom i → q ≡ (same (nameIn rows i) && eqb (columnIn rows i 1) 5) → (l : List Entry)
+  found-step : (i : ℕ) (q : Bool) → i < count → FoundFrom i → q ≡ (same (nameIn rows i) && eqb (columnIn rows i 1) 5) → (l : List XmlEntry)
       → RowsOf rows count l
       → filterFrom same 0 l ≡ cond q (i + 1) (filterFrom same (i + 1) (drop (i + 1) l))
   unfolding filterFrom
@@ -145,7 +147,7 @@ module _ (latin standard : Bool) (d : List ℕ) (rows : List ℤ) (count : ℕ) 
       let n = h .counted in
       let r = next-row l i (omega arith) in
       let x = row-reads h (r .at) in
-      let f : q ≡ (same (nameOf (r .row)) && eqb (kindOf (r .row)) 5) = e ∙ rw (x .name, x .kind) in
+      let f : q ≡ (same (nameOf (r .row)) && eqb (entryKind (r .row)) 5) = e ∙ rw (x .name, x .kind) in
       let c : drop i l ≡ r .row ∷ drop (i + 1) l = r .cut ∙ rw (add-one i) in
       s l h ∙ rw (c, ← f)
 
@@ -166,7 +168,7 @@ module _ (latin standard : Bool) (d : List ℕ) (rows : List ℤ) (count : ℕ) 
   }
 
   -- ---- the filter
-  module _ (name : Text) (usage : ℕ) where
+  module _ (name : KeptText) (usage : ℕ) where
     pub filter-used : (usage ≡ 0 → ⊥) → FilterSaid latin standard d rows count name usage t 0
     unfolding filterOf
     filter-used k = record { is = λ l h. rw (ne-eqb usage 0 k) }
@@ -188,7 +190,7 @@ module _ (latin standard : Bool) (d : List ℕ) (rows : List ℤ) (count : ℕ) 
         filter-one r f c k g = record { is = λ l h. rw (eq-eqb usage 0 u, o, ← c .is l h, eq-eqb r 1 k) (g .is l h) }
 
 -- ---- uses
-abbrev pub taken : ℕ → List Entry → Entry → Bool
+abbrev pub taken : ℕ → List XmlEntry → XmlEntry → Bool
 taken usage l v = eqb (v .usage) usage
 
 module _ (rows : List ℤ) (count usage : ℕ) where
@@ -213,14 +215,14 @@ module _ (rows : List ℤ) (count usage : ℕ) where
     use-asked k e r x = record { is = λ l h. rw (lt-ltb 0 usage (above usage k), e) (x .is l h) }
 
 -- ---- standard names
-names-count : (latin : Bool) (d : List ℕ) (l : List Entry) → length (namesOf latin d l) ≡ length l
-unfolding namesOf
+names-count : (latin : Bool) (d : List ℕ) (l : List XmlEntry) → length (xmlNames latin d l) ≡ length l
+unfolding xmlNames
 names-count latin d [] = refl
 names-count latin d (v ∷ l) = ap suc (names-count latin d l)
 
-name-at : (latin : Bool) (d : List ℕ) {l : List Entry} {i : ℕ} {v : Entry} → At l i v → nameAt (namesOf latin d l) i
+name-at : (latin : Bool) (d : List ℕ) {l : List XmlEntry} {i : ℕ} {v : XmlEntry} → At l i v → nameAt (xmlNames latin d l) i
     ≡ signsIn latin d (nameOf v)
-unfolding namesOf
+unfolding xmlNames
 name-at latin d kept.here = refl
 name-at latin d (kept.there a) = name-at latin d a
 
@@ -228,9 +230,9 @@ pub names-said : (latin : Bool) (d : List ℕ) (rows : List ℤ) (keys : List �
     → ((j : ℕ) → j < i → getD keys j 0 ≡ keyOf 0 0 (signsIn latin d (nameIn rows j))) → r ≡ faultOf keys count
     → NamesSaid latin d rows count r
 names-said latin d rows keys count i r q g e = record
-    { is = λ l h. e ∙ ap (faultOf keys) (sym (names-count latin d l ∙ h .counted)) ∙ keys-fault keys (namesOf latin d l) (told l h) } where
-      told : (l : List Entry) → RowsOf rows count l → (j : ℕ) → j < length (namesOf latin d l) → getD keys j 0
-          ≡ keyOf 0 0 (nameAt (namesOf latin d l) j)
+    { is = λ l h. e ∙ ap (faultOf keys) (sym (names-count latin d l ∙ h .counted)) ∙ keys-fault keys (xmlNames latin d l) (told l h) } where
+      told : (l : List XmlEntry) → RowsOf rows count l → (j : ℕ) → j < length (xmlNames latin d l) → getD keys j 0
+          ≡ keyOf 0 0 (nameAt (xmlNames latin d l) j)
       told l h j m =
           let n = h .counted in
           let o = names-count latin d l in

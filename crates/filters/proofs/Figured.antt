@@ -12,7 +12,7 @@ use Rattle.markup.specs.rule.Bytes.{isDigit}
 use Rattle.scan.specs.rule.Number.{decimalOf}
 use Rattle.scan.specs.Number.{capped}
 use Rattle.spans.specs.rule.Heard.{Heard, All, Ill, heard}
-use Rattle.spans.specs.rule.Says.{eachOf, ofClass, countAfter}
+use Rattle.spans.specs.rule.Says.{eachChar, ofClass, countAfter}
 use Rattle.spans.specs.Figures.{figuresAfter, figuresOf}
 use Rattle.spans.specs.declared.Figures.{Figures}
 use Rattle.spans.specs.declared.Figures.the-variants.{Good, Wrong}
@@ -25,13 +25,13 @@ use Rattle.xml_reading.specs.rule.Element.{saidIn, charsOf, figureOf}
 
 pub record Digits (h : Heard) : Type 0 where
   pub all : h ≡ All (saidIn h)
-  pub each : eachOf isDigit (saidIn h) ≡ true
+  pub each : eachChar isDigit (saidIn h) ≡ true
   pub some : 0 < length (saidIn h)
 
 digits-in : (h : Heard) → fitsOf 1 h ≡ true → Digits h
 unfolding fitsOf countAfter ofClass
-digits-in (All cs) q = by (eachOf isDigit cs) refl q where
-  by : (x : Bool) → eachOf isDigit cs ≡ x → ltb 0 (cond x (0 + length cs) 0) ≡ true → Digits (All cs)
+digits-in (All cs) q = by (eachChar isDigit cs) refl q where
+  by : (x : Bool) → eachChar isDigit cs ≡ x → ltb 0 (cond x (0 + length cs) 0) ≡ true → Digits (All cs)
   by true e q = let h = ltb-true 0 (0 + length cs) q in record { all = refl; each = e; some = omega arith }
   by false e q = holds-not q (le-ltb 0 0 (omega arith))
 digits-in Ill q = holds-not q (le-ltb 0 0 (omega arith))
@@ -50,15 +50,15 @@ digit-low : (c : ℕ) → isDigit c ≡ true → c ≤ 57
 unfolding isDigit
 digit-low c e = leb-true c 57 (and-right (leb 48 c) (leb c 57) e)
 
-below : (cs : List ℕ) (j v p : ℕ) → v < p → length cs ≤ j → eachOf isDigit cs ≡ true → decimalOf v cs < tens p j
-unfolding decimalOf tens eachOf
+below : (cs : List ℕ) (j v p : ℕ) → v < p → length cs ≤ j → eachChar isDigit cs ≡ true → decimalOf v cs < tens p j
+unfolding decimalOf tens eachChar
 below [] j v p h l e = let g = tens-grow j p in omega arith
 below (c ∷ cs) zero v p h l e = absurd (omega arith)
 below (c ∷ cs) (suc j) v p h l e =
-    let g = digit-low c (and-left (isDigit c) (eachOf isDigit cs) e) in
-    below cs j (v * 10 + (c - 48)) (p * 10) (omega arith) (omega arith) (and-right (isDigit c) (eachOf isDigit cs) e)
+    let g = digit-low c (and-left (isDigit c) (eachChar isDigit cs) e) in
+    below cs j (v * 10 + (c - 48)) (p * 10) (omega arith) (omega arith) (and-right (isDigit c) (eachChar isDigit cs) e)
 
-digits-few : (cs : List ℕ) → eachOf isDigit cs ≡ true → length cs ≤ 4 → decimalOf 0 cs < 10000
+digits-few : (cs : List ℕ) → eachChar isDigit cs ≡ true → length cs ≤ 4 → decimalOf 0 cs < 10000
 unfolding tens
 digits-few cs e h = below cs 4 0 1 (omega arith) h e
 
@@ -74,7 +74,7 @@ module _ (d : List ℕ) (v e : ℕ) (fits : stretchFits 1 d v e ≡ true) where
   figures-are : figuresOf (heard (take (e - v) (drop v d)) 0) ≡ Good (capped (decimalOf 0 (charsOf d v e))) (length (charsOf d v e))
   unfolding figuresAfter charsOf
   figures-are = ap figuresOf (digits .all) ∙ by (saidIn (heard (take (e - v) (drop v d)) 0)) (digits .each) (digits .some) where
-    by : (cs : List ℕ) → eachOf isDigit cs ≡ true → 0 < length cs → figuresOf (All cs) ≡ Good (capped (decimalOf 0 cs)) (length cs)
+    by : (cs : List ℕ) → eachChar isDigit cs ≡ true → 0 < length cs → figuresOf (All cs) ≡ Good (capped (decimalOf 0 cs)) (length cs)
     by cs g h = let z : 0 + length cs ≡ length cs = omega arith in rw (g, z, ne-eqb (length cs) 0 (λ o. omega arith))
 
   module _ (next : ℕ) (r : Figures) (said : r ≡ figuresOf (heard (take (e - v) (drop v d)) 0)) where

@@ -10,13 +10,13 @@ use native.Mathlib.Omega.{arith}
 use lib.Dec.{eqb}
 use borrow.Author.Tests.{eq-eqb, eqb-true}
 use Rattle.below.specs.Below.{holds-not}
-use Rattle.survey.specs.rule.Survey.{Text}
-use Rattle.xml_reading.specs.rule.Role.{Entry, sameName, countNamed, filterFrom, filterOf}
-use Rattle.filters.specs.rule.Kept.{At, here, there, nameOf, kindOf, Filters}
+use Rattle.survey.specs.rule.Survey.{KeptText}
+use Rattle.xml_reading.specs.rule.Role.{XmlEntry, sameName, countNamed, filterFrom, filterOf}
+use Rattle.filters.specs.rule.Kept.{At, here, there, nameOf, entryKind, Filters}
 
-module _ (f : Text → Bool) where
+module _ (f : KeptText → Bool) where
   -- ---- none has the name
-  none-named : {l : List Entry} {i : ℕ} {v : Entry} → At l i v → countNamed f l ≡ 0 → f (nameOf v) ≡ false
+  none-named : {l : List XmlEntry} {i : ℕ} {v : XmlEntry} → At l i v → countNamed f l ≡ 0 → f (nameOf v) ≡ false
   unfolding countNamed
   none-named (here {v = v} {l = l}) e = by (f (nameOf v)) refl e where
     by : (q : Bool) → f (nameOf v) ≡ q → cond q (1 + countNamed f l) (countNamed f l) ≡ 0 → f (nameOf v) ≡ false
@@ -27,7 +27,7 @@ module _ (f : Text → Bool) where
     by true e = absurd (omega arith)
     by false e = e
 
-  all-unnamed : (l : List Entry) → ((i : ℕ) (v : Entry) → At l i v → f (nameOf v) ≡ true → ⊥) → countNamed f l ≡ 0
+  all-unnamed : (l : List XmlEntry) → ((i : ℕ) (v : XmlEntry) → At l i v → f (nameOf v) ≡ true → ⊥) → countNamed f l ≡ 0
   unfolding countNamed
   all-unnamed [] h = refl
   all-unnamed (v ∷ l) h = by (f (nameOf v)) refl (all-unnamed l (λ i w a g. h (suc i) w (there a) g)) where
@@ -35,38 +35,39 @@ module _ (f : Text → Bool) where
     by true e ih = absurd (h 0 v here e)
     by false e ih = ih
 
-  filter-none : (l : List Entry) (k : ℕ) → countNamed f l ≡ 0 → filterFrom f k l ≡ 0
+  filter-none : (l : List XmlEntry) (k : ℕ) → countNamed f l ≡ 0 → filterFrom f k l ≡ 0
   unfolding countNamed filterFrom
   filter-none [] k e = refl
   filter-none (v ∷ l) k e = by (f (nameOf v)) e (filter-none l (k + 1)) where
     by : (q : Bool) → cond q (1 + countNamed f l) (countNamed f l) ≡ 0 → (countNamed f l ≡ 0 → filterFrom f (k + 1) l ≡ 0)
-        → cond (q && eqb (kindOf v) 5) (k + 1) (filterFrom f (k + 1) l) ≡ 0
+        → cond (q && eqb (entryKind v) 5) (k + 1) (filterFrom f (k + 1) l) ≡ 0
     by true e ih = absurd (omega arith)
     by false e ih = ih e
 
   -- ---- row i alone has it, and is a logical
-  record Sole (l : List Entry) (i : ℕ) : Type 0 where
-    pub row : Entry
+  record Sole (l : List XmlEntry) (i : ℕ) : Type 0 where
+    pub row : XmlEntry
     pub before : At l i row
-    pub logical : kindOf row ≡ 5
+    pub logical : entryKind row ≡ 5
     pub named : f (nameOf row) ≡ true
-    pub only : (j : ℕ) (v : Entry) → At l j v → f (nameOf v) ≡ true → j ≡ i
+    pub only : (j : ℕ) (v : XmlEntry) → At l j v → f (nameOf v) ≡ true → j ≡ i
 
-  record Found (l : List Entry) (k n : ℕ) : Type 0 where
+  record Found (l : List XmlEntry) (k n : ℕ) : Type 0 where
     pub place : ℕ
     pub is : n ≡ k + place
     pub sole : Sole l place
 
-  first-only : {v : Entry} {l : List Entry} {j : ℕ} {w : Entry} → At (v ∷ l) j w → countNamed f l ≡ 0 → f (nameOf w) ≡ true → j ≡ 0
+  first-only : {v : XmlEntry} {l : List XmlEntry} {j : ℕ} {w : XmlEntry} → At (v ∷ l) j w → countNamed f l ≡ 0 → f (nameOf w) ≡ true → j ≡ 0
   first-only here c y = refl
   first-only (there a) c y = holds-not y (none-named a c)
 
-  later-only : {v : Entry} {l : List Entry} {i j : ℕ} {w : Entry} → f (nameOf v) ≡ false → Sole l i → At (v ∷ l) j w → f (nameOf w) ≡ true
+  later-only : {v : XmlEntry} {l : List XmlEntry} {i j : ℕ} {w : XmlEntry} → f (nameOf v) ≡ false → Sole l i → At (v ∷ l) j w → f (nameOf w)
+      ≡ true
       → j ≡ suc i
   later-only g s here y = holds-not y g
   later-only g s (there {v = w} {i = j} a) y = ap suc (s .only j w a y)
 
-  shift : {v : Entry} {l : List Entry} {i : ℕ} → f (nameOf v) ≡ false → Sole l i → Sole (v ∷ l) (suc i)
+  shift : {v : XmlEntry} {l : List XmlEntry} {i : ℕ} → f (nameOf v) ≡ false → Sole l i → Sole (v ∷ l) (suc i)
   shift g s = record {
     row = s .row;
     before = there (s .before);
@@ -76,14 +77,14 @@ module _ (f : Text → Bool) where
         y;
   }
 
-  later : {v : Entry} {l : List Entry} {k n : ℕ} → f (nameOf v) ≡ false → Found l (k + 1) n → Found (v ∷ l) k n
+  later : {v : XmlEntry} {l : List XmlEntry} {k n : ℕ} → f (nameOf v) ≡ false → Found l (k + 1) n → Found (v ∷ l) k n
   later g x = let e = x .is in record { place = suc (x .place); is = omega arith; sole = shift g (x .sole) }
 
-  sole-sound : (l : List Entry) (k n : ℕ) → countNamed f l ≡ 1 → filterFrom f k l ≡ suc n → Found l k n
+  sole-sound : (l : List XmlEntry) (k n : ℕ) → countNamed f l ≡ 1 → filterFrom f k l ≡ suc n → Found l k n
   unfolding countNamed filterFrom
   sole-sound [] k n c e = absurd (omega arith)
-  sole-sound (v ∷ l) k n c e = by (f (nameOf v)) (eqb (kindOf v) 5) refl refl c e (sole-sound l (k + 1) n) where
-    by : (q t : Bool) → f (nameOf v) ≡ q → eqb (kindOf v) 5 ≡ t → cond q (1 + countNamed f l) (countNamed f l) ≡ 1
+  sole-sound (v ∷ l) k n c e = by (f (nameOf v)) (eqb (entryKind v) 5) refl refl c e (sole-sound l (k + 1) n) where
+    by : (q t : Bool) → f (nameOf v) ≡ q → eqb (entryKind v) 5 ≡ t → cond q (1 + countNamed f l) (countNamed f l) ≡ 1
         → cond (q && t) (k + 1) (filterFrom f (k + 1) l) ≡ suc n
         → (countNamed f l ≡ 1 → filterFrom f (k + 1) l ≡ suc n → Found l (k + 1) n) → Found (v ∷ l) k n
     by true true g h c e ih =
@@ -91,27 +92,27 @@ module _ (f : Text → Bool) where
         record {
           place = 0;
           is = omega arith;
-          sole = record { row = v; before = here; logical = eqb-true (kindOf v) 5 h; named = g; only = λ j w a y. first-only a z y };
+          sole = record { row = v; before = here; logical = eqb-true (entryKind v) 5 h; named = g; only = λ j w a y. first-only a z y };
         }
     by true false g h c e ih = let z = filter-none l (k + 1) (omega arith) in absurd (omega arith)
     by false t g h c e ih = later g (ih c e)
 
-  sole-complete : {l : List Entry} {i : ℕ} {v : Entry} → At l i v → kindOf v ≡ 5 → f (nameOf v) ≡ true
-      → ((j : ℕ) (w : Entry) → At l j w → f (nameOf w) ≡ true → j ≡ i) → (k : ℕ)
+  sole-complete : {l : List XmlEntry} {i : ℕ} {v : XmlEntry} → At l i v → entryKind v ≡ 5 → f (nameOf v) ≡ true
+      → ((j : ℕ) (w : XmlEntry) → At l j w → f (nameOf w) ≡ true → j ≡ i) → (k : ℕ)
       → (countNamed f l ≡ 1) × (filterFrom f k l ≡ suc (k + i))
   unfolding countNamed filterFrom
   sole-complete (here {v = v} {l = l}) t n o k =
       let z = all-unnamed l (λ i w a y. let e = o (suc i) w (there a) y in absurd (omega arith)) in
-      (rw (n, z), rw (n, eq-eqb (kindOf v) 5 t) (omega arith))
+      (rw (n, z), rw (n, eq-eqb (entryKind v) 5 t) (omega arith))
   sole-complete (there {w = w} {l = l} {i = i} a) t n o k =
       by (f (nameOf w)) refl (sole-complete a t n (λ j x b y. let e = o (suc j) x (there b) y in omega arith) (k + 1)) where
         by : (q : Bool) → f (nameOf w) ≡ q → (countNamed f l ≡ 1) × (filterFrom f (k + 1) l ≡ suc (k + 1 + i))
             → (cond q (1 + countNamed f l) (countNamed f l) ≡ 1)
-            × (cond (q && eqb (kindOf w) 5) (k + 1) (filterFrom f (k + 1) l) ≡ suc (k + suc i))
+            × (cond (q && eqb (entryKind w) 5) (k + 1) (filterFrom f (k + 1) l) ≡ suc (k + suc i))
         by true e ih = let z = o 0 w here e in absurd (omega arith)
         by false e ih = let z = ih .1 in (ih .0, omega arith)
 
-module _ (latin standard : Bool) (d : List ℕ) (earlier : List Entry) (name : Text) (usage : ℕ) (t : Text) (i : ℕ) where
+module _ (latin standard : Bool) (d : List ℕ) (earlier : List XmlEntry) (name : KeptText) (usage : ℕ) (t : KeptText) (i : ℕ) where
   to : filterOf latin standard d earlier name usage t ≡ suc i → Filters latin standard d earlier name usage t i
   unfolding filterOf
   to e = by (eqb usage 0) (sameName latin standard d t name) (eqb (countNamed (sameName latin standard d t) earlier) 1) refl refl refl e

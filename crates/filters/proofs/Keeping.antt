@@ -20,33 +20,33 @@ use Rattle.layout.specs.declared.Header.{Header}
 use Rattle.rows.specs.rule.Cells.{rowCells, headerCells}
 use Rattle.uses.specs.rule.Uses.{useKnown, serialTyped, weightTyped, unfiltered, ownUse, filterGood, useGood, isUse, usesOf, usesGood}
 use Rattle.uses.specs.rule.Uses.{specialsNone, xmlGood, kindGood}
-use Rattle.survey.specs.rule.Table.{columnsOf, linesOf, linesAll, allLines}
-use Rattle.xml_reading.specs.rule.Role.{Entry, variablesOf}
-use Rattle.xml_reading.specs.rule.Whole.{columnsFor, headerFor, rowsFrom, tableOf}
-use Rattle.filters.specs.rule.Kept.{At, here, there, kindOf, Joins, Before, RowKept, Kept}
+use Rattle.survey.specs.rule.Table.{variableColumns, linesOf, linesAll, allLines}
+use Rattle.xml_reading.specs.rule.Role.{XmlEntry, variablesOf}
+use Rattle.xml_reading.specs.rule.Whole.{columnsFor, xmlHeader, xmlRows, xmlTable}
+use Rattle.filters.specs.rule.Kept.{At, here, there, entryKind, Joins, Before, RowKept, Kept}
 use Rattle.filters.proofs.Rooms.{at-below, row-long, row-in, next-row}
 
 never : {A : Type 0} → _≡_ {A = ℕ} 0 1 → A
 never z = absurd (omega arith)
 
 -- ---- one row more
-pub at-none : {l : List Entry} {i : ℕ} {v : Entry} → At l i v → l ≡ [] → ⊥
+pub at-none : {l : List XmlEntry} {i : ℕ} {v : XmlEntry} → At l i v → l ≡ [] → ⊥
 at-none here e = never cc
 at-none (there a) e = never cc
 
-at-more : {l : List Entry} {i : ℕ} {v : Entry} (w : Entry) → At l i v → At (l ++ w ∷ []) i v
+at-more : {l : List XmlEntry} {i : ℕ} {v : XmlEntry} (w : XmlEntry) → At l i v → At (l ++ w ∷ []) i v
 at-more w here = here
 at-more w (there a) = there (at-more w a)
 
-pub data Split (l : List Entry) (w : Entry) : ℕ → Entry → Type 0 where
-  old : {i : ℕ} {v : Entry} → At l i v → Split l w i v
+pub data Split (l : List XmlEntry) (w : XmlEntry) : ℕ → XmlEntry → Type 0 where
+  old : {i : ℕ} {v : XmlEntry} → At l i v → Split l w i v
   new : {i : ℕ} → i ≡ length l → Split l w i w
 
-up : {x : Entry} {l : List Entry} {w : Entry} {i : ℕ} {v : Entry} → Split l w i v → Split (x ∷ l) w (suc i) v
+up : {x : XmlEntry} {l : List XmlEntry} {w : XmlEntry} {i : ℕ} {v : XmlEntry} → Split l w i v → Split (x ∷ l) w (suc i) v
 up (old a) = old (there a)
 up (new e) = new (ap suc e)
 
-pub at-split : (l : List Entry) (w : Entry) {i : ℕ} {v : Entry} → At (l ++ w ∷ []) i v → Split l w i v
+pub at-split : (l : List XmlEntry) (w : XmlEntry) {i : ℕ} {v : XmlEntry} → At (l ++ w ∷ []) i v → Split l w i v
 at-split [] w here = new refl
 at-split [] w (there a) = absurd (at-none a refl)
 at-split (x ∷ l) w here = old here
@@ -55,11 +55,11 @@ at-split (x ∷ l) w (there a) = up (at-split l w a)
 pub kept-none : Kept []
 kept-none = record { rows = λ i v a. absurd (at-none a refl); one = λ i j v w a b h e. absurd (at-none a refl) }
 
-module _ (latin standard : Bool) (d : List ℕ) (l : List Entry) (w : Entry) (k : Kept l) (j : Joins latin standard d l w) where
+module _ (latin standard : Bool) (d : List ℕ) (l : List XmlEntry) (w : XmlEntry) (k : Kept l) (j : Joins latin standard d l w) where
   before-more : (i f : ℕ) → Before l i f → Before (l ++ w ∷ []) i f
   before-more i f b = record { row = b .row; at = at-more w (b .at); earlier = b .earlier; logical = b .logical }
 
-  old-row : (i : ℕ) (v : Entry) → RowKept l i v → RowKept (l ++ w ∷ []) i v
+  old-row : (i : ℕ) (v : XmlEntry) → RowKept l i v → RowKept (l ++ w ∷ []) i v
   old-row i v r = record {
     known = r .known;
     serial = r .serial;
@@ -84,11 +84,11 @@ module _ (latin standard : Bool) (d : List ℕ) (l : List Entry) (w : Entry) (k 
         record { row = x .row; at = at-more w (x .before); earlier = omega arith; logical = x .logical };
   }
 
-  each-row : (i : ℕ) (v : Entry) → Split l w i v → RowKept (l ++ w ∷ []) i v
+  each-row : (i : ℕ) (v : XmlEntry) → Split l w i v → RowKept (l ++ w ∷ []) i v
   each-row i v (old a) = old-row i v (k .rows i v a)
   each-row i v (new e) = new-row i e
 
-  one-use : (i m : ℕ) (x y : Entry) → Split l w i x → Split l w m y → 0 < x .usage → y .usage ≡ x .usage → i ≡ m
+  one-use : (i m : ℕ) (x y : XmlEntry) → Split l w i x → Split l w m y → 0 < x .usage → y .usage ≡ x .usage → i ≡ m
   one-use i m x y (old a) (old b) h e = k .one i m x y a b h e
   one-use i m x y (old a) (new f) h e = absurd (j .first (omega arith) i x a (sym e))
   one-use i m x y (new f) (old b) h e = absurd (j .first h m y b e)
@@ -102,8 +102,8 @@ module _ (latin standard : Bool) (d : List ℕ) (l : List Entry) (w : Entry) (k 
   }
 
 -- ---- a table that shows the variables l
-pub record Shown (t : List ℤ) (i : ℕ) (v : Entry) : Type 0 where
-  pub kind : columnsAt t (rowBase i) .kind ≡ kindOf v
+pub record Shown (t : List ℤ) (i : ℕ) (v : XmlEntry) : Type 0 where
+  pub kind : columnsAt t (rowBase i) .kind ≡ entryKind v
   pub usage : columnsAt t (rowBase i) .usage ≡ v .usage
   pub filter : columnsAt t (rowBase i) .filter ≡ v .filter
 
@@ -129,8 +129,8 @@ module _ (g : ℕ → ℕ) where
         let y = b n (omega arith) in
         omega arith
 
-module _ (t : List ℤ) (l : List Entry) (k : Kept l) (shown : (i : ℕ) (v : Entry) → At l i v → Shown t i v) where
-  own-good : (i : ℕ) (v : Entry) → At l i v → ownUse (columnsAt t (rowBase i)) ≡ true
+module _ (t : List ℤ) (l : List XmlEntry) (k : Kept l) (shown : (i : ℕ) (v : XmlEntry) → At l i v → Shown t i v) where
+  own-good : (i : ℕ) (v : XmlEntry) → At l i v → ownUse (columnsAt t (rowBase i)) ≡ true
   own-good i v a = and-true _ _ (and-true _ _ (and-true _ _ known serial) weight) unused where
     r : RowKept l i v
     r = k .rows i v a
@@ -143,14 +143,14 @@ module _ (t : List ℤ) (l : List Entry) (k : Kept l) (shown : (i : ℕ) (v : En
 
     serial : serialTyped (columnsAt t (rowBase i)) ≡ true
     serial = rw (s .usage, s .kind) (by (eqb (v .usage) 1) refl) where
-      by : (q : Bool) → eqb (v .usage) 1 ≡ q → (not q || (leb 3 (kindOf v) && leb (kindOf v) 4)) ≡ true
+      by : (q : Bool) → eqb (v .usage) 1 ≡ q → (not q || (leb 3 (entryKind v) && leb (entryKind v) 4)) ≡ true
       by true e = ⊎-elim (λ z. rw z) (λ z. rw z) (r .serial (eqb-true (v .usage) 1 e))
       by false e = refl
 
     weight : weightTyped (columnsAt t (rowBase i)) ≡ true
     weight = rw (s .usage, s .kind) (by (eqb (v .usage) 2) refl) where
-      by : (q : Bool) → eqb (v .usage) 2 ≡ q → (not q || eqb (kindOf v) 3) ≡ true
-      by true e = eq-eqb (kindOf v) 3 (r .weight (eqb-true (v .usage) 2 e))
+      by : (q : Bool) → eqb (v .usage) 2 ≡ q → (not q || eqb (entryKind v) 3) ≡ true
+      by true e = eq-eqb (entryKind v) 3 (r .weight (eqb-true (v .usage) 2 e))
       by false e = refl
 
     unused : unfiltered (columnsAt t (rowBase i)) ≡ true
@@ -159,7 +159,7 @@ module _ (t : List ℤ) (l : List Entry) (k : Kept l) (shown : (i : ℕ) (v : En
       by zero e = refl
       by (suc n) e = rw (ne-eqb (suc n) 0 (λ z. omega arith)) (eq-eqb (v .filter) 0 (r .use-unfiltered (omega arith)))
 
-  filter-good : (i : ℕ) (v : Entry) → At l i v → filterGood t i (columnsAt t (rowBase i)) ≡ true
+  filter-good : (i : ℕ) (v : XmlEntry) → At l i v → filterGood t i (columnsAt t (rowBase i)) ≡ true
   unfolding filterGood
   filter-good i v a = rw (shown i v a .filter) (by (v .filter) refl) where
     by : (n : ℕ) → v .filter ≡ n → (eqb n 0 || (leb n i && eqb (columnsAt t (rowBase (n - 1)) .kind) 5)) ≡ true
@@ -169,7 +169,7 @@ module _ (t : List ℤ) (l : List Entry) (k : Kept l) (shown : (i : ℕ) (v : En
         let h = b .earlier in
         let z : suc f - 1 ≡ f = omega arith in
         rw (ne-eqb (suc f) 0 (λ z. omega arith), z, shown f (b .row) (b .at) .kind)
-        (and-true _ _ (le-leb (suc f) i h) (eq-eqb (kindOf (b .row)) 5 (b .logical)))
+        (and-true _ _ (le-leb (suc f) i h) (eq-eqb (entryKind (b .row)) 5 (b .logical)))
 
   row-good : (i : ℕ) → i < length l → useGood t i (columnsAt t (rowBase i)) ≡ true
   unfolding useGood
@@ -208,27 +208,27 @@ header-long : (h : Header) → length (headerCells h) ≡ 6
 unfolding headerCells
 header-long h = refl
 
-rows-long : (b : ℕ) (l : List Entry) → length (rowsFrom b l) ≡ rowSize * length l
-unfolding rowsFrom
+rows-long : (b : ℕ) (l : List XmlEntry) → length (xmlRows b l) ≡ rowSize * length l
+unfolding xmlRows
 rows-long b [] = refl
 rows-long b (v ∷ l) =
     let n = b + length (linesOf (v .variable)) in
-    length-append (rowCells (columnsFor b v)) (rowsFrom n l) ∙ (let e = row-long (columnsFor b v) in let f = rows-long n l in omega arith)
+    length-append (rowCells (columnsFor b v)) (xmlRows n l) ∙ (let e = row-long (columnsFor b v) in let f = rows-long n l in omega arith)
 
-pub table-row : (l : List Entry) (i k : ℕ) → i < length l → k < rowSize → cell (tableOf l) (rowBase i + k)
-    ≡ cell (rowsFrom 0 l) (rowSize * i + k)
-unfolding tableOf
+pub table-row : (l : List XmlEntry) (i k : ℕ) → i < length l → k < rowSize → cell (xmlTable l) (rowBase i + k)
+    ≡ cell (xmlRows 0 l) (rowSize * i + k)
+unfolding xmlTable
 table-row l i k h g =
-    let e : rowBase i + k ≡ length (headerCells (headerFor l)) + (rowSize * i + k) = omega (arith, header-long (headerFor l)) in
+    let e : rowBase i + k ≡ length (headerCells (xmlHeader l)) + (rowSize * i + k) = omega (arith, header-long (xmlHeader l)) in
     let r = rows-long 0 l in
-    let m : rowBase i + k < length (headerCells (headerFor l) ++ rowsFrom 0 l) =
-    omega (arith, length-append (headerCells (headerFor l)) (rowsFrom 0 l), header-long (headerFor l)) in
-    List·getD-append (headerCells (headerFor l) ++ rowsFrom 0 l) (allLines (variablesOf l)) (pos 0) (rowBase i + k) m
-    ∙ ap (λ (n : ℕ). cell (headerCells (headerFor l) ++ rowsFrom 0 l) n) e
-    ∙ getD-append-add (headerCells (headerFor l)) (rowsFrom 0 l) (rowSize * i + k) (pos 0)
+    let m : rowBase i + k < length (headerCells (xmlHeader l) ++ xmlRows 0 l) =
+    omega (arith, length-append (headerCells (xmlHeader l)) (xmlRows 0 l), header-long (xmlHeader l)) in
+    List·getD-append (headerCells (xmlHeader l) ++ xmlRows 0 l) (allLines (variablesOf l)) (pos 0) (rowBase i + k) m
+    ∙ ap (λ (n : ℕ). cell (headerCells (xmlHeader l) ++ xmlRows 0 l) n) e
+    ∙ getD-append-add (headerCells (xmlHeader l)) (xmlRows 0 l) (rowSize * i + k) (pos 0)
 
-pub table-shown : (l : List Entry) (i : ℕ) (v : Entry) → At l i v → Shown (tableOf l) i v
-unfolding columnsAt rowCells columnsFor columnsOf countOf
+pub table-shown : (l : List XmlEntry) (i : ℕ) (v : XmlEntry) → At l i v → Shown (xmlTable l) i v
+unfolding columnsAt rowCells columnsFor variableColumns countOf
 table-shown l i v a =
     let r = row-in 0 a in
     let h = at-below a in
@@ -239,5 +239,5 @@ table-shown l i v a =
     }
 
 -- ONE-SERIAL, ONE-WEIGHT, USE-UNFILTERED and filters, as the test of a table of mark 12 asks them
-pub uses-good : (l : List Entry) → Kept l → usesGood (tableOf l) (length l) ≡ true
-uses-good l k = shown-good (tableOf l) l k (table-shown l)
+pub uses-good : (l : List XmlEntry) → Kept l → usesGood (xmlTable l) (length l) ≡ true
+uses-good l k = shown-good (xmlTable l) l k (table-shown l)

@@ -12,7 +12,7 @@ use Rattle.ascii.specs.rule.Class.{upperOf}
 use Rattle.signs.specs.declared.Sign.{Sign}
 use Rattle.signs.specs.declared.Sign.the-variants.{Byte}
 use Rattle.utf.specs.rule.Chars.{encode}
-use Rattle.contents.specs.rule.Grammar.{bytesOf, byteOf}
+use Rattle.contents.specs.rule.Grammar.{byteSigns, byteOf}
 use Rattle.contents.specs.rule.Step.{stepOf}
 use Rattle.contents.specs.rule.Content.{begun, signsOf, signsFrom}
 use Rattle.contents.specs.declared.Said.the-variants as said
@@ -49,7 +49,7 @@ plain b e =
       unless false e = refl
 
 byte-itself : (l : Bool) (b : ℕ) → b < 128 → byteOf l b ≡ Byte b ∷ []
-unfolding bytesOf encode
+unfolding byteSigns encode
 byte-itself true b h = rw (lt-ltb b 128 h)
 byte-itself false b h = refl
 

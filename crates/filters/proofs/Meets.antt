@@ -7,7 +7,7 @@ use native.Mathlib.Omega.{arith}
 use lib.ListN.{length}
 use Rattle.signs.specs.declared.Sign.{Sign}
 use Rattle.names.specs.rule.Standard.{agree}
-use Rattle.contents.specs.rule.Content.{signsAt}
+use Rattle.contents.specs.rule.Content.{contentSigns}
 use Rattle.contents.specs.Told.{Tells}
 use Rattle.contents.specs.declared.Cursor.{Cursor}
 use Rattle.contents.specs.declared.Part.{Part}
@@ -47,7 +47,7 @@ module _ (latin standard : Bool) (s t : List ℕ) (a b : Cursor) {u v : Part} (f
       let i = told-one x m f e in
       let j = told-one y n g h in
       record {
-        says = rw (i .split, j .split) (like-both standard x y (signsAt latin s m) (signsAt latin t n) ∙ rw q);
+        says = rw (i .split, j .split) (like-both standard x y (contentSigns latin s m) (contentSigns latin t n) ∙ rw q);
         ahead = record {
           first = record { next = i .next; small = i .small };
           second = record { next = j .next; small = j .small };
@@ -60,17 +60,20 @@ module _ (latin standard : Bool) (s t : List ℕ) (a b : Cursor) {u v : Part} (f
   meets-apart x y m n e h q =
       let i = told-one x m f e in
       let j = told-one y n g h in
-      record { says = rw (i .split, j .split) (like-both standard x y (signsAt latin s m) (signsAt latin t n) ∙ rw q); ahead = tt }
+      record {
+        says = rw (i .split, j .split) (like-both standard x y (contentSigns latin s m) (contentSigns latin t n) ∙ rw q);
+        ahead = tt;
+      }
 
   pub meets-first : (x : Sign) (m : Cursor) → u ≡ part.One x m → v ≡ part.Over → Meets latin standard s t a b (met.Over false)
   meets-first x m e h =
       let i = told-one x m f e in
-      record { says = rw (i .split, told-over g h) (like-first standard x (signsAt latin s m)); ahead = tt }
+      record { says = rw (i .split, told-over g h) (like-first standard x (contentSigns latin s m)); ahead = tt }
 
   pub meets-second : (y : Sign) (n : Cursor) → u ≡ part.Over → v ≡ part.One y n → Meets latin standard s t a b (met.Over false)
   meets-second y n e h =
       let j = told-one y n g h in
-      record { says = rw (told-over f e, j .split) (like-second standard y (signsAt latin t n)); ahead = tt }
+      record { says = rw (told-over f e, j .split) (like-second standard y (contentSigns latin t n)); ahead = tt }
 
   pub meets-none : u ≡ part.Over → v ≡ part.Over → Meets latin standard s t a b (met.Over true)
   meets-none e h = record { says = rw (told-over f e, told-over g h) (like-none standard); ahead = tt }

@@ -12,12 +12,12 @@ use Rattle.tokens.specs.rule.Gap.{fault}
 use Rattle.tokens.specs.declared.Fault.{Fault}
 use Rattle.tokens.specs.declared.Quoted.{Quoted}
 use Rattle.tokens.specs.declared.Phrase.the-variants as phrase
-use Rattle.survey.specs.rule.Survey.{Text}
+use Rattle.survey.specs.rule.Survey.{KeptText}
 use Rattle.reading.specs.rule.Result.{Is, Not}
 use Rattle.reading.specs.rule.Least.{_when_, named, lower, least, judged}
 use Rattle.xml_reading.specs.rule.Word.{NAME, FILTER}
 use Rattle.xml_reading.specs.rule.Element.{text}
-use Rattle.xml_reading.specs.rule.Role.{Entry, naming, filter, filterOf}
+use Rattle.xml_reading.specs.rule.Role.{XmlEntry, naming, filter, filterOf}
 use Rattle.elements.specs.Code.{phraseOf}
 use Rattle.filters.specs.Code.{textAt, ServedSaid, FilterSaid, filteredOf, NamingSaid, FilteringSaid}
 use Rattle.filters.specs.declared.Filtered.the-variants as filtered
@@ -54,14 +54,15 @@ module _ (bad latin standard : Bool) (d : List ℕ) (rows : List ℤ) (count p e
       next = t .next;
     }
 
-  module _ (name : Text) (usage : ℕ) where
+  module _ (name : KeptText) (usage : ℕ) where
     pub filter-not : (f : Fault) → text bad d FILTER 0 p e ≡ Not f
         → FilteringSaid bad latin standard d rows count name usage p e (filtered.Not f)
     unfolding filter
     filter-not f g = record { is = λ l r. rw g; next = omega arith }
 
     module _ (q : Quoted) (t : TextIs bad d FILTER 0 p e q) where
-      judge : (l : List Entry) (f : ℕ) → f ≡ filterOf latin standard d l name usage (textAt (q .place) (q .length)) → (b : Bool) → eqb f 0
+      judge : (l : List XmlEntry) (f : ℕ) → f ≡ filterOf latin standard d l name usage (textAt (q .place) (q .length)) → (b : Bool)
+          → eqb f 0
           ≡ b
           → cond b (filtered.Not (fault 52 (q .place))) (filtered.Is f (q .next))
           ≡ filteredOf (filter bad d latin standard l name usage p e)

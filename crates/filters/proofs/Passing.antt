@@ -12,7 +12,7 @@ use lib.ListN.{length, getD}
 use borrow.Author.Tests.{eq-eqb, lt-ltb}
 use Rattle.below.specs.rule.Below.{allBelow}
 use Rattle.below.specs.Below.{and-left, and-right, holds-not}
-use Rattle.survey.specs.rule.Survey.{Text}
+use Rattle.survey.specs.rule.Survey.{KeptText}
 use Rattle.xml_reading.specs.rule.Role.{sameName}
 use Rattle.filters.specs.Code.{columnIn, nameIn, ServedSaid}
 use Rattle.filters.specs.Sums.{sumIn, allApart, Apart, Known}
@@ -46,7 +46,7 @@ module _ (sums : List ℕ) (sum count p : ℕ) where
         never true a e = let z : _≡_ {A = ℕ} 0 1 = cc in omega arith
         never false a e = let z : _≡_ {A = ℕ} 0 1 = cc in omega arith
 
-module _ (latin standard : Bool) (d : List ℕ) (rows : List ℤ) (count : ℕ) (sums : List ℕ) (y : Known latin d rows count sums) (t : Text)
+module _ (latin standard : Bool) (d : List ℕ) (rows : List ℤ) (count : ℕ) (sums : List ℕ) (y : Known latin d rows count sums) (t : KeptText)
     (sum : ℕ) (is : sum ≡ sumIn latin d t) where
   unnamed : (p r : ℕ) → Apart sums sum count p r → (j : ℕ) → p ≤ j → j < r → false ≡ sameName latin standard d t (nameIn rows j)
   unnamed p r x j a b =

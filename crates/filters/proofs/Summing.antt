@@ -20,7 +20,7 @@ use Rattle.contents.specs.rule.Step.{stepOf}
 use Rattle.contents.specs.rule.Content.{begun, signsFrom}
 use Rattle.contents.specs.declared.Content.the-variants.{Fault}
 use Rattle.contents.proofs.Goes.{signs-over}
-use Rattle.survey.specs.rule.Survey.{Text}
+use Rattle.survey.specs.rule.Survey.{KeptText}
 use Rattle.xml_reading.specs.rule.Role.{sameSigns, alike, signsIn, sameName}
 use Rattle.filters.specs.Code.{plainOf, columnIn, nameIn, likeOf, ServedSaid, Lying}
 use Rattle.filters.specs.Sums.{foldedOf, sumWith, sumFrom, sumIn, binOf, Summing, Known}
@@ -51,12 +51,13 @@ alike-sums standard (x ∷ s) (y ∷ t) a e =
     let g = like-folds standard x y (and-left (likeOf standard x y) (alike standard s t) f) in
     rw g (alike-sums standard s t (sumWith a (foldedOf y)) (and-right (likeOf standard x y) (alike standard s t) f))
 
-pub name-sums : (latin standard : Bool) (d : List ℕ) (s t : Text) → sameName latin standard d s t ≡ true → sumIn latin d s ≡ sumIn latin d t
+pub name-sums : (latin standard : Bool) (d : List ℕ) (s t : KeptText) → sameName latin standard d s t ≡ true → sumIn latin d s
+    ≡ sumIn latin d t
 unfolding sameName sumIn
 name-sums latin standard d s t e = alike-sums standard (signsIn latin d s) (signsIn latin d t) 0 e
 
 -- two sums, two names
-pub sums-apart : (latin standard : Bool) (d : List ℕ) (s t : Text) → (sumIn latin d t ≡ sumIn latin d s → ⊥) → false
+pub sums-apart : (latin standard : Bool) (d : List ℕ) (s t : KeptText) → (sumIn latin d t ≡ sumIn latin d s → ⊥) → false
     ≡ sameName latin standard d s t
 sums-apart latin standard d s t k = by (sameName latin standard d s t) refl where
   by : (q : Bool) → sameName latin standard d s t ≡ q → false ≡ sameName latin standard d s t
@@ -86,7 +87,7 @@ pub room-empty : (latin : Bool) (d : List ℕ) (rows : List ℤ) (sums : List �
 room-empty latin d rows sums h = record { room = h; names = λ i k. absurd (omega arith); served = λ i k. absurd (omega arith) }
 
 -- a name that none of the rows with a filter has has not served
-module _ (latin standard : Bool) (d : List ℕ) (rows : List ℤ) (count : ℕ) {n : ℕ} (y : Lying n rows count) (t : Text)
+module _ (latin standard : Bool) (d : List ℕ) (rows : List ℤ) (count : ℕ) {n : ℕ} (y : Lying n rows count) (t : KeptText)
     (row : (i : ℕ) → i < count → false
     ≡ (ltb 0 (columnIn rows i 19) && sameName latin standard d t (nameIn rows (columnIn rows i 19 - 1)))) where
   unserved : (i : ℕ) → i ≤ count → SomeFrom rows count (servedBy latin standard d t) i
@@ -100,7 +101,7 @@ module _ (latin standard : Bool) (d : List ℕ) (rows : List ℤ) (count : ℕ) 
   rows-unserved = served-said latin standard d rows count t false
       (some-over rows count (servedBy latin standard d t) count (omega arith) (unserved count (omega arith)))
 
-module _ (latin standard : Bool) (d : List ℕ) (rows : List ℤ) (count : ℕ) (sums : List ℕ) (y : Known latin d rows count sums) (t : Text)
+module _ (latin standard : Bool) (d : List ℕ) (rows : List ℤ) (count : ℕ) (sums : List ℕ) (y : Known latin d rows count sums) (t : KeptText)
     (empty : getD sums (binOf (sumIn latin d t)) 0 ≡ 0) where
   -- a name whose bin is empty has not served
   row-unserved : (i : ℕ) → i < count → false

@@ -17,7 +17,7 @@ use Rattle.tokens.specs.declared.Fault.{Fault}
 use Rattle.tokens.specs.declared.Quoted.{Quoted}
 use Rattle.tokens.specs.declared.Phrase.{Phrase}
 use Rattle.tokens.specs.declared.Phrase.the-variants as phrase
-use Rattle.survey.specs.rule.Survey.{Text}
+use Rattle.survey.specs.rule.Survey.{KeptText}
 use Rattle.reading.specs.rule.Result.{Result, Is, Not, Reader, bind}
 use Rattle.reading.specs.rule.Least.{Charge, _when_, judged}
 use Rattle.bridge.specs.Lowest.{never, Clear, clear, Judged, fine, faulty, judged-view}
@@ -52,7 +52,7 @@ no-place : {p : ℕ} {l : List Charge} → Clear (unknownAt p ∷ l) → p ≡ 0
 no-place {p} (clear e r) = eqb-true p 0 (not-false (eqb p 0) e)
 
 module _ (bad : Bool) (d : List ℕ) where
-  pub record Lies (t : Text) (n : ℕ) : Type 0 where
+  pub record Lies (t : KeptText) (n : ℕ) : Type 0 where
     pub inside : t .place + t .length ≤ length d
     pub next : n ≤ length d
 
@@ -77,10 +77,10 @@ module _ (bad : Bool) (d : List ℕ) where
         rw (← q, ← o) (record { inside = omega arith; next = omega arith })
     by (content.Fault j p) i e = never cc
 
-  lies-same : {t u : Text} {n k : ℕ} → t ≡ u → n ≡ k → Lies t n → Lies u k
+  lies-same : {t u : KeptText} {n k : ℕ} → t ≡ u → n ≡ k → Lies t n → Lies u k
   lies-same e f x = rw (← e, ← f) x
 
-  pub text-lies : (w : List ℕ) (m p e : ℕ) {t : Text} {n : ℕ} → text bad d w m p e ≡ Is t n → Lies t n
+  pub text-lies : (w : List ℕ) (m p e : ℕ) {t : KeptText} {n : ℕ} → text bad d w m p e ≡ Is t n → Lies t n
   unfolding text
   text-lies w m p e {t} {n} f = on (bareOf bad d p e) refl f where
     on : (g : Tag) → bareOf bad d p e ≡ g
@@ -98,11 +98,11 @@ module _ (bad : Bool) (d : List ℕ) where
     pub inside : q .place + q .length ≤ length d
     pub next : q .next ≤ length d
 
-  phrase-is : (r : Result Text) (q : Quoted) → phraseOf r ≡ phrase.Is q → r ≡ Is (textAt (q .place) (q .length)) (q .next)
+  phrase-is : (r : Result KeptText) (q : Quoted) → phraseOf r ≡ phrase.Is q → r ≡ Is (textAt (q .place) (q .length)) (q .next)
   phrase-is (Is t n) q e = let z : record { place = t .place; length = t .length; next = n } ≡ q = cc in rw (← z)
   phrase-is (Not f) q e = never cc
 
-  phrase-not : (r : Result Text) (f : Fault) → phraseOf r ≡ phrase.Not f → r ≡ Not f
+  phrase-not : (r : Result KeptText) (f : Fault) → phraseOf r ≡ phrase.Not f → r ≡ Not f
   phrase-not (Is t n) f e = never cc
   phrase-not (Not g) f e = cc
 

@@ -22,14 +22,14 @@ use Rattle.variables.specs.Ident.{marked, wrongIdent, judgeIdent}
 use Rattle.survey.specs.rule.Survey.{Figure, Variable}
 use Rattle.survey.specs.rule.Width.{someOf}
 use Rattle.reading.specs.rule.Result.{Result, Is, Not, bind}
-use Rattle.reading.specs.rule.Least.{Charge, _when_, before, judged}
+use Rattle.reading.specs.rule.Least.{Charge, _when_, goesBefore, judged}
 use Rattle.reading.specs.rule.Variable.{identCharges}
 use Rattle.bridge.specs.Lowest.{chain, rising, chain-least}
 use Rattle.bridge.specs.Tokens.{toNumber}
 use Rattle.xml_reading.specs.rule.Word.{IDENT, TYPE, USE}
 use Rattle.xml_reading.specs.rule.Open.{unknownAt}
 use Rattle.xml_reading.specs.rule.Element.{figureOf}
-use Rattle.xml_reading.specs.rule.Role.{Entry, Title, variablesOf, typeAt, useAt, useWrong, title}
+use Rattle.xml_reading.specs.rule.Role.{XmlEntry, Title, variablesOf, typeAt, useAt, useWrong, title}
 use Rattle.filters.specs.Code.{RowsOf, UseSaid, Idents, titledOf, titledNext, titledBy, titleTag, TitleSaid}
 use Rattle.filters.specs.declared.Titled.{Titled}
 use Rattle.filters.specs.declared.Titled.the-variants as titled
@@ -37,7 +37,7 @@ use Rattle.elements.proofs.Bounds.{tag-within}
 use Rattle.filters.proofs.Figured.{few-digits}
 use Rattle.filters.proofs.Slots.{Held-two, two-held}
 
-variables-count : (l : List Entry) → length (variablesOf l) ≡ length l
+variables-count : (l : List XmlEntry) → length (variablesOf l) ≡ length l
 variables-count [] = refl
 variables-count (v ∷ l) = ap suc (variables-count l)
 
@@ -54,7 +54,7 @@ module _ (met : ℕ → Bool) (earlier : List Variable) (knows : (n : ℕ) → m
   to r = titledOf (bind r (λ a m. cond em (Not (fault 2 q)) (Is a m)))
 
   charges-rise : rising charges ≡ true
-  unfolding rising before identCharges
+  unfolding rising goesBefore identCharges
   charges-rise = rw (le-leb (x .place) (x .place) (omega arith))
 
   -- behind the ident
@@ -176,7 +176,7 @@ module _ (bad : Bool) (d : List ℕ) (old : Bool) (seen : List ℕ) (rows : List
       figures : Figures
       figures = record { size = capped (x .value); count = x .digits; place = x .place; next = n }
 
-      said : (l : List Entry) → RowsOf rows count l → Idents seen l
+      said : (l : List XmlEntry) → RowsOf rows count l → Idents seen l
           → titledBy (judgeIdent (marked seen) count (toNumber (Is (figureOf d (h .a) (h .ae)) n))) (h .unknown) w (h .c) em q
           (typeAt d (h .b) (h .be)) (useAt d (h .c) (h .ce))
           ≡ titledOf (title bad d old l p e)

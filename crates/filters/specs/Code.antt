@@ -11,7 +11,7 @@ use Rattle.cells.specs.rule.Cell.{cell, countOf}
 use Rattle.layout.specs.rule.Layout.{rowSize, mostRows}
 use Rattle.signs.specs.declared.Sign.{Sign}
 use Rattle.names.specs.rule.Standard as names
-use Rattle.contents.specs.rule.Content.{begun, signsFrom, signsAt}
+use Rattle.contents.specs.rule.Content.{begun, signsFrom, contentSigns}
 use Rattle.contents.specs.declared.Cursor.{Cursor}
 use Rattle.scan.specs.Number.{capped}
 use Rattle.tags.specs.rule.Tag.{tagOf}
@@ -22,14 +22,14 @@ use Rattle.tokens.specs.declared.Number.the-variants as number
 use Rattle.tokens.specs.declared.Phrase.{Phrase}
 use Rattle.tokens.specs.declared.Phrase.the-variants as phrase
 use Rattle.variables.specs.Ident.{marked}
-use Rattle.survey.specs.rule.Survey.{Text}
+use Rattle.survey.specs.rule.Survey.{KeptText}
 use Rattle.survey.specs.rule.Width.{someOf}
 use Rattle.reading.specs.rule.Result.{Result, Is, Not}
 use Rattle.elements.specs.Code.{phraseOf}
 use Rattle.xml_reading.specs.rule.Word.{IDENT, TYPE, USE}
 use Rattle.xml_reading.specs.rule.Role.{Title, variablesOf, title, naming, filter}
-use Rattle.xml_reading.specs.rule.Role.{Entry, sameSign, alike, sameName, useWrong, hasServed, countNamed, filterFrom, filterOf}
-use Rattle.xml_reading.specs.rule.Whole.{rowsFrom, namesOf}
+use Rattle.xml_reading.specs.rule.Role.{XmlEntry, sameSign, alike, sameName, useWrong, hasServed, countNamed, filterFrom, filterOf}
+use Rattle.xml_reading.specs.rule.Whole.{xmlRows, xmlNames}
 use Rattle.filters.specs.declared.Titled.{Titled}
 use Rattle.filters.specs.declared.Titled.the-variants as titled
 use Rattle.filters.specs.declared.Filtered.{Filtered}
@@ -39,12 +39,12 @@ use Rattle.filters.specs.declared.Lead.the-variants as lead
 use Rattle.filters.specs.declared.Met.{Met}
 use Rattle.filters.specs.declared.Met.the-variants as met
 
-abbrev pub textAt : ℕ → ℕ → Text
+abbrev pub textAt : ℕ → ℕ → KeptText
 textAt p n = record { place = p; length = n }
 
 -- ---- names, sign by sign
 abbrev pub likeOf : Bool → Sign → Sign → Bool
-likeOf standard x y = cond standard (names.sameSign x y) (sameSign x y)
+likeOf standard x y = cond standard (names.sameCapital x y) (sameSign x y)
 
 -- a decoder that may be asked
 pub record Ready (s : List ℕ) (c : Cursor) : Type 0 where
@@ -55,10 +55,10 @@ pub record Ready (s : List ℕ) (c : Cursor) : Type 0 where
 pub record Ahead (latin : Bool) (s t : List ℕ) (a m n : Cursor) : Type 0 where
   pub first : Ready s m
   pub second : Ready t n
-  pub less : length (signsAt latin s m) < length (signsAt latin s a)
+  pub less : length (contentSigns latin s m) < length (contentSigns latin s a)
 
 abbrev pub metSays : Bool → Bool → List ℕ → List ℕ → Met → Bool
-metSays latin standard s t (met.On m n) = alike standard (signsAt latin s m) (signsAt latin t n)
+metSays latin standard s t (met.On m n) = alike standard (contentSigns latin s m) (contentSigns latin t n)
 metSays latin standard s t (met.Over q) = q
 
 abbrev pub metAhead : Bool → List ℕ → List ℕ → Cursor → Met → Type 0
@@ -66,7 +66,7 @@ metAhead latin s t a (met.On m n) = Ahead latin s t a m n
 metAhead latin s t a (met.Over q) = Unit
 
 pub record Meets (latin standard : Bool) (s t : List ℕ) (a b : Cursor) (r : Met) : Type 0 where
-  pub says : alike standard (signsAt latin s a) (signsAt latin t b) ≡ metSays latin standard s t r
+  pub says : alike standard (contentSigns latin s a) (contentSigns latin t b) ≡ metSays latin standard s t r
   pub ahead : metAhead latin s t a r
 
 -- ---- bytes that say themselves: no <, &, ] or carriage return
@@ -91,11 +91,11 @@ pub record Leads (standard : Bool) (s t : List ℕ) (p q : ℕ) (r : Lead) : Typ
 abbrev pub columnIn : List ℤ → ℕ → ℕ → ℕ
 columnIn rows i k = countOf (cell rows (rowSize * i + k))
 
-abbrev pub nameIn : List ℤ → ℕ → Text
+abbrev pub nameIn : List ℤ → ℕ → KeptText
 nameIn rows i = textAt (columnIn rows i 14) (columnIn rows i 15)
 
 -- row i has a filter, and t is that one's name
-abbrev pub servedIn : Bool → Bool → List ℕ → List ℤ → Text → ℕ → Bool
+abbrev pub servedIn : Bool → Bool → List ℕ → List ℤ → KeptText → ℕ → Bool
 servedIn latin standard d rows t i = ltb 0 (columnIn rows i 19) && sameName latin standard d t (nameIn rows (columnIn rows i 19 - 1))
 
 -- so many rows may be asked: their names lie within a file of n bytes, their filters are among them
@@ -106,37 +106,37 @@ pub record Lying (n : ℕ) (rows : List ℤ) (count : ℕ) : Type 0 where
   pub filters : (i : ℕ) → i < count → columnIn rows i 19 ≤ count
 
 -- they are the rows of the variables l
-pub record RowsOf (rows : List ℤ) (count : ℕ) (l : List Entry) : Type 0 where
+pub record RowsOf (rows : List ℤ) (count : ℕ) (l : List XmlEntry) : Type 0 where
   pub counted : length l ≡ count
-  pub held : take (rowSize * count) rows ≡ rowsFrom 0 l
+  pub held : take (rowSize * count) rows ≡ xmlRows 0 l
 
 -- ---- what is said of them
 module _ (latin standard : Bool) (d : List ℕ) (rows : List ℤ) (count : ℕ) where
-  pub record ServedSaid (t : Text) (r : Bool) : Type 0 where
-    pub is : (l : List Entry) → RowsOf rows count l → r ≡ hasServed latin standard d l t
+  pub record ServedSaid (t : KeptText) (r : Bool) : Type 0 where
+    pub is : (l : List XmlEntry) → RowsOf rows count l → r ≡ hasServed latin standard d l t
 
-  pub record CountSaid (t : Text) (r : ℕ) : Type 0 where
-    pub is : (l : List Entry) → RowsOf rows count l → r ≡ countNamed (sameName latin standard d t) l
+  pub record CountSaid (t : KeptText) (r : ℕ) : Type 0 where
+    pub is : (l : List XmlEntry) → RowsOf rows count l → r ≡ countNamed (sameName latin standard d t) l
 
-  pub record FoundSaid (t : Text) (r : ℕ) : Type 0 where
-    pub is : (l : List Entry) → RowsOf rows count l → r ≡ filterFrom (sameName latin standard d t) 0 l
+  pub record FoundSaid (t : KeptText) (r : ℕ) : Type 0 where
+    pub is : (l : List XmlEntry) → RowsOf rows count l → r ≡ filterFrom (sameName latin standard d t) 0 l
 
-  pub record FilterSaid (name : Text) (usage : ℕ) (t : Text) (r : ℕ) : Type 0 where
-    pub is : (l : List Entry) → RowsOf rows count l → r ≡ filterOf latin standard d l name usage t
+  pub record FilterSaid (name : KeptText) (usage : ℕ) (t : KeptText) (r : ℕ) : Type 0 where
+    pub is : (l : List XmlEntry) → RowsOf rows count l → r ≡ filterOf latin standard d l name usage t
 
 module _ (rows : List ℤ) (count : ℕ) where
   pub record TakenSaid (usage : ℕ) (r : Bool) : Type 0 where
-    pub is : (l : List Entry) → RowsOf rows count l → r ≡ someOf (λ v. eqb (v .usage) usage) l
+    pub is : (l : List XmlEntry) → RowsOf rows count l → r ≡ someOf (λ v. eqb (v .usage) usage) l
 
   pub record UseSaid (usage kind : ℕ) (r : Bool) : Type 0 where
-    pub is : (l : List Entry) → RowsOf rows count l → r ≡ useWrong l usage kind
+    pub is : (l : List XmlEntry) → RowsOf rows count l → r ≡ useWrong l usage kind
 
 pub record NamesSaid (latin : Bool) (d : List ℕ) (rows : List ℤ) (count r : ℕ) : Type 0 where
-  pub is : (l : List Entry) → RowsOf rows count l → r ≡ names.nameFault (namesOf latin d l)
+  pub is : (l : List XmlEntry) → RowsOf rows count l → r ≡ names.nameFault (xmlNames latin d l)
 
 -- ---- the start tag of a variable
 -- the idents of the variables before are marked
-abbrev pub Idents : List ℕ → List Entry → Type 0
+abbrev pub Idents : List ℕ → List XmlEntry → Type 0
 Idents seen l = (n : ℕ) → marked seen n ≡ someOf (λ v. eqb (v .ident .value) n) (variablesOf l)
 
 abbrev pub titledOf : Result Title → Titled
@@ -159,7 +159,7 @@ titledBy (number.Is x) u w at em q kind usage =
 titledBy (number.Not f) u w at em q kind usage = titled.Not f
 
 pub record TitleSaid (bad : Bool) (d : List ℕ) (old : Bool) (seen : List ℕ) (rows : List ℤ) (count p e : ℕ) (r : Titled) : Type 0 where
-  pub is : (l : List Entry) → RowsOf rows count l → Idents seen l → r ≡ titledOf (title bad d old l p e)
+  pub is : (l : List XmlEntry) → RowsOf rows count l → Idents seen l → r ≡ titledOf (title bad d old l p e)
   pub next : titledNext r ≤ length d
 
 -- ---- names and filters
@@ -181,10 +181,10 @@ filteredNext (filtered.Not f) = 0
 
 module _ (bad latin standard : Bool) (d : List ℕ) (rows : List ℤ) (count : ℕ) where
   pub record NamingSaid (p e : ℕ) (r : Phrase) : Type 0 where
-    pub is : (l : List Entry) → RowsOf rows count l → r ≡ phraseOf (naming bad d latin standard l p e)
+    pub is : (l : List XmlEntry) → RowsOf rows count l → r ≡ phraseOf (naming bad d latin standard l p e)
     pub inside : phraseEnd r ≤ length d
     pub next : phraseNext r ≤ length d
 
-  pub record FilteringSaid (name : Text) (usage p e : ℕ) (r : Filtered) : Type 0 where
-    pub is : (l : List Entry) → RowsOf rows count l → r ≡ filteredOf (filter bad d latin standard l name usage p e)
+  pub record FilteringSaid (name : KeptText) (usage p e : ℕ) (r : Filtered) : Type 0 where
+    pub is : (l : List XmlEntry) → RowsOf rows count l → r ≡ filteredOf (filter bad d latin standard l name usage p e)
     pub next : filteredNext r ≤ length d

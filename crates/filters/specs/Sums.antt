@@ -12,7 +12,7 @@ use Rattle.layout.specs.rule.Layout.{mostRows}
 use Rattle.signs.specs.declared.Sign.{Sign}
 use Rattle.signs.specs.declared.Sign.the-variants.{Byte, Break}
 use Rattle.contents.specs.rule.Content.{begun, signsFrom}
-use Rattle.survey.specs.rule.Survey.{Text}
+use Rattle.survey.specs.rule.Survey.{KeptText}
 use Rattle.xml_reading.specs.rule.Role.{signsIn}
 use Rattle.filters.specs.Code.{columnIn, nameIn, Lying}
 use Rattle.filters.specs.declared.Summed.{Summed}
@@ -30,7 +30,7 @@ sumFrom a [] = a
 sumFrom a (x ∷ s) = sumFrom (sumWith a (foldedOf x)) s
 
 -- that of a text of d
-unfoldable pub sumIn : Bool → List ℕ → Text → ℕ
+unfoldable pub sumIn : Bool → List ℕ → KeptText → ℕ
 sumIn latin d t = sumFrom 0 (signsIn latin d t)
 
 -- the bytes from a place on that say themselves were added

@@ -6,7 +6,7 @@ use native.Mathlib.Omega.{arith}
 use lib.ListN.{length}
 use Rattle.scan.specs.rule.Text.{Text, sign, text}
 use Rattle.scan.proofs.Texts.{From, at-stop, at-sign, from-text}
-use Rattle.definition.specs.rule.Definition.{Outcome, Refusal, outcomeOf}
+use Rattle.definition.specs.rule.Definition.{SssOutcome, Refusal, sssOutcome}
 use Rattle.bridge.specs.Lowest.{never}
 use Rattle.grammar_laws.specs.Outcome.{Settles, too-long, stopped, misnamed, no-room, read, outcome-exactly}
 use Rattle.grammar_laws.specs.Whole.{survey-halted}
@@ -31,9 +31,9 @@ module _ (d : List ℕ) where
   placed (refusals.Standing.end e l) h = at-length (omega arith)
 
   -- A 2 STANDS at a byte of the file that is no part of what was read, or at the file's length, whatever table is lent
-  pub two-placed : (n p : ℕ) → outcomeOf d n ≡ Refusal 2 p → TwoAt p
+  pub two-placed : (n p : ℕ) → sssOutcome d n ≡ Refusal 2 p → TwoAt p
   two-placed n p e = by (outcome-exactly d n (Refusal 2 p) .0 e) refl where
-    by : {o : Outcome} → Settles d n o → o ≡ Refusal 2 p → TwoAt p
+    by : {o : SssOutcome} → Settles d n o → o ≡ Refusal 2 p → TwoAt p
     by (too-long h) q = never cc
     by (stopped {f = f} h z) q =
         let i : f .number ≡ 2 = cc in

@@ -19,7 +19,7 @@ use Rattle.survey.specs.rule.Survey.{Survey}
 use Rattle.reading.specs.rule.Result.{Is, Not}
 use Rattle.reading.specs.rule.Whole.{surveyOf}
 use Rattle.definition.specs.declared.Answer.{Answer}
-use Rattle.definition.specs.rule.Definition.{namesOf, judgeNames, outcomeOf, DefinitionRead}
+use Rattle.definition.specs.rule.Definition.{namesOf, judgeNames, sssOutcome, SssRead}
 use Rattle.bridge.specs.Lowest.{never}
 use Rattle.grammar.specs.Token.{keyword}
 use Rattle.grammar.specs.Token as token
@@ -95,12 +95,12 @@ module _ (d d′ : List ℕ) {s : Survey} {m : ℕ} (same : take m d ≡ take m 
         let x = definition-exactly d s m .0 read .0 in
         grown (alike m d d′ same (definition-within d x)) x .1
 
-    pub outcome-alike : (n : ℕ) → outcomeOf d n ≡ outcomeOf d′ n
-    unfolding outcomeOf judgeNames
+    pub outcome-alike : (n : ℕ) → sssOutcome d n ≡ sssOutcome d′ n
+    unfolding sssOutcome judgeNames
     outcome-alike n =
         rw (le-ltb 1048576 (length d) short, le-ltb 1048576 (length d′) short′, read, follows-ignored read, names-alike)
 
-    pub call-alike : (t t′ : List ℤ) (a : Answer) → DefinitionRead d t t′ a → DefinitionRead d′ t t′ a
+    pub call-alike : (t t′ : List ℤ) (a : Answer) → SssRead d t t′ a → SssRead d′ t t′ a
     call-alike t t′ a p =
         let e = outcome-alike (length t) in
         record { says = rw e at (p .says); leaves = rw e at (p .leaves) }

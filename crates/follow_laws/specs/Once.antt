@@ -8,7 +8,7 @@ use native.Mathlib.Omega.{arith}
 use Rattle.scan.specs.Word.{capitals}
 use Rattle.statements.specs.rule.Words.{SSS, SURVEY, RECORD, VARIABLE, NAME, LABEL, POSITION, TO, SPREAD, OF, SIZE, VALUES, WITH, SPECIAL}
 use Rattle.statements.specs.rule.Words.{END, NOTE}
-use Rattle.survey.specs.rule.Survey.{Figure, Amount, Text, Range, Block, Content, Survey}
+use Rattle.survey.specs.rule.Survey.{Figure, Amount, KeptText, Range, Block, Content, Survey}
 use Rattle.survey.specs.rule.Survey as says
 use Rattle.reading.specs.rule.Result.{Is, Reader}
 use Rattle.reading.specs.rule.Token.{number, amount, string, word, whether, optional}
@@ -44,7 +44,7 @@ module _ (d : List ℕ) where
   value-once : {n n′ m k : ℕ} {x y : Amount} → n ≡ n′ → Value d n x m → Value d n′ y k → (x ≡ y) × (m ≡ k)
   value-once q x y = pin (amount d) q (amount-is d x) (amount-is d y)
 
-  string-once : {n n′ m k : ℕ} {x y : Text} → n ≡ n′ → String d n x m → String d n′ y k → (x ≡ y) × (m ≡ k)
+  string-once : {n n′ m k : ℕ} {x y : KeptText} → n ≡ n′ → String d n x m → String d n′ y k → (x ≡ y) × (m ≡ k)
   string-once q x y = pin (string d) q (string-is d x) (string-is d y)
 
   noted-once : {n n′ m k : ℕ} → n ≡ n′ → Noted d n m → Noted d n′ k → m ≡ k
@@ -67,7 +67,7 @@ module _ (d : List ℕ) where
       statement-once : {n n′ m k : ℕ} → n ≡ n′ → Statement d w n m → Statement d w n′ k → m ≡ k
       statement-once q x y = pin (statement d w) q (statement-is d c o x) (statement-is d c o y) .1
 
-      phrase-once : {n n′ m k : ℕ} {x y : Text} → n ≡ n′ → Phrase d w n x m → Phrase d w n′ y k → (x ≡ y) × (m ≡ k)
+      phrase-once : {n n′ m k : ℕ} {x y : KeptText} → n ≡ n′ → Phrase d w n x m → Phrase d w n′ y k → (x ≡ y) × (m ≡ k)
       phrase-once q x y = pin (phrase d w) q (phrase-is d c o x) (phrase-is d c o y)
 
       -- a statement's word and another one do not begin at one place
@@ -129,7 +129,7 @@ module _ (d : List ℕ) where
       (rw (b .0, e .0), e .1)
 
   -- a string is no TO, and lines are no range
-  string-to : {n n′ m k : ℕ} {t : Text} → n ≡ n′ → String d n t m → Keyword d TO n′ k → ⊥
+  string-to : {n n′ m k : ℕ} {t : KeptText} → n ≡ n′ → String d n t m → Keyword d TO n′ k → ⊥
   string-to {n} {k = k} q (token.string {k = a} g e s) (keyword {k = b} g′ h) =
       let x : Gap d n b = rw q g′ in
       let i = gap-same d g x in

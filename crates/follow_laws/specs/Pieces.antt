@@ -12,10 +12,10 @@ use Rattle.marks.specs.declared.Inside.the-variants.{Plain}
 use Rattle.marks.specs.rule.Spelling.{decodeOf}
 use Rattle.marks.proofs.Complete.{string-decoded}
 use Rattle.statements.specs.rule.Words.{SSS, TO, OF, WITH, SPECIAL, END}
-use Rattle.survey.specs.rule.Survey.{Figure, Amount, Text, Range, Block, Content}
+use Rattle.survey.specs.rule.Survey.{Figure, Amount, KeptText, Range, Block, Content}
 use Rattle.survey.specs.rule.Survey as says
 use Rattle.reading.specs.rule.Variable.{Sort}
-use Rattle.reading.specs.rule.Whole.{Entry}
+use Rattle.reading.specs.rule.Whole.{HeadingEntry}
 use Rattle.definition.specs.rule.Definition.{namesOf}
 use Rattle.grammar.specs.Token.{Gap, Here, Keyword, keyword, Number, Value, String}
 use Rattle.grammar.specs.Token.{Letter, Notes, Statement, Phrase, End, Optional, Whether}
@@ -34,7 +34,7 @@ module _ {d d′ : List ℕ} {M : ℕ} (files : Alike d d′ M) where
       let y = gap-on files l g (x .1) in
       (keyword (y .0) (x .0), y .1)
 
-  string-on : {r n m : ℕ} {t : Text} → String d n t m → Ahead d M r m → String d′ n t m × Ahead d M r n
+  string-on : {r n m : ℕ} {t : KeptText} → String d n t m → Ahead d M r m → String d′ n t m × Ahead d M r n
   string-on {r} (token.string {p = p} g e s) a =
       let x = spelt-on files s a in
       let y = back files (sym e) (x .1) in
@@ -42,7 +42,7 @@ module _ {d d′ : List ℕ} {M : ℕ} (files : Alike d d′ M) where
       (token.string (z .0) (y .0) (x .0), fewer (z .1) r (omega arith))
 
   -- and it says the same
-  string-says : {r n m : ℕ} {t : Text} → String d n t m → Ahead d M r m
+  string-says : {r n m : ℕ} {t : KeptText} → String d n t m → Ahead d M r m
       → decodeOf Plain 0 (text d (t .place)) ≡ decodeOf Plain 0 (text d′ (t .place))
   string-says (token.string g e s) a = let x = spelt-on files s a in string-decoded s ∙ sym (string-decoded (x .0))
 
@@ -87,7 +87,7 @@ module _ {d d′ : List ℕ} {M : ℕ} (files : Alike d d′ M) where
   end-far : {w : List ℕ} {n m : ℕ} → End d w n m → Far m → End d′ w n m × Far n
   end-far s a = let x = end-on (omega arith) s a in (x .0, fewer (x .1) 7 (omega arith))
 
-  phrase-far : {w : List ℕ} {n m : ℕ} {t : Text} → Phrase d w n t m → Far m → Phrase d′ w n t m × Far n
+  phrase-far : {w : List ℕ} {n m : ℕ} {t : KeptText} → Phrase d w n t m → Far m → Phrase d′ w n t m × Far n
   phrase-far (token.phrase s x) a =
       let y = string-on x a in
       let z = statement-far s (y .1) in
@@ -199,7 +199,7 @@ module _ {d d′ : List ℕ} {M : ℕ} (files : Alike d d′ M) where
   abbrev NameSame : says.Variable → Type 0
   NameSame v = decodeOf Plain 0 (text d (v .name .place)) ≡ decodeOf Plain 0 (text d′ (v .name .place))
 
-  phrase-says : {w : List ℕ} {n m : ℕ} {t : Text} → Phrase d w n t m → Far m
+  phrase-says : {w : List ℕ} {n m : ℕ} {t : KeptText} → Phrase d w n t m → Far m
       → decodeOf Plain 0 (text d (t .place)) ≡ decodeOf Plain 0 (text d′ (t .place))
   phrase-says (token.phrase s x) a = string-says x a
 
@@ -231,7 +231,7 @@ module _ {d d′ : List ℕ} {M : ℕ} (files : Alike d d′ M) where
       (grammar.Variables.more (y .0) (x .0), y .1, rw (y .2, x .2))
 
   -- ---- the heading
-  item-far : {n m : ℕ} {e : Entry} → Item d n e m → Far m → Item d′ n e m × Far n
+  item-far : {n m : ℕ} {e : HeadingEntry} → Item d n e m → Far m → Item d′ n e m × Far n
   item-far (grammar.date p) a = let x = phrase-far p a in (grammar.date (x .0), x .1)
   item-far (grammar.time p) a = let x = phrase-far p a in (grammar.time (x .0), x .1)
   item-far (grammar.origin p) a = let x = phrase-far p a in (grammar.origin (x .0), x .1)
@@ -241,14 +241,14 @@ module _ {d d′ : List ℕ} {M : ℕ} (files : Alike d d′ M) where
       let y = statement-far s (x .1) in
       (grammar.standard-names (y .0) (x .0), y .1)
 
-  pub items-far : {l k : List Entry} {n m : ℕ} → Items d l n k m → Far m → Items d′ l n k m × Far n
+  pub items-far : {l k : List HeadingEntry} {n m : ℕ} → Items d l n k m → Far m → Items d′ l n k m × Far n
   items-far grammar.Items.no-more a = (grammar.Items.no-more, a)
   items-far (grammar.Items.more s e r) a =
       let x = items-far r a in
       let y = item-far s (x .1) in
       (grammar.Items.more (y .0) e (x .0), y .1)
 
-  pub title-far : {n m : ℕ} {t : Option Text} → Title d n t m → Far m → Title d′ n t m × Far n
+  pub title-far : {n m : ℕ} {t : Option KeptText} → Title d n t m → Far m → Title d′ n t m × Far n
   title-far (grammar.title p) a = let x = phrase-far p a in (grammar.title (x .0), x .1)
   title-far grammar.untitled a = (grammar.untitled, a)
 

@@ -2,11 +2,11 @@
 // order of the attributes, and the elements, which take the types and uses from here.
 ghost use mathlib.Core.Path.{_≡_};
 ghost use Rattle.spans.specs.rule.Heard.{heard};
-ghost use Rattle.forms.specs.rule.Form.{kindOf, useOf, fitsOf};
+ghost use Rattle.forms.specs.rule.Form.{formKind, useOf, fitsOf};
 
 // The type that a stretch names: 1 single, 2 multiple, 3 quantity, 4 character, 5 logical; 0 none.
 pub fn kind_in(s: &[u8]) -> usize
-    ensures { λ r. ⌜ r ≡ kindOf (heard (now (s .entry)) 0) ⌝ }
+    ensures { λ r. ⌜ r ≡ formKind (heard (now (s .entry)) 0) ⌝ }
 {
     if spans::is_word(s, b"single") {
         return 1;

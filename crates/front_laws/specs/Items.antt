@@ -11,9 +11,9 @@ use borrow.Author.Tests.{eq-eqb, ne-eqb, eqb-true, eqb-false}
 use Rattle.below.specs.Below.{holds-not}
 use Rattle.scan.specs.Word.{capitals}
 use Rattle.statements.specs.rule.Words.{NOTE, DATE, TIME, ORIGIN, USER, STANDARD, NAMES, SURVEY}
-use Rattle.survey.specs.rule.Survey.{Text}
+use Rattle.survey.specs.rule.Survey.{KeptText}
 use Rattle.survey.specs.rule.Width.{someOf}
-use Rattle.reading.specs.rule.Whole.{Entry, entry, given, textOf}
+use Rattle.reading.specs.rule.Whole.{HeadingEntry, entry, given, enteredText}
 use Rattle.grammar.specs.Token.{Here, Keyword, Notes, Statement, String}
 use Rattle.grammar.specs.Token as token
 use Rattle.grammar.specs.Grammar.{Item, Items, no-more, more}
@@ -28,18 +28,18 @@ use Rattle.fronts.specs.Front.{item, found, itemAt, itemPast, itemFound}
 
 module _ (d : List ℕ) where
   -- ---- one statement
-  pub record Spoken (p : ℕ) (t : Text) : Type 0 where
+  pub record Spoken (p : ℕ) (t : KeptText) : Type 0 where
     pub from : stringSpan d p .from ≡ t .place
     pub end : stringSpan d p .end ≡ t .place + t .length
 
-  spoken : {p m : ℕ} {t : Text} → String d p t m → Spoken p t
+  spoken : {p m : ℕ} {t : KeptText} → String d p t m → Spoken p t
   spoken x = record { from = rw (string-past d x); end = rw (string-past d x) (string-end d x) }
 
-  pub record Stands (n : ℕ) (e : Entry) (m : ℕ) : Type 0 where
+  pub record Stands (n : ℕ) (e : HeadingEntry) (m : ℕ) : Type 0 where
     pub which : itemAt d n .which ≡ e .item
     pub past : itemPast d (itemAt d n) ≡ m
     pub few : e .item ≤ 4
-    pub told : (t : Text) → e .text ≡ some t → Spoken (itemAt d n .next) t
+    pub told : (t : KeptText) → e .text ≡ some t → Spoken (itemAt d n .next) t
 
   -- another word is not this one
   abbrev Misses : List ℕ → ℕ → ℕ → Type 0
@@ -50,13 +50,13 @@ module _ (d : List ℕ) where
   misses w v a b o q r h = statement-missed d {w = v} b r (other-word d {w = w} {v = NOTE} a note-capitals o h)
       (other-word d {w = w} {v = v} a b q h)
 
-  same-text : {t u : Text} → _≡_ {A = Option Text} (some t) (some u) → t ≡ u
+  same-text : {t u : KeptText} → _≡_ {A = Option KeptText} (some t) (some u) → t ≡ u
   same-text e = cc
 
-  told-by : {p m : ℕ} {t : Text} → String d p t m → (u : Text) → _≡_ {A = Option Text} (some t) (some u) → Spoken p u
+  told-by : {p m : ℕ} {t : KeptText} → String d p t m → (u : KeptText) → _≡_ {A = Option KeptText} (some t) (some u) → Spoken p u
   told-by {p} x u e = rw (same-text e) at (spoken x)
 
-  pub item-stands : {n m : ℕ} {e : Entry} → Item d n e m → Stands n e m
+  pub item-stands : {n m : ℕ} {e : HeadingEntry} → Item d n e m → Stands n e m
   unfolding itemAt itemPast capitals differ
   item-stands (says.date (token.phrase (token.statement r h) x)) =
       let a = statement-found d {w = DATE} refl refl (token.statement r h) in
@@ -106,7 +106,7 @@ module _ (d : List ℕ) where
         misses SURVEY STANDARD refl refl refl refl r h,
       )
 
-  found-step : {n m : ℕ} {e : Entry} (f q : ℕ) → Stands n e m → itemFound (suc f) d n q
+  found-step : {n m : ℕ} {e : HeadingEntry} (f q : ℕ) → Stands n e m → itemFound (suc f) d n q
       ≡ cond (eqb (e .item) q) (found true (itemAt d n .next)) (itemFound f d m q)
   unfolding itemFound
   found-step {e = e} f q s = rw (s .past, s .which, ne-eqb (e .item) 5 (λ z. omega (arith, s .few)))
@@ -116,13 +116,13 @@ module _ (d : List ℕ) where
   found-none f q s = rw (survey-stands s)
 
 -- ---- how many were not given yet
-abbrev absent : ℕ → List Entry → ℕ
+abbrev absent : ℕ → List HeadingEntry → ℕ
 absent j l = cond (given j l) 0 1
 
-abbrev missing : List Entry → ℕ
+abbrev missing : List HeadingEntry → ℕ
 missing l = absent 0 l + (absent 1 l + (absent 2 l + (absent 3 l + absent 4 l)))
 
-missing-less : (i : ℕ) (t : Option Text) (l : List Entry) → i ≤ 4 → given i l ≡ false → suc (missing (entry i t ∷ l)) ≤ missing l
+missing-less : (i : ℕ) (t : Option KeptText) (l : List HeadingEntry) → i ≤ 4 → given i l ≡ false → suc (missing (entry i t ∷ l)) ≤ missing l
 unfolding given someOf
 missing-less zero t l h g = rw g (omega arith)
 missing-less (suc zero) t l h g = rw g (omega arith)
@@ -132,24 +132,25 @@ missing-less (suc (suc (suc (suc zero)))) t l h g = rw g (omega arith)
 missing-less (suc (suc (suc (suc (suc i))))) t l h g = absurd (omega arith)
 
 -- ---- what was given stays
-given-apart : (i j : ℕ) (l : List Entry) → given i l ≡ false → given j l ≡ true → eqb j i ≡ false
+given-apart : (i j : ℕ) (l : List HeadingEntry) → given i l ≡ false → given j l ≡ true → eqb j i ≡ false
 given-apart i j l g h = ne-eqb j i (λ e. holds-not (rw e at h) g)
 
-here : (j : ℕ) (e : Entry) (l : List Entry) → e .item ≡ j → given j (e ∷ l) ≡ true
+here : (j : ℕ) (e : HeadingEntry) (l : List HeadingEntry) → e .item ≡ j → given j (e ∷ l) ≡ true
 unfolding given someOf
 here j e l a = rw (eq-eqb j (e .item) (sym a))
 
-there : (j : ℕ) (e : Entry) (l : List Entry) → (e .item ≡ j → ⊥) → given j l ≡ false → given j (e ∷ l) ≡ false
+there : (j : ℕ) (e : HeadingEntry) (l : List HeadingEntry) → (e .item ≡ j → ⊥) → given j l ≡ false → given j (e ∷ l) ≡ false
 unfolding given someOf
 there j e l a h = rw (ne-eqb j (e .item) (λ z. a (sym z))) h
 
-first : (j : ℕ) (e : Entry) (l : List Entry) → e .item ≡ j → textOf j (e ∷ l) ≡ e .text
-unfolding textOf
+first : (j : ℕ) (e : HeadingEntry) (l : List HeadingEntry) → e .item ≡ j → enteredText j (e ∷ l) ≡ e .text
+unfolding enteredText
 first j e l a = rw (eq-eqb j (e .item) (sym a))
 
 module _ (d : List ℕ) where
-  later : {l k : List Entry} {n m : ℕ} (j : ℕ) → Items d l n k m → given j l ≡ true → (textOf j k ≡ textOf j l) × (given j k ≡ true)
-  unfolding given someOf textOf
+  later : {l k : List HeadingEntry} {n m : ℕ} (j : ℕ) → Items d l n k m → given j l ≡ true → (enteredText j k ≡ enteredText j l)
+      × (given j k ≡ true)
+  unfolding given someOf enteredText
   later j no-more h = (refl, h)
   later j (more {l = l} {e = e} x g y) h =
       let q = given-apart (e .item) j l g h in
@@ -157,32 +158,33 @@ module _ (d : List ℕ) where
       (r .0 ∙ rw q, r .1)
 
   -- not given at all
-  untold : (j : ℕ) (l : List Entry) → given j l ≡ false → textOf j l ≡ none
-  unfolding given someOf textOf
+  untold : (j : ℕ) (l : List HeadingEntry) → given j l ≡ false → enteredText j l ≡ none
+  unfolding given someOf enteredText
   untold j [] h = refl
   untold j (e ∷ l) h = by (eqb j (e .item)) h (untold j l) where
-    by : (q : Bool) → (q || given j l) ≡ false → (given j l ≡ false → textOf j l ≡ none) → cond q (e .text) (textOf j l) ≡ none
+    by : (q : Bool) → (q || given j l) ≡ false → (given j l ≡ false → enteredText j l ≡ none) → cond q (e .text) (enteredText j l) ≡ none
     by true h ih = holds-not refl h
     by false h ih = ih h
 
   -- what is found tells what was given
-  pub data Tells (f : Found) : Option Text → Type 0 where
+  pub data Tells (f : Found) : Option KeptText → Type 0 where
     nothing : f .there ≡ false → Tells f none
-    a-text : {t : Text} → f .there ≡ true → Spoken d (f .next) t → Tells f (some t)
+    a-text : {t : KeptText} → f .there ≡ true → Spoken d (f .next) t → Tells f (some t)
 
   -- a text of the heading is a DATE, TIME, ORIGIN or USER
-  texted : {n m : ℕ} {e : Entry} → Item d n e m → e .item ≤ 3 → (t : Text) × (e .text ≡ some t)
+  texted : {n m : ℕ} {e : HeadingEntry} → Item d n e m → e .item ≤ 3 → (t : KeptText) × (e .text ≡ some t)
   texted (says.date {t = t} x) h = (t, refl)
   texted (says.time {t = t} x) h = (t, refl)
   texted (says.origin {t = t} x) h = (t, refl)
   texted (says.user {t = t} x) h = (t, refl)
   texted (says.standard-names s k) h = absurd (omega arith)
 
-  less : {n m : ℕ} {e : Entry} (l : List Entry) → Stands d n e m → given (e .item) l ≡ false → suc (missing (e ∷ l)) ≤ missing l
+  less : {n m : ℕ} {e : HeadingEntry} (l : List HeadingEntry) → Stands d n e m → given (e .item) l ≡ false → suc (missing (e ∷ l))
+      ≤ missing l
   less {e = e} l s g = missing-less (e .item) (e .text) l (s .few) g
 
   -- the place behind all of them
-  pub items-end : (f : ℕ) {l k : List Entry} {n m c : ℕ} → Items d l n k m → Statement d SURVEY m c → missing l < f
+  pub items-end : (f : ℕ) {l k : List HeadingEntry} {n m c : ℕ} → Items d l n k m → Statement d SURVEY m c → missing l < f
       → itemFound f d n 5 .next ≡ m
   items-end zero x s h = absurd (not-suc-le-zero h)
   items-end (suc f) no-more s h = rw (found-none d f 5 s)
@@ -192,7 +194,8 @@ module _ (d : List ℕ) where
       rw (found-step d f 5 i, ne-eqb (e .item) 5 (λ z. omega (arith, i .few))) (items-end f y s (omega arith))
 
   -- STANDARD NAMES
-  pub items-standard : (f : ℕ) {l k : List Entry} {n m c : ℕ} → Items d l n k m → Statement d SURVEY m c → missing l < f → given 4 l ≡ false
+  pub items-standard : (f : ℕ) {l k : List HeadingEntry} {n m c : ℕ} → Items d l n k m → Statement d SURVEY m c → missing l < f → given 4 l
+      ≡ false
       → itemFound f d n 4 .there ≡ given 4 k
   items-standard zero x s h o = absurd (not-suc-le-zero h)
   items-standard (suc f) no-more s h o = rw (found-none d f 4 s) (sym o)
@@ -206,17 +209,18 @@ module _ (d : List ℕ) where
         by false z ih = ih (there 4 e l (eqb-false (e .item) 4 z) o)
 
   -- a text
-  pub items-text : (f j : ℕ) {l k : List Entry} {n m c : ℕ} → j ≤ 3 → Items d l n k m → Statement d SURVEY m c → missing l < f → given j l
+  pub items-text : (f j : ℕ) {l k : List HeadingEntry} {n m c : ℕ} → j ≤ 3 → Items d l n k m → Statement d SURVEY m c → missing l < f
+      → given j l
       ≡ false
-      → Tells (itemFound f d n j) (textOf j k)
+      → Tells (itemFound f d n j) (enteredText j k)
   items-text zero j b x s h o = absurd (not-suc-le-zero h)
   items-text (suc f) j {l = l} b no-more s h o = rw (found-none d f j s, ne-eqb 5 j (λ z. omega arith), untold j l o) (nothing refl)
   items-text (suc f) j b (more {l = l} {k = k} {e = e} {n = n} {j = m} x g y) s h o =
       let i = item-stands d x in
       let q = less l i g in
       rw (found-step d f j i) (by (eqb (e .item) j) refl (items-text f j b y s (omega arith))) where
-        by : (q : Bool) → eqb (e .item) j ≡ q → (given j (e ∷ l) ≡ false → Tells (itemFound f d m j) (textOf j k))
-            → Tells (cond q (found true (itemAt d n .next)) (itemFound f d m j)) (textOf j k)
+        by : (q : Bool) → eqb (e .item) j ≡ q → (given j (e ∷ l) ≡ false → Tells (itemFound f d m j) (enteredText j k))
+            → Tells (cond q (found true (itemAt d n .next)) (itemFound f d m j)) (enteredText j k)
         by true z ih =
             let a = eqb-true (e .item) j z in
             let t = texted x (rw a b) in

@@ -12,9 +12,9 @@ use Rattle.scan.specs.Word.{capitals}
 use Rattle.tokens.specs.declared.Reading.the-variants.{At}
 use Rattle.token_laws.specs.Opening.{one-one, sss, version, opening-exactly}
 use Rattle.statements.specs.rule.Words.{NOTE, SSS, VERSION, ONE-ONE, DATE, TIME, ORIGIN, USER, STANDARD, NAMES, SURVEY, TITLE, RECORD, END}
-use Rattle.survey.specs.rule.Survey.{Text, Variable, Heading, Survey}
+use Rattle.survey.specs.rule.Survey.{KeptText, Variable, Heading, Survey}
 use Rattle.survey.specs.rule.Width.{someOf}
-use Rattle.reading.specs.rule.Whole.{Entry, given, heading}
+use Rattle.reading.specs.rule.Whole.{HeadingEntry, given, heading}
 use Rattle.reading.specs.rule.Whole as reading
 use Rattle.grammar.specs.Token.{Here, Notes, Statement, String, Letter}
 use Rattle.grammar.specs.Token as token
@@ -24,7 +24,8 @@ use Rattle.grammar_laws.specs.Places.{differ, other-word}
 use Rattle.grammar_laws.specs.Notes.{note-capitals}
 use Rattle.grammar_laws.specs.Tokens.{run-there}
 use Rattle.clean_text.specs.rule.Span.{spanOf}
-use Rattle.clean_text.specs.rule.Clean.{Token, lineOf, textOf, perhaps, standardLine, headLines, eachVariable, cleanLines, cleanOf, quoted}
+use Rattle.clean_text.specs.rule.Clean.{Token, lineOf, cleanText, perhaps, standardLine, headLines, eachVariable, cleanLines, cleanOf}
+use Rattle.clean_text.specs.rule.Clean.{quotedToken}
 use Rattle.steps.specs.declared.Found.{Found}
 use Rattle.steps.specs.Step.{placeIn, stringSpan, statementFound, statementPast}
 use Rattle.steps.specs.Law.{gap-past, statement-past, statement-found, statement-missed, string-past}
@@ -60,20 +61,21 @@ module _ (d : List ℕ) where
       append-assoc w (32 ∷ 34 ∷ []) (t ++ (34 ∷ 13 ∷ 10 ∷ []))
       ∙ ap (λ (l : List ℕ). w ++ (32 ∷ 34 ∷ l)) (sym (append-assoc t (34 ∷ []) (13 ∷ 10 ∷ [])))
 
-  perhaps-text : (w : List ℕ) {f : Found} {o : Option Text} → Tells d f o → perhapsText d f (w ++ 32 ∷ 34 ∷ []) ≡ textOf (perhaps d w o)
-  unfolding perhapsText framed textOf
+  perhaps-text : (w : List ℕ) {f : Found} {o : Option KeptText} → Tells d f o → perhapsText d f (w ++ 32 ∷ 34 ∷ [])
+      ≡ cleanText (perhaps d w o)
+  unfolding perhapsText framed cleanText
   perhaps-text w (nothing e) = rw e
   perhaps-text w (a-text {t = t} e s) =
       rw (e, s .from, s .end) (quoted-words w (spanOf d (t .place) (t .place + t .length))
-      ∙ sym (append-nil (lineOf (w ∷ quoted d t ∷ []))))
+      ∙ sym (append-nil (lineOf (w ∷ quotedToken d t ∷ []))))
 
-  standard-text : (f : Found) (q : Bool) → f .there ≡ q → standardText f ≡ textOf (standardLine d q)
-  unfolding standardText textOf lineOf
+  standard-text : (f : Found) (q : Bool) → f .there ≡ q → standardText f ≡ cleanText (standardLine d q)
+  unfolding standardText cleanText lineOf
   standard-text f true e = rw e
   standard-text f false e = rw e
 
   -- ---- TITLE, RECORD and its letter
-  title-tells : {c e f : ℕ} {t : Option Text} → Title d c t e → Statement d RECORD e f → Tells d (statementFound d c TITLE) t
+  title-tells : {c e f : ℕ} {t : Option KeptText} → Title d c t e → Statement d RECORD e f → Tells d (statementFound d c TITLE) t
   unfolding capitals differ
   title-tells (says.title {t = t} (token.phrase s x)) r =
       rw (statement-found d {w = TITLE} refl refl s)
@@ -82,7 +84,7 @@ module _ (d : List ℕ) where
       rw (statement-missed d {w = TITLE} refl z (other-word d {w = RECORD} {v = NOTE} refl note-capitals refl h)
       (other-word d {w = RECORD} {v = TITLE} refl refl refl h)) (nothing refl)
 
-  title-past : {c e f : ℕ} {t : Option Text} → Title d c t e → Statement d RECORD e f
+  title-past : {c e f : ℕ} {t : Option KeptText} → Title d c t e → Statement d RECORD e f
       → cond (statementFound d c TITLE .there) (stringSpan d (statementFound d c TITLE .next) .next) c ≡ e
   unfolding capitals differ
   title-past (says.title (token.phrase s x)) r = rw (statement-found d {w = TITLE} refl refl s, string-past d x)
@@ -95,7 +97,7 @@ module _ (d : List ℕ) where
   letter-past (token.letter g e c) = rw (gap-past d g, e)
 
   -- ---- where all of it stands
-  module _ {a b c e f g : ℕ} {l : List Entry} {t : Option Text} {x : ℕ} (o : Opening d a) (i : Items d [] a l b)
+  module _ {a b c e f g : ℕ} {l : List HeadingEntry} {t : Option KeptText} {x : ℕ} (o : Opening d a) (i : Items d [] a l b)
       (v : Statement d SURVEY b c) (u : Title d c t e)
       (r : Statement d RECORD e f) (w : Letter d f x g) where
     none-given : reading.given 0 [] ≡ false
@@ -137,11 +139,11 @@ module _ (d : List ℕ) where
     abbrev heads : List ℕ
     heads =
         opened
-        ++ (textOf (perhaps d DATE (reading.textOf 0 l))
-        ++ (textOf (perhaps d TIME (reading.textOf 1 l))
-        ++ (textOf (perhaps d ORIGIN (reading.textOf 2 l))
-        ++ (textOf (perhaps d USER (reading.textOf 3 l))
-        ++ textOf (standardLine d (given 4 l))))))
+        ++ (cleanText (perhaps d DATE (reading.enteredText 0 l))
+        ++ (cleanText (perhaps d TIME (reading.enteredText 1 l))
+        ++ (cleanText (perhaps d ORIGIN (reading.enteredText 2 l))
+        ++ (cleanText (perhaps d USER (reading.enteredText 3 l))
+        ++ cleanText (standardLine d (given 4 l))))))
 
     head-text : headText d (itemsOf d a) ≡ heads
     unfolding headText itemsOf given someOf
@@ -156,27 +158,27 @@ module _ (d : List ℕ) where
         ) refl
 
     abbrev tails : List ℕ
-    tails = (SURVEY ++ 13 ∷ 10 ∷ []) ++ (textOf (perhaps d TITLE t) ++ ((RECORD ++ 32 ∷ []) ++ ((x ∷ []) ++ (13 ∷ 10 ∷ []))))
+    tails = (SURVEY ++ 13 ∷ 10 ∷ []) ++ (cleanText (perhaps d TITLE t) ++ ((RECORD ++ 32 ∷ []) ++ ((x ∷ []) ++ (13 ∷ 10 ∷ []))))
 
     tail-text : tailText d (statementFound d c TITLE) x ≡ tails
     unfolding tailText
     tail-text = rw (perhaps-text TITLE (title-tells u r)) refl
 
-    head-lines : textOf (headLines d (heading l t x)) ≡ heads ++ tails
-    unfolding headLines textOf lineOf
+    head-lines : cleanText (headLines d (heading l t x)) ≡ heads ++ tails
+    unfolding headLines cleanText lineOf
     head-lines = whole
       where
         p0 : List (List Token)
-        p0 = (SSS ∷ []) ∷ (VERSION ∷ ONE-ONE ∷ []) ∷ perhaps d DATE (reading.textOf 0 l)
+        p0 = (SSS ∷ []) ∷ (VERSION ∷ ONE-ONE ∷ []) ∷ perhaps d DATE (reading.enteredText 0 l)
 
         p1 : List (List Token)
-        p1 = perhaps d TIME (reading.textOf 1 l)
+        p1 = perhaps d TIME (reading.enteredText 1 l)
 
         p2 : List (List Token)
-        p2 = perhaps d ORIGIN (reading.textOf 2 l)
+        p2 = perhaps d ORIGIN (reading.enteredText 2 l)
 
         p3 : List (List Token)
-        p3 = perhaps d USER (reading.textOf 3 l)
+        p3 = perhaps d USER (reading.enteredText 3 l)
 
         p4 : List (List Token)
         p4 = standardLine d (given 4 l)
@@ -187,23 +189,24 @@ module _ (d : List ℕ) where
         p6 : List (List Token)
         p6 = (RECORD ∷ (x ∷ []) ∷ []) ∷ []
 
-        whole : textOf ((((((p0 ++ p1) ++ p2) ++ p3) ++ p4) ++ p5) ++ p6) ≡ heads ++ tails
+        whole : cleanText ((((((p0 ++ p1) ++ p2) ++ p3) ++ p4) ++ p5) ++ p6) ≡ heads ++ tails
         whole =
             text-append (((((p0 ++ p1) ++ p2) ++ p3) ++ p4) ++ p5) p6
-            ∙ ap (λ (s : List ℕ). s ++ textOf p6)
+            ∙ ap (λ (s : List ℕ). s ++ cleanText p6)
             (text-append ((((p0 ++ p1) ++ p2) ++ p3) ++ p4) p5
-            ∙ ap (λ (s : List ℕ). s ++ textOf p5)
+            ∙ ap (λ (s : List ℕ). s ++ cleanText p5)
             (text-append (((p0 ++ p1) ++ p2) ++ p3) p4
-            ∙ ap (λ (s : List ℕ). s ++ textOf p4)
+            ∙ ap (λ (s : List ℕ). s ++ cleanText p4)
             (text-append ((p0 ++ p1) ++ p2) p3
-            ∙ ap (λ (s : List ℕ). s ++ textOf p3)
-            (text-append (p0 ++ p1) p2 ∙ ap (λ (s : List ℕ). s ++ textOf p2) (text-append p0 p1)))))
-            ∙ flat opened (textOf (perhaps d DATE (reading.textOf 0 l))) (textOf p1) (textOf p2) (textOf p3) (textOf p4) (textOf p5)
-            (textOf p6)
+            ∙ ap (λ (s : List ℕ). s ++ cleanText p3)
+            (text-append (p0 ++ p1) p2 ∙ ap (λ (s : List ℕ). s ++ cleanText p2) (text-append p0 p1)))))
+            ∙ flat opened (cleanText (perhaps d DATE (reading.enteredText 0 l))) (cleanText p1) (cleanText p2) (cleanText p3) (cleanText p4)
+            (cleanText p5)
+            (cleanText p6)
 
     clean-text : (v : List Variable) → cleanOf d (record { heading = heading l t x; variables = v }) ≡ heads
-        ++ (tails ++ (textOf (eachVariable d v) ++ closed))
-    unfolding cleanOf cleanLines textOf lineOf
+        ++ (tails ++ (cleanText (eachVariable d v) ++ closed))
+    unfolding cleanOf cleanLines cleanText lineOf
     clean-text v = whole
       where
         h : List (List Token)
@@ -215,15 +218,15 @@ module _ (d : List ℕ) where
         z : List (List Token)
         z = (END ∷ RECORD ∷ []) ∷ (END ∷ SURVEY ∷ []) ∷ (END ∷ SSS ∷ []) ∷ []
 
-        whole : textOf ((h ++ e′) ++ z) ≡ heads ++ (tails ++ (textOf e′ ++ closed))
+        whole : cleanText ((h ++ e′) ++ z) ≡ heads ++ (tails ++ (cleanText e′ ++ closed))
         whole =
             text-append (h ++ e′) z
-            ∙ ap (λ (s : List ℕ). s ++ closed) (text-append h e′ ∙ ap (λ (s : List ℕ). s ++ textOf e′) head-lines)
-            ∙ append-assoc (heads ++ tails) (textOf e′) closed
-            ∙ append-assoc heads tails (textOf e′ ++ closed)
+            ∙ ap (λ (s : List ℕ). s ++ closed) (text-append h e′ ∙ ap (λ (s : List ℕ). s ++ cleanText e′) head-lines)
+            ∙ append-assoc (heads ++ tails) (cleanText e′) closed
+            ∙ append-assoc heads tails (cleanText e′ ++ closed)
 
-    whole-front : (v : List Variable) → variablesPage 512 d g .text ≡ textOf (eachVariable d v) → wholeText d ≡ heads
-        ++ (tails ++ (textOf (eachVariable d v) ++ closed))
+    whole-front : (v : List Variable) → variablesPage 512 d g .text ≡ cleanText (eachVariable d v) → wholeText d ≡ heads
+        ++ (tails ++ (cleanText (eachVariable d v) ++ closed))
     unfolding wholeText
     whole-front v q = rw (front-items, front-title, front-letter, front-next) (rw (head-text, tail-text, q) refl)
 

@@ -11,10 +11,10 @@ use Rattle.token_laws.specs.Opening.{Spaces}
 use Rattle.statements.specs.rule.Words.{SSS, VERSION, ONE-ONE, DATE, TIME, ORIGIN, USER, STANDARD, NAMES, SURVEY, TITLE, RECORD, VARIABLE}
 use Rattle.statements.specs.rule.Words.{NAME, LABEL, TYPE, SINGLE, MULTIPLE, QUANTITY, CHARACTER, LOGICAL, POSITION, TO, SPREAD, OF, SIZE}
 use Rattle.statements.specs.rule.Words.{VALUES, WITH, SPECIAL}
-use Rattle.survey.specs.rule.Survey.{Figure, Amount, Text, Range, Block, Content, Survey}
+use Rattle.survey.specs.rule.Survey.{Figure, Amount, KeptText, Range, Block, Content, Survey}
 use Rattle.survey.specs.rule.Survey as says
 use Rattle.reading.specs.rule.Variable.{Sort, Single, Multiple, Quantity, Character, Logical}
-use Rattle.reading.specs.rule.Whole.{Entry, entry, given, heading}
+use Rattle.reading.specs.rule.Whole.{HeadingEntry, entry, given, heading}
 use Rattle.grammar.specs.Token.{Gap, Here, Keyword, Run, Number, Value, String, Letter, Notes, Statement, Phrase, End}
 use Rattle.grammar.specs.Token.{Optional, Whether}
 
@@ -24,26 +24,27 @@ pub data Opening (d : List ℕ) : ℕ → Type 0 where
       → Run isValue e (text d e) ONE-ONE m → Opening d m
 
 -- ---- "DATE, TIME, ORIGIN, USER, STANDARD NAMES in any order, each at most once": `l` were given before
-pub data Item (d : List ℕ) : ℕ → Entry → ℕ → Type 0 where
-  date : {n m : ℕ} {t : Text} → Phrase d DATE n t m → Item d n (entry 0 (some t)) m
-  time : {n m : ℕ} {t : Text} → Phrase d TIME n t m → Item d n (entry 1 (some t)) m
-  origin : {n m : ℕ} {t : Text} → Phrase d ORIGIN n t m → Item d n (entry 2 (some t)) m
-  user : {n m : ℕ} {t : Text} → Phrase d USER n t m → Item d n (entry 3 (some t)) m
+pub data Item (d : List ℕ) : ℕ → HeadingEntry → ℕ → Type 0 where
+  date : {n m : ℕ} {t : KeptText} → Phrase d DATE n t m → Item d n (entry 0 (some t)) m
+  time : {n m : ℕ} {t : KeptText} → Phrase d TIME n t m → Item d n (entry 1 (some t)) m
+  origin : {n m : ℕ} {t : KeptText} → Phrase d ORIGIN n t m → Item d n (entry 2 (some t)) m
+  user : {n m : ℕ} {t : KeptText} → Phrase d USER n t m → Item d n (entry 3 (some t)) m
   standard-names : {n k m : ℕ} → Statement d STANDARD n k → Keyword d NAMES k m → Item d n (entry 4 none) m
 
-pub data Items (d : List ℕ) : List Entry → ℕ → List Entry → ℕ → Type 0 where
-  no-more : {l : List Entry} {n : ℕ} → Items d l n l n
-  more : {l k : List Entry} {e : Entry} {n j m : ℕ} → Item d n e j → given (e .item) l ≡ false → Items d (e ∷ l) j k m → Items d l n k m
+pub data Items (d : List ℕ) : List HeadingEntry → ℕ → List HeadingEntry → ℕ → Type 0 where
+  no-more : {l : List HeadingEntry} {n : ℕ} → Items d l n l n
+  more : {l k : List HeadingEntry} {e : HeadingEntry} {n j m : ℕ} → Item d n e j → given (e .item) l ≡ false → Items d (e ∷ l) j k m
+      → Items d l n k m
 
 -- ---- "optional TITLE"
-pub data Title (d : List ℕ) : ℕ → Option Text → ℕ → Type 0 where
-  title : {n m : ℕ} {t : Text} → Phrase d TITLE n t m → Title d n (some t) m
+pub data Title (d : List ℕ) : ℕ → Option KeptText → ℕ → Type 0 where
+  title : {n m : ℕ} {t : KeptText} → Phrase d TITLE n t m → Title d n (some t) m
   untitled : {n : ℕ} → Title d n none n
 
 -- ---- "VALUES: a range `a TO b`, followed by WITH exactly when lines follow; lines are a value, a string, optional SPECIAL; `END VALUES`.
 -- Without a range, at least one line"; notes "before a range, line or END"
 pub data Line (d : List ℕ) : ℕ → says.Line → ℕ → Type 0 where
-  line : {n k j i m : ℕ} {a : Amount} {t : Text} {s : Bool} → Notes d n k → Value d k a j → String d j t i → Whether d SPECIAL i s m
+  line : {n k j i m : ℕ} {a : Amount} {t : KeptText} {s : Bool} → Notes d n k → Value d k a j → String d j t i → Whether d SPECIAL i s m
       → Line d n (record { value = a; text = t; special = s }) m
 
 pub data Lines (d : List ℕ) : ℕ → List says.Line → ℕ → Type 0 where
@@ -89,7 +90,7 @@ typeWord Character = CHARACTER
 typeWord Logical = LOGICAL
 
 pub data Variable (d : List ℕ) : ℕ → says.Variable → ℕ → Type 0 where
-  variable : {n a b c e f g h i m : ℕ} {x s : Figure} {name label : Text} {t : Sort} {o : Option Figure} {r : Content}
+  variable : {n a b c e f g h i m : ℕ} {x s : Figure} {name label : KeptText} {t : Sort} {o : Option Figure} {r : Content}
       → Statement d VARIABLE n a → Number d a x b
       → Phrase d NAME b name c
       → Phrase d LABEL c label e
@@ -106,7 +107,7 @@ pub data Variables (d : List ℕ) : ℕ → List says.Variable → ℕ → Type 
 -- ---- the whole: ".. `SURVEY`; optional TITLE; `RECORD` and one letter; one or more variables; `END RECORD`, `END SURVEY`, `END SSS`. What
 -- follows is ignored."
 pub data Definition (d : List ℕ) : Survey → ℕ → Type 0 where
-  definition : {a b c e f g h i j m : ℕ} {l : List Entry} {t : Option Text} {x : ℕ} {v : List says.Variable}
+  definition : {a b c e f g h i j m : ℕ} {l : List HeadingEntry} {t : Option KeptText} {x : ℕ} {v : List says.Variable}
       → Opening d a
       → Items d [] a l b
       → Statement d SURVEY b c

@@ -19,7 +19,7 @@ use Rattle.token_laws.specs.Opening.{Opens}
 use Rattle.statements.specs.rule.Words.{NOTE, DATE, TIME, ORIGIN, USER, STANDARD, NAMES, SURVEY, TITLE, RECORD, SSS, VARIABLE, NAME, LABEL}
 use Rattle.statements.specs.rule.Words.{TYPE, SINGLE, MULTIPLE, QUANTITY, CHARACTER, LOGICAL, POSITION, TO, SPREAD, OF, SIZE, VALUES, WITH}
 use Rattle.statements.specs.rule.Words.{SPECIAL, END}
-use Rattle.survey.specs.rule.Survey.{Figure, Amount, Text, Block, Content, Variable}
+use Rattle.survey.specs.rule.Survey.{Figure, Amount, KeptText, Block, Content, Variable}
 use Rattle.survey.specs.rule.Survey as says
 use Rattle.survey.specs.rule.Table.{linesAll}
 use Rattle.reading.specs.rule.Least.{Charge, named, first, least}
@@ -27,7 +27,7 @@ use Rattle.reading.specs.rule.Statement.{positionCharges, spreadCharges, sizeCh
 use Rattle.reading.specs.rule.Statement as rule
 use Rattle.reading.specs.rule.Values.{rangeCharges, lineCharges, withLine, unlisted, rangeFrom}
 use Rattle.reading.specs.rule.Variable.{identCharges, Sort, Single, Multiple, Quantity, Character, Logical, room, variableOf}
-use Rattle.reading.specs.rule.Whole.{Entry}
+use Rattle.reading.specs.rule.Whole.{HeadingEntry}
 use Rattle.reading.specs.rule.Whole as whole
 use Rattle.grammar.specs.Token.{Gap, Here, NoWord, Keyword, Run, Number, Value, String, Letter, Notes, Statement, Phrase}
 use Rattle.grammar.specs.Token.{Optional, Whether}
@@ -63,7 +63,7 @@ pub data Or (d w : List ℕ) (n : ℕ) (S : ℕ → Fault → Type 0) (T : Fault
   absent : {f : Fault} → NoWord d w n → T f → Or d w n S T f
 
 -- a statement of the heading, behind those of l: a second one is 2 at its word
-pub data Once (l : List Entry) (item n : ℕ) (S : Fault → Type 0) : Fault → Type 0 where
+pub data Once (l : List HeadingEntry) (item n : ℕ) (S : Fault → Type 0) : Fault → Type 0 where
   second : whole.given item l ≡ true → Once l item n S (fault 2 n)
   first-time : {f : Fault} → whole.given item l ≡ false → S f → Once l item n S f
 
@@ -111,7 +111,7 @@ module _ (d : List ℕ) where
   pub data NotesStops : ℕ → Fault → Type 0 where
     in-gap : {n : ℕ} {f : Fault} → GapStops n f → NotesStops n f
     in-note : {n k : ℕ} {f : Fault} → Keyword d NOTE n k → StringStops k f → NotesStops n f
-    later : {n k j : ℕ} {t : Text} {f : Fault} → Keyword d NOTE n k → String d k t j → NotesStops j f → NotesStops n f
+    later : {n k j : ℕ} {t : KeptText} {f : Fault} → Keyword d NOTE n k → String d k t j → NotesStops j f → NotesStops n f
 
   abbrev pub StatementStops : List ℕ → ℕ → Fault → Type 0
   StatementStops w n = Then (NotesStops n) (only (Noted n)) λ u m. HereStops w m
@@ -188,7 +188,7 @@ module _ (d : List ℕ) where
   module _ (quantity : Bool) (before : ℕ) where
     -- a line of block b behind its value a
     pub data LineRead (b : Block) (a : Amount) (n : ℕ) : says.Line → ℕ → Type 0 where
-      line : {k m : ℕ} {t : Text} {s : Bool} → String d n t k → Whether d SPECIAL k s m → Clean (lineCharges quantity before b a)
+      line : {k m : ℕ} {t : KeptText} {s : Bool} → String d n t k → Whether d SPECIAL k s m → Clean (lineCharges quantity before b a)
           → LineRead b a n (record { value = a; text = t; special = s }) m
 
     abbrev pub LineStops : Block → Amount → ℕ → Fault → Type 0
@@ -275,7 +275,7 @@ module _ (d : List ℕ) where
   abbrev pub TextedStops : ℕ → Fault → Type 0
   TextedStops n = Then (StringStops n) (String d n) λ t n. NotesStops n
 
-  abbrev pub ItemStops : List Entry → ℕ → Fault → Type 0
+  abbrev pub ItemStops : List HeadingEntry → ℕ → Fault → Type 0
   ItemStops l n =
       Or d DATE n (λ m. Once l 0 n (TextedStops m))
       (Or d TIME n (λ m. Once l 1 n (TextedStops m))
@@ -284,9 +284,9 @@ module _ (d : List ℕ) where
       (Or d STANDARD n (λ m. Once l 4 n (Then (WordStops NAMES m) (only (Keyword d NAMES m)) λ u n. NotesStops n))
       Never))))
 
-  pub data ItemsStops : List Entry → ℕ → Fault → Type 0 where
-    in-item : {l : List Entry} {n : ℕ} {f : Fault} → ItemStops l n f → ItemsStops l n f
-    later : {l : List Entry} {e : Entry} {n k m : ℕ} {f : Fault} → Item d n e k → whole.given (e .item) l ≡ false
+  pub data ItemsStops : List HeadingEntry → ℕ → Fault → Type 0 where
+    in-item : {l : List HeadingEntry} {n : ℕ} {f : Fault} → ItemStops l n f → ItemsStops l n f
+    later : {l : List HeadingEntry} {e : HeadingEntry} {n k m : ℕ} {f : Fault} → Item d n e k → whole.given (e .item) l ≡ false
         → Noted k m → ItemsStops (e ∷ l) m f → ItemsStops l n f
 
   -- no statement of the heading here
@@ -297,11 +297,11 @@ module _ (d : List ℕ) where
     pub no-user : NoWord d USER n
     pub no-standard : NoWord d STANDARD n
 
-  pub data ItemsRead (l : List Entry) (n : ℕ) : List Entry → ℕ → Type 0 where
-    items : {k : List Entry} {j m : ℕ} → Items d l n k j → Noted j m → NoItem m → ItemsRead l n k m
+  pub data ItemsRead (l : List HeadingEntry) (n : ℕ) : List HeadingEntry → ℕ → Type 0 where
+    items : {k : List HeadingEntry} {j m : ℕ} → Items d l n k j → Noted j m → NoItem m → ItemsRead l n k m
 
-  pub data TitleRead (n : ℕ) : Option Text → ℕ → Type 0 where
-    given : {k m : ℕ} {t : Text} → Here d TITLE n k → String d k t m → TitleRead n (some t) m
+  pub data TitleRead (n : ℕ) : Option KeptText → ℕ → Type 0 where
+    given : {k m : ℕ} {t : KeptText} → Here d TITLE n k → String d k t m → TitleRead n (some t) m
     untitled : NoWord d TITLE n → TitleRead n none n
 
   -- ---- the whole
@@ -330,7 +330,8 @@ module _ (d : List ℕ) where
 
   -- up to the letter; all variables, and the END behind them; up to END SSS
   pub data FrontRead : says.Heading → ℕ → Type 0 where
-    front : {a b c e f m : ℕ} {l : List Entry} {t : Option Text} {x : ℕ} → Opening d a → Items d [] a l b → Statement d SURVEY b c
+    front : {a b c e f m : ℕ} {l : List HeadingEntry} {t : Option KeptText} {x : ℕ} → Opening d a → Items d [] a l b
+        → Statement d SURVEY b c
         → grammar.Title d c t e → Statement d RECORD e f → Letter d f x m → FrontRead (whole.heading l t x) m
 
   pub data VariablesRead (n : ℕ) : List Variable → ℕ → Type 0 where

@@ -16,8 +16,8 @@ use Rattle.marks.specs.Spelling.{Spelt}
 use Rattle.tokens.specs.declared.Reading.the-variants.{At}
 use Rattle.token_laws.specs.Gaps.{Behind}
 use Rattle.statements.specs.rule.Words.{NOTE, END}
-use Rattle.survey.specs.rule.Survey.{Figure, Amount, Text}
-use Rattle.reading.specs.rule.Token.{amountOf}
+use Rattle.survey.specs.rule.Survey.{Figure, Amount, KeptText}
+use Rattle.reading.specs.rule.Token.{amountRead}
 
 -- ---- gaps: spaces and whole comments, as long as there are any. At m stands the byte behind them, or the end
 abbrev pub Gap : List ℕ → ℕ → ℕ → Type 0
@@ -49,10 +49,10 @@ pub data Number (d : List ℕ) : ℕ → Figure → ℕ → Type 0 where
 
 -- "a value is the longest run of digits, points, `+` and `-`", right here
 pub data Value (d : List ℕ) : ℕ → Amount → ℕ → Type 0 where
-  value : {n b m : ℕ} {s : List ℕ} → Run isValue n (text d n) (b ∷ s) m → Value d n (amountOf n m (b ∷ s)) m
+  value : {n b m : ℕ} {s : List ℕ} → Run isValue n (text d n) (b ∷ s) m → Value d n (amountRead n m (b ∷ s)) m
 
 -- ---- a string: a quote (34), pieces and a quote; "text places are just after the opening quote; lengths are undecoded bytes"
-pub data String (d : List ℕ) : ℕ → Text → ℕ → Type 0 where
+pub data String (d : List ℕ) : ℕ → KeptText → ℕ → Type 0 where
   string : {n k p m : ℕ} {s : List Sign} → Gap d n k → text d k ≡ sign p 34 (text d (p + 1)) → Spelt (text d (p + 1)) s m
       → String d n (record { place = p + 1; length = m - (p + 1) - 1 }) m
 
@@ -63,14 +63,14 @@ pub data Letter (d : List ℕ) : ℕ → ℕ → ℕ → Type 0 where
 -- ---- "NOTE and a string may stand .. between whole statements": any number of them, and the gap behind them
 pub data Notes (d : List ℕ) : ℕ → ℕ → Type 0 where
   no-more : {n m : ℕ} → Gap d n m → Notes d n m
-  note : {n k j m : ℕ} {t : Text} → Keyword d NOTE n k → String d k t j → Notes d j m → Notes d n m
+  note : {n k j m : ℕ} {t : KeptText} → Keyword d NOTE n k → String d k t j → Notes d j m → Notes d n m
 
 -- a statement begins with its word, behind notes
 pub data Statement (d w : List ℕ) : ℕ → ℕ → Type 0 where
   statement : {n k m : ℕ} → Notes d n k → Here d w k m → Statement d w n m
 
-pub data Phrase (d w : List ℕ) : ℕ → Text → ℕ → Type 0 where
-  phrase : {n k m : ℕ} {t : Text} → Statement d w n k → String d k t m → Phrase d w n t m
+pub data Phrase (d w : List ℕ) : ℕ → KeptText → ℕ → Type 0 where
+  phrase : {n k m : ℕ} {t : KeptText} → Statement d w n k → String d k t m → Phrase d w n t m
 
 -- END and a word
 pub data End (d w : List ℕ) : ℕ → ℕ → Type 0 where

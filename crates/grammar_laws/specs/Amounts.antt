@@ -12,17 +12,17 @@ use lib.ListN.{length, length-append}
 use borrow.Author.Tests.{eq-eqb, ne-eqb, lt-ltb, eqb-true, ltb-true}
 use Rattle.ascii.specs.rule.Class.{classOf}
 use Rattle.scan.specs.rule.Text as scan
-use Rattle.scan.specs.rule.Number.{isDigit, runOf, bytesOf, decimalOf}
+use Rattle.scan.specs.rule.Number.{isDigit, runOf, runBytes, decimalOf}
 use Rattle.scan.proofs.Orders.{digit-bounds}
 use Rattle.token_laws.specs.Values.{Digits, none, more, perhaps, Form}
 use Rattle.survey.specs.rule.Survey.{Amount}
-use Rattle.reading.specs.rule.Token.{leading, behind, begins, without, amountOf}
+use Rattle.reading.specs.rule.Token.{leading, afterPoint, begins, without, amountRead}
 use Rattle.bridge.specs.Lowest.{never}
 use Rattle.grammar.specs.Token.{Run}
 use Rattle.grammar_laws.specs.Tokens.{run-there, run-read}
 
 -- THE LONGEST RUN: from n on the bytes s pass, up to m, and the byte there does not, exactly when they are the bytes that the rule has
-pub run-exactly : (f : ℕ → Bool) (n : ℕ) (t : scan.Text) (s : List ℕ) (m : ℕ) → ((runOf f n t ≡ m) × (bytesOf f t ≡ s)) ↔ Run f n t s m
+pub run-exactly : (f : ℕ → Bool) (n : ℕ) (t : scan.Text) (s : List ℕ) (m : ℕ) → ((runOf f n t ≡ m) × (runBytes f t ≡ s)) ↔ Run f n t s m
 run-exactly f n t s m = (λ e. rw (e .0, e .1) at (run-read f n t), run-there)
 
 -- DIGITS: one digit more says ten times as much and the digit
@@ -42,13 +42,13 @@ leading-is none empty = refl
 leading-is none (other e) = rw e
 leading-is (more {b = b} e r) h = rw e (ap (λ (l : List ℕ). b ∷ l) (leading-is r h))
 
-behind-is : {w x : List ℕ} → Digits w → Blunt x → behind (w ++ x) ≡ x
-unfolding behind
+behind-is : {w x : List ℕ} → Digits w → Blunt x → afterPoint (w ++ x) ≡ x
+unfolding afterPoint
 behind-is none empty = refl
 behind-is none (other e) = rw e
 behind-is (more e r) h = rw e (behind-is r h)
 
-digits-alone : {w : List ℕ} → Digits w → (leading w ≡ w) × (behind w ≡ [])
+digits-alone : {w : List ℕ} → Digits w → (leading w ≡ w) × (afterPoint w ≡ [])
 digits-alone {w} r = (rw (append-nil w) at (leading-is r empty), rw (append-nil w) at (behind-is r empty))
 
 no-digit : isDigit 46 ≡ false
@@ -101,7 +101,7 @@ module _ {s : List ℕ} (f : Form s) where
   some-digit = let h = f .some in lt-ltb 0 (length (f .whole ++ f .rest)) (rw (length-append (f .whole) (f .rest)) h)
 
   -- A VALUE IN FORM says just this
-  pub amount-says : (n m : ℕ) → amountOf n m s ≡ record {
+  pub amount-says : (n m : ℕ) → amountRead n m s ≡ record {
     place = n;
     end = m;
     minus = f .minus;
@@ -111,7 +111,7 @@ module _ {s : List ℕ} (f : Form s) where
     size = decimalOf 0 (f .whole ++ f .rest);
     formed = true;
   }
-  unfolding amountOf
+  unfolding amountRead
   amount-says n m =
       rw (
         minus-is .0,
@@ -135,11 +135,11 @@ split-mark c (b ∷ s) = by (eqb b c) refl where
   by true e = rw (eqb-true b c e)
   by false e = refl
 
-split-digits : (s : List ℕ) → s ≡ leading s ++ behind s
-unfolding leading behind
+split-digits : (s : List ℕ) → s ≡ leading s ++ afterPoint s
+unfolding leading afterPoint
 split-digits [] = refl
 split-digits (b ∷ s) = by (isDigit b) (split-digits s) where
-  by : (q : Bool) → s ≡ leading s ++ behind s → b ∷ s ≡ cond q (b ∷ leading s) [] ++ cond q (behind s) (b ∷ s)
+  by : (q : Bool) → s ≡ leading s ++ afterPoint s → b ∷ s ≡ cond q (b ∷ leading s) [] ++ cond q (afterPoint s) (b ∷ s)
   by true e = ap (λ (l : List ℕ). b ∷ l) e
   by false e = refl
 
@@ -151,11 +151,11 @@ all-digits (b ∷ s) = by (isDigit b) refl (all-digits s) where
   by true e r = more e r
   by false e r = none
 
-none-behind : (s : List ℕ) → leading (behind s) ≡ []
-unfolding leading behind
+none-behind : (s : List ℕ) → leading (afterPoint s) ≡ []
+unfolding leading afterPoint
 none-behind [] = refl
 none-behind (b ∷ s) = by (isDigit b) refl (none-behind s) where
-  by : (q : Bool) → isDigit b ≡ q → leading (behind s) ≡ [] → leading (cond q (behind s) (b ∷ s)) ≡ []
+  by : (q : Bool) → isDigit b ≡ q → leading (afterPoint s) ≡ [] → leading (cond q (afterPoint s) (b ∷ s)) ≡ []
   by true e h = h
   by false e h = rw e
 
@@ -169,12 +169,12 @@ module _ (s : List ℕ) where
   digitsOf = without 45 s
 
   abbrev fraction : List ℕ
-  fraction = behind digitsOf
+  fraction = afterPoint digitsOf
 
   abbrev decimals : List ℕ
   decimals = without 46 fraction
 
-  form-from : behind decimals ≡ [] → 0 < length (leading digitsOf ++ leading decimals) → Form s
+  form-from : afterPoint decimals ≡ [] → 0 < length (leading digitsOf ++ leading decimals) → Form s
   form-from e h = record {
     minus = begins 45 s;
     whole = leading digitsOf;
@@ -196,15 +196,16 @@ module _ (s : List ℕ) where
   nothing [] e = refl
   nothing (b ∷ l) e = absurd (omega arith)
 
-  formed-form : (n m : ℕ) → amountOf n m s .formed ≡ true → Form s
-  unfolding amountOf
-  formed-form n m = by (eqb (length (behind decimals)) 0) (ltb 0 (length (leading digitsOf ++ leading decimals))) refl refl where
-    by : (p q : Bool) → eqb (length (behind decimals)) 0 ≡ p → ltb 0 (length (leading digitsOf ++ leading decimals)) ≡ q → (p && q) ≡ true
+  formed-form : (n m : ℕ) → amountRead n m s .formed ≡ true → Form s
+  unfolding amountRead
+  formed-form n m = by (eqb (length (afterPoint decimals)) 0) (ltb 0 (length (leading digitsOf ++ leading decimals))) refl refl where
+    by : (p q : Bool) → eqb (length (afterPoint decimals)) 0 ≡ p → ltb 0 (length (leading digitsOf ++ leading decimals)) ≡ q → (p && q)
+        ≡ true
         → Form s
-    by true true e g h = form-from (nothing (behind decimals) (eqb-true _ _ e)) (ltb-true 0 _ g)
+    by true true e g h = form-from (nothing (afterPoint decimals) (eqb-true _ _ e)) (ltb-true 0 _ g)
     by true false e g h = never cc
     by false q e g h = never cc
 
   -- FORMED EXACTLY: a minus or none, digits, a point or none, digits, nothing else, and one digit at least
-  pub formed-exactly : (n m : ℕ) → (amountOf n m s .formed ≡ true) ↔ Form s
+  pub formed-exactly : (n m : ℕ) → (amountRead n m s .formed ≡ true) ↔ Form s
   formed-exactly n m = (formed-form n m, λ f. ap (λ (a : Amount). a .formed) (amount-says f n m))

@@ -20,7 +20,7 @@ use Rattle.scan.proofs.Keywords.{word-exactly}
 use Rattle.scan.proofs.Orders.{digit-bounds}
 use Rattle.tokens.specs.declared.Fault.{Fault}
 use Rattle.statements.specs.rule.Words.{END, VALUES, SPECIAL}
-use Rattle.survey.specs.rule.Survey.{Amount, Text, Block}
+use Rattle.survey.specs.rule.Survey.{Amount, KeptText, Block}
 use Rattle.survey.specs.rule.Survey as says
 use Rattle.reading.specs.rule.Result.{Result, Is, Not, Reader, bind, turn, repeat}
 use Rattle.reading.specs.rule.Least.{named}
@@ -69,7 +69,7 @@ run-no-word {x = x} h (token.more {b = b} e r) v = let i = value-small b e in le
 abbrev pub withLines : Block → List says.Line → Block
 withLines b l = record { range = b .range; lines = b .lines ++ l }
 
-abbrev pub lineFrom : Amount → Text → Bool → says.Line
+abbrev pub lineFrom : Amount → KeptText → Bool → says.Line
 lineFrom a t s = record { value = a; text = t; special = s }
 
 lines-more : (b : Block) (x : says.Line) (l : List says.Line) → withLines (withLine b x) l ≡ withLines b (x ∷ l)
@@ -89,9 +89,9 @@ module _ (d : List ℕ) where
 
   -- ---- lines from behind the value of the first
   pub data Tail : Amount → ℕ → List says.Line → ℕ → Type 0 where
-    last : {a : Amount} {t : Text} {s : Bool} {n k j m : ℕ} → String d n t k → Whether d SPECIAL k s j → End d VALUES j m
+    last : {a : Amount} {t : KeptText} {s : Bool} {n k j m : ℕ} → String d n t k → Whether d SPECIAL k s j → End d VALUES j m
         → Tail a n (lineFrom a t s ∷ []) m
-    more : {a c : Amount} {t : Text} {s : Bool} {l : List says.Line} {n k j i h m : ℕ} → String d n t k → Whether d SPECIAL k s j
+    more : {a c : Amount} {t : KeptText} {s : Bool} {l : List says.Line} {n k j i h m : ℕ} → String d n t k → Whether d SPECIAL k s j
         → Notes d j i → Value d i c h → Tail c h l m → Tail a n (lineFrom a t s ∷ l) m
 
   pub lines-of : {a : Amount} {l : List says.Line} {n k j m : ℕ} → Notes d n k → Value d k a j → Tail a j l m → Lines d n l m

@@ -19,7 +19,7 @@ use Rattle.reading.specs.rule.Least.{named}
 use Rattle.reading.specs.rule.Token.{onWord, either}
 use Rattle.reading.specs.rule.Statement.{notes}
 use Rattle.reading.specs.rule.Variable.{identCharges}
-use Rattle.reading.specs.rule.Whole.{another}
+use Rattle.reading.specs.rule.Whole.{anotherVariable}
 use Rattle.bridge.specs.Lowest.{never, clear, Judged, fine, faulty, judged-view}
 use Rattle.grammar.specs.Token.{Here, NoWord, Notes, Statement}
 use Rattle.grammar.specs.Token as token
@@ -94,15 +94,15 @@ module _ (d : List ℕ) where
       (clean-both (variableFaults l v) (variablesFaults (l ++ v ∷ []) t) c z))
 
   abbrev Viewed : ℕ → Type 0
-  Viewed f = (l : List Variable) (n : ℕ) → Few f l → View (AllRead l n) (VariablesStops d l n) (repeat f (another d) l n)
+  Viewed f = (l : List Variable) (n : ℕ) → Few f l → View (AllRead l n) (VariablesStops d l n) (repeat f (anotherVariable d) l n)
 
   loop-view : (f : ℕ) → Viewed f
-  unfolding repeat another capitals
+  unfolding repeat anotherVariable capitals
   loop-view zero l n h = absurd (omega arith)
   loop-view (suc f) l n h = at-variable (variable-view d l n) (loop-view f) where
     at-end : (v : Variable) {k : ℕ} (j : ℕ) → Viewed f → VariableRead d l n v k → Noted d k j → (w : Word) → wordAt d j END ≡ w
         → View (AllRead l n) (VariablesStops d l n)
-        (bind (onWord (λ m. Is (Done (l ++ v ∷ [])) m) (λ m. Is (Again (l ++ v ∷ [])) m) j w) (turn (repeat f (another d))))
+        (bind (onWord (λ m. Is (Done (l ++ v ∷ [])) m) (λ m. Is (Again (l ++ v ∷ [])) m) j w) (turn (repeat f (anotherVariable d))))
     at-end v j ih x s (spelled.Matched m) e = reads (finish x s (word-exactly d j m END refl .0 e))
     at-end v j ih x s spelled.Not e =
         recast (λ r m. continue x s) (λ f. refusal.VariablesStops.later x s (no-word d refl e)) (ih (l ++ v ∷ []) j (next-few l v (few l x)
@@ -110,26 +110,27 @@ module _ (d : List ℕ) where
 
     at-notes : (v : Variable) {k : ℕ} → Viewed f → VariableRead d l n v k → {r : Result Unit} → View (only (Noted d k)) (NotesStops d k) r
         → View (AllRead l n) (VariablesStops d l n)
-        (bind (bind r λ u. either d END (λ m. Is (Done (l ++ v ∷ [])) m) (λ m. Is (Again (l ++ v ∷ [])) m)) (turn (repeat f (another d))))
+        (bind (bind r λ u. either d END (λ m. Is (Done (l ++ v ∷ [])) m) (λ m. Is (Again (l ++ v ∷ [])) m))
+        (turn (repeat f (anotherVariable d))))
     at-notes v ih x (reads {m = j} s) = at-end v j ih x s (wordAt d j END) refl
     at-notes v ih x (halts z) = halts (refusal.in-variable (behind x z))
 
     at-variable : {r : Result Variable} → View (VariableRead d l n) (VariableStops d l n) r → Viewed f
         → View (AllRead l n) (VariablesStops d l n)
         (bind (bind r λ v n. bind (notes d n) λ u. either d END (λ m. Is (Done (l ++ v ∷ [])) m) (λ m. Is (Again (l ++ v ∷ [])) m))
-        (turn (repeat f (another d))))
+        (turn (repeat f (anotherVariable d))))
     at-variable (reads {a = v} {m = k} x) ih = at-notes v ih x (notes-view d k)
     at-variable (halts z) ih = halts (refusal.in-variable (inside z))
 
   last-is : (l : List Variable) {v : Variable} {n k m : ℕ} → VariableRead d l n v k → Statement d END k m → (f : ℕ)
-      → repeat (suc f) (another d) l n ≡ Is (l ++ v ∷ []) m
-  unfolding repeat another capitals differ
+      → repeat (suc f) (anotherVariable d) l n ≡ Is (l ++ v ∷ []) m
+  unfolding repeat anotherVariable capitals differ
   last-is l x (token.statement s h) f =
       rw (variable-is d l x, notes-is d (noted s (other-word d {w = END} refl note-capitals refl h)), word-at d {w = END} refl h)
 
   more-is : (l : List Variable) {v : Variable} {n k j i : ℕ} → VariableRead d l n v k → Notes d k j → Here d VARIABLE j i → (f : ℕ)
-      → repeat (suc f) (another d) l n ≡ repeat f (another d) (l ++ v ∷ []) j
-  unfolding repeat another capitals differ
+      → repeat (suc f) (anotherVariable d) l n ≡ repeat f (anotherVariable d) (l ++ v ∷ []) j
+  unfolding repeat anotherVariable capitals differ
   more-is l x s h f =
       rw (
         variable-is d l x,
@@ -138,12 +139,12 @@ module _ (d : List ℕ) where
       )
 
   onward : (l : List Variable) {v : Variable} {t : List Variable} {n k i m : ℕ} → VariableRead d l n v k → Fore (λ n. Variables d n t i) k
-      → (f : ℕ) → ((j : ℕ) → Variables d j t i → repeat f (another d) (l ++ v ∷ []) j ≡ Is ((l ++ v ∷ []) ++ t) m)
-      → repeat (suc f) (another d) l n ≡ Is (l ++ v ∷ t) m
+      → (f : ℕ) → ((j : ℕ) → Variables d j t i → repeat f (anotherVariable d) (l ++ v ∷ []) j ≡ Is ((l ++ v ∷ []) ++ t) m)
+      → repeat (suc f) (anotherVariable d) l n ≡ Is (l ++ v ∷ t) m
   onward l {v} {t} x (fore {k = j} s h u) f ih = more-is l x s h f ∙ (rw (append-assoc l (v ∷ []) t) at (ih j u))
 
   loop-is : {n k m : ℕ} {t : List Variable} → Variables d n t k → Statement d END k m → (l : List Variable) → Clean (variablesFaults l t)
-      → (f : ℕ) → Few f l → repeat f (another d) l n ≡ Is (l ++ t) m
+      → (f : ℕ) → Few f l → repeat f (anotherVariable d) l n ≡ Is (l ++ t) m
   unfolding variablesFaults
   loop-is x e l c zero h = absurd (omega arith)
   loop-is (grammar.one {v = v} x) e l c (suc f) h = last-is l (sound x (clean-left (variableFaults l v) [] c)) e f
@@ -153,28 +154,29 @@ module _ (d : List ℕ) where
       onward l y (variables-fore r) f (λ j u. loop-is u e (l ++ v ∷ []) z f (next-few l v (few l y) h))
 
   in-halted : {l : List Variable} {n : ℕ} {f : Fault} → Then (VariableStops d l n) (VariableRead d l n) (λ v n. NotesStops d n) f → (g : ℕ)
-      → repeat (suc g) (another d) l n ≡ Not f
-  unfolding repeat another
+      → repeat (suc g) (anotherVariable d) l n ≡ Not f
+  unfolding repeat anotherVariable
   in-halted {l} {n} (inside z) g = rw (variable-halted d l n z)
   in-halted {l} (behind {m = k} x z) g = rw (variable-is d l x, notes-halted d k z)
 
   later-is : (l : List Variable) {v : Variable} {n k j : ℕ} → VariableRead d l n v k → Noted d k j → NoWord d END j → (f : ℕ)
-      → repeat (suc f) (another d) l n ≡ repeat f (another d) (l ++ v ∷ []) j
-  unfolding repeat another capitals
+      → repeat (suc f) (anotherVariable d) l n ≡ repeat f (anotherVariable d) (l ++ v ∷ []) j
+  unfolding repeat anotherVariable capitals
   later-is l x s o f = rw (variable-is d l x, notes-is d s, word-not d {w = END} refl o)
 
-  loop-halted : {l : List Variable} {n : ℕ} {f : Fault} → VariablesStops d l n f → (g : ℕ) → Few g l → repeat g (another d) l n ≡ Not f
+  loop-halted : {l : List Variable} {n : ℕ} {f : Fault} → VariablesStops d l n f → (g : ℕ) → Few g l → repeat g (anotherVariable d) l n
+      ≡ Not f
   loop-halted z zero h = absurd (omega arith)
   loop-halted (refusal.in-variable z) (suc g) h = in-halted z g
   loop-halted {l} (refusal.VariablesStops.later {v = v} x s o z) (suc g) h =
       later-is l x s o g ∙ loop-halted z g (next-few l v (few l x) h)
 
-  pub variables-view : (n : ℕ) → View (AllRead [] n) (VariablesStops d [] n) (repeat 513 (another d) [] n)
+  pub variables-view : (n : ℕ) → View (AllRead [] n) (VariablesStops d [] n) (repeat 513 (anotherVariable d) [] n)
   variables-view n = loop-view 513 [] n (omega arith)
 
   pub variables-is : {n k m : ℕ} {l : List Variable} → Variables d n l k → Statement d END k m → Clean (variablesFaults [] l)
-      → repeat 513 (another d) [] n ≡ Is l m
+      → repeat 513 (anotherVariable d) [] n ≡ Is l m
   variables-is x e c = loop-is x e [] c 513 (omega arith)
 
-  pub variables-halted : (n : ℕ) {f : Fault} → VariablesStops d [] n f → repeat 513 (another d) [] n ≡ Not f
+  pub variables-halted : (n : ℕ) {f : Fault} → VariablesStops d [] n f → repeat 513 (anotherVariable d) [] n ≡ Not f
   variables-halted n z = loop-halted z 513 (omega arith)

@@ -24,7 +24,7 @@ use Rattle.tokens.specs.Gap.{left}
 use Rattle.tokens.specs.Token.{choiceOf}
 use Rattle.tokens.proofs.Aheads.{taken-less}
 use Rattle.statements.specs.rule.Words.{NOTE}
-use Rattle.survey.specs.rule.Survey.{Text}
+use Rattle.survey.specs.rule.Survey.{KeptText}
 use Rattle.reading.specs.rule.Result.{Result, Is, Not, Reader, bind, turn, repeat}
 use Rattle.reading.specs.rule.Token.{passed, onWord, gap, here, string}
 use Rattle.reading.specs.rule.Statement.{note, notes, statement, phrase}
@@ -50,7 +50,7 @@ module _ (d : List ℕ) where
   unfolding choiceOf left
   word-less n {m} x w e = let l = taken-less d (At n) x w {m = m} (rw e) in omega arith
 
-  pub string-rises : {n m : ℕ} {t : Text} → String d n t m → n ≤ m
+  pub string-rises : {n m : ℕ} {t : KeptText} → String d n t m → n ≤ m
   string-rises {n} (token.string {k = k} {p = p} {m = m} g e s) =
       let a = gap-ahead d (gap-there d g) in
       let b = ahead (string-ahead d (from-text d (p + 1)) Plain) (string-complete s) in
@@ -75,14 +75,14 @@ module _ (d : List ℕ) where
     by (At m) = refl
     by (Refused f) = refl
 
-  next-enough : {g p k j : ℕ} {t : Text} → length d - p < suc g → Here d NOTE p k → String d k t j → Enough g j
+  next-enough : {g p k j : ℕ} {t : KeptText} → length d - p < suc g → Here d NOTE p k → String d k t j → Enough g j
   next-enough {p = p} {k = k} {j = j} l h s q g′ =
       let a = word-less p {m = k} 78 (79 ∷ 84 ∷ 69 ∷ []) (word-at d note-capitals h) in
       let b = string-rises s in
       let c = gap-ahead d (gap-there d g′) in
       omega arith
 
-  one-more : {n k j m : ℕ} {t : Text} → Keyword d NOTE n k → String d k t j → Noted d j m → Noted d n m
+  one-more : {n k j m : ℕ} {t : KeptText} → Keyword d NOTE n k → String d k t j → Noted d j m → Noted d n m
   one-more w s (noted r o) = noted (token.note w s r) o
 
   abbrev Viewed : ℕ → Type 0
@@ -96,7 +96,7 @@ module _ (d : List ℕ) where
     by (reads {m = p} g) = let h = l p g in absurd (omega arith)
     by (halts z) = halts (in-gap z)
   loop-view (suc f) n l = by (gap-view d n) (loop-view f) where
-    texted : {p k : ℕ} → Viewed f → Gap d n p → Here d NOTE p k → {r : Result Text} → View (String d k) (StringStops d k) r
+    texted : {p k : ℕ} → Viewed f → Gap d n p → Here d NOTE p k → {r : Result KeptText} → View (String d k) (StringStops d k) r
         → View (only (Noted d n)) (NotesStops d n) (bind (bind r λ t k. bind (gap d k) λ a m. Is (Again tt) m) (turn (repeat f (note d))))
     texted {p} ih g h (reads {m = j} s) =
         rw (again-gap f j) (recast (λ u m. one-more (keyword g h) s) (λ f. later (keyword g h) s) (ih j (next-enough (l p g) h s)))
@@ -177,7 +177,7 @@ module _ (d : List ℕ) where
       unfolding statement
       statement-is (token.statement s h) = rw (notes-is (noted s (other-word d c note-capitals o h)), word-at d c h)
 
-      pub phrase-is : {n m : ℕ} {t : Text} → Phrase d w n t m → phrase d w n ≡ Is t m
+      pub phrase-is : {n m : ℕ} {t : KeptText} → Phrase d w n t m → phrase d w n ≡ Is t m
       unfolding phrase
       phrase-is (token.phrase s x) = rw (statement-is s) (string-is d x)
 

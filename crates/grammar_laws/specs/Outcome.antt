@@ -17,8 +17,9 @@ use Rattle.survey.specs.rule.Table.{tableOf}
 use Rattle.reading.specs.rule.Result.{Result}
 use Rattle.reading.specs.rule.Whole.{surveyOf}
 use Rattle.definition.specs.declared.Answer.{Answer}
-use Rattle.definition.specs.rule.Definition.{Outcome, Built, Refusal, fitting, namesOf, quoteAt, judgeNames, settled, outcomeOf, answerOf}
-use Rattle.definition.specs.rule.Definition.{tableAfter, DefinitionRead}
+use Rattle.definition.specs.rule.Definition.{SssOutcome, Built, Refusal, sssFitting, namesOf, quoteAt, judgeNames, sssSettled, sssOutcome}
+use Rattle.definition.specs.rule.Definition.{sssAnswer}
+use Rattle.definition.specs.rule.Definition.{sssTableAfter, SssRead}
 use Rattle.grammar.specs.Grammar.{Definition}
 use Rattle.grammar.specs.Faults.{faultsOf}
 use Rattle.grammar.specs.Refusal.{Sound, Stops}
@@ -39,7 +40,7 @@ module _ (d : List ℕ) where
     all-good : length (s .variables) ≤ wrongName s → NamesStand s
 
   module _ (n : ℕ) where
-    pub data Settles : Outcome → Type 0 where
+    pub data Settles : SssOutcome → Type 0 where
       too-long : 1048576 < length d → Settles (Refusal 1 0)
       stopped : {f : Fault} → length d ≤ 1048576 → Stops d f → Settles (Refusal (f .number) (f .place))
       misnamed : {s : Survey} {m : ℕ} → length d ≤ 1048576 → Says s m → s .heading .standard ≡ true → wrongName s < length (s .variables)
@@ -50,8 +51,8 @@ module _ (d : List ℕ) where
           → Settles (Built (s .variables))
 
     -- ---- what is answered is one of these
-    room-view : {s : Survey} {m : ℕ} → length d ≤ 1048576 → Says s m → NamesStand s → Settles (fitting n (s .variables))
-    unfolding fitting
+    room-view : {s : Survey} {m : ℕ} → length d ≤ 1048576 → Says s m → NamesStand s → Settles (sssFitting n (s .variables))
+    unfolding sssFitting
     room-view {s} h x w = by (ltb n (length (tableOf (s .variables)))) refl where
       by : (q : Bool) → ltb n (length (tableOf (s .variables))) ≡ q → Settles (cond q (Refusal 10 0) (Built (s .variables)))
       by true e = no-room h x w (ltb-true n (length (tableOf (s .variables))) e)
@@ -61,47 +62,48 @@ module _ (d : List ℕ) where
     unfolding judgeNames
     names-view s h x = by (s .heading .standard) (ltb (wrongName s) (length (s .variables))) refl refl where
       by : (p q : Bool) → s .heading .standard ≡ p → ltb (wrongName s) (length (s .variables)) ≡ q
-          → Settles (cond p (cond q (Refusal 9 (quoteAt (s .variables) (wrongName s))) (fitting n (s .variables))) (fitting n (s
+          → Settles (cond p (cond q (Refusal 9 (quoteAt (s .variables) (wrongName s))) (sssFitting n (s .variables))) (sssFitting n (s
           .variables)))
       by true true e f = misnamed h x e (ltb-true (wrongName s) (length (s .variables)) f)
       by true false e f = room-view h x (all-good (ltb-false (wrongName s) (length (s .variables)) f))
       by false q e f = room-view h x (not-asked e)
 
-    outcome-view : Settles (outcomeOf d n)
-    unfolding outcomeOf
+    outcome-view : Settles (sssOutcome d n)
+    unfolding sssOutcome
     outcome-view = by (ltb 1048576 (length d)) refl (survey-view d) where
-      on : length d ≤ 1048576 → {r : Result Survey} → View (Sound (Definition d) faultsOf) (Stops d) r → Settles (settled d n r)
+      on : length d ≤ 1048576 → {r : Result Survey} → View (Sound (Definition d) faultsOf) (Stops d) r → Settles (sssSettled d n r)
       on h (reads {a = s} x) = names-view s h x
       on h (halts z) = stopped h z
 
       by : (q : Bool) → ltb 1048576 (length d) ≡ q → View (Sound (Definition d) faultsOf) (Stops d) (surveyOf d)
-          → Settles (cond q (Refusal 1 0) (settled d n (surveyOf d)))
+          → Settles (cond q (Refusal 1 0) (sssSettled d n (surveyOf d)))
       by true e v = too-long (ltb-true 1048576 (length d) e)
       by false e v = on (ltb-false 1048576 (length d) e) v
 
     -- ---- and each of these settles what is answered
-    room-is : (l : List Variable) → length (tableOf l) ≤ n → fitting n l ≡ Built l
-    unfolding fitting
+    room-is : (l : List Variable) → length (tableOf l) ≤ n → sssFitting n l ≡ Built l
+    unfolding sssFitting
     room-is l h = rw (le-ltb n (length (tableOf l)) h)
 
-    short-is : (l : List Variable) → n < length (tableOf l) → fitting n l ≡ Refusal 10 0
-    unfolding fitting
+    short-is : (l : List Variable) → n < length (tableOf l) → sssFitting n l ≡ Refusal 10 0
+    unfolding sssFitting
     short-is l h = rw (lt-ltb n (length (tableOf l)) h)
 
-    names-is : (s : Survey) → NamesStand s → judgeNames d n (s .heading .standard) (s .variables) ≡ fitting n (s .variables)
+    names-is : (s : Survey) → NamesStand s → judgeNames d n (s .heading .standard) (s .variables) ≡ sssFitting n (s .variables)
     unfolding judgeNames
     names-is s (not-asked e) = rw e
     names-is s (all-good h) = rw (le-ltb (wrongName s) (length (s .variables)) h) (by (s .heading .standard)) where
-      by : (q : Bool) → cond q (fitting n (s .variables)) (fitting n (s .variables)) ≡ fitting n (s .variables)
+      by : (q : Bool) → cond q (sssFitting n (s .variables)) (sssFitting n (s .variables)) ≡ sssFitting n (s .variables)
       by true = refl
       by false = refl
 
-    derived-is : {s : Survey} {m : ℕ} → length d ≤ 1048576 → Says s m → outcomeOf d n ≡ judgeNames d n (s .heading .standard) (s .variables)
-    unfolding outcomeOf
+    derived-is : {s : Survey} {m : ℕ} → length d ≤ 1048576 → Says s m → sssOutcome d n
+        ≡ judgeNames d n (s .heading .standard) (s .variables)
+    unfolding sssOutcome
     derived-is h x = rw (le-ltb 1048576 (length d) h, survey-is d x)
 
-    settles-is : {o : Outcome} → Settles o → outcomeOf d n ≡ o
-    unfolding outcomeOf judgeNames
+    settles-is : {o : SssOutcome} → Settles o → sssOutcome d n ≡ o
+    unfolding sssOutcome judgeNames
     settles-is (too-long h) = rw (lt-ltb 1048576 (length d) h)
     settles-is (stopped h z) = rw (le-ltb 1048576 (length d) h, survey-halted d z)
     settles-is (misnamed {s = s} h x e l) = derived-is h x ∙ rw (e, lt-ltb (wrongName s) (length (s .variables)) l)
@@ -109,22 +111,22 @@ module _ (d : List ℕ) where
     settles-is (read {s = s} h x w l) = derived-is h x ∙ (names-is s w ∙ room-is (s .variables) l)
 
     -- THE OUTCOME EXACTLY
-    pub outcome-exactly : (o : Outcome) → (outcomeOf d n ≡ o) ↔ Settles o
+    pub outcome-exactly : (o : SssOutcome) → (sssOutcome d n ≡ o) ↔ Settles o
     outcome-exactly o = (λ e. rw e at outcome-view, settles-is)
 
 -- ---- THE CALL'S PROMISE, in the grammar's words: how the text and the lent table settle the outcome, the answer, and the table afterwards
 pub record Called (d : List ℕ) (t t′ : List ℤ) (a : Answer) : Type 0 where
-  pub outcome : Outcome
+  pub outcome : SssOutcome
   pub settles : Settles d (length t) outcome
-  pub says : a ≡ answerOf outcome
-  pub leaves : t′ ≡ tableAfter outcome t
+  pub says : a ≡ sssAnswer outcome
+  pub leaves : t′ ≡ sssTableAfter outcome t
 
-pub call-exactly : (d : List ℕ) (t t′ : List ℤ) (a : Answer) → DefinitionRead d t t′ a ↔ Called d t t′ a
+pub call-exactly : (d : List ℕ) (t t′ : List ℤ) (a : Answer) → SssRead d t t′ a ↔ Called d t t′ a
 call-exactly d t t′ a = (to, from) where
-  to : DefinitionRead d t t′ a → Called d t t′ a
-  to p = record { outcome = outcomeOf d (length t); settles = outcome-view d (length t); says = p .says; leaves = p .leaves }
+  to : SssRead d t t′ a → Called d t t′ a
+  to p = record { outcome = sssOutcome d (length t); settles = outcome-view d (length t); says = p .says; leaves = p .leaves }
 
-  from : Called d t t′ a → DefinitionRead d t t′ a
+  from : Called d t t′ a → SssRead d t t′ a
   from c =
       let e = settles-is d (length t) (c .settles) in
       record { says = rw (sym e) at (c .says); leaves = rw (sym e) at (c .leaves) }

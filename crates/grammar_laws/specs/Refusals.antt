@@ -12,7 +12,7 @@ use lib.ListN.{length, getD}
 use borrow.Author.Tests.{eqb-true, eqb-false, ltb-true, ltb-false}
 use Rattle.ascii.specs.rule.Class.{classOf}
 use Rattle.scan.specs.rule.Text.{Text, stop, sign, text, placeOf}
-use Rattle.scan.specs.rule.Number.{isValue, bytesOf}
+use Rattle.scan.specs.rule.Number.{isValue, runBytes}
 use Rattle.scan.proofs.Texts.{From, at-stop, at-sign, from-text, text-end, text-dropped, text-kept}
 use Rattle.tokens.specs.declared.Fault.{Fault}
 use Rattle.tokens.specs.declared.Reading.the-variants.{Refused}
@@ -31,7 +31,7 @@ use Rattle.reading.specs.rule.Least.{Charge, _when_}
 use Rattle.reading.specs.rule.Statement.{positionCharges, spreadCharges, sizeCharges}
 use Rattle.reading.specs.rule.Values.{rangeCharges, lineCharges}
 use Rattle.reading.specs.rule.Variable.{identCharges, Sort, Single, Multiple, Quantity, Character, Logical, room, variableOf}
-use Rattle.reading.specs.rule.Whole.{Entry, surveyOf}
+use Rattle.reading.specs.rule.Whole.{HeadingEntry, surveyOf}
 use Rattle.bridge.specs.Lowest.{never}
 use Rattle.grammar.specs.Token.{Gap}
 use Rattle.grammar.specs.Faults.{widthFaults}
@@ -109,7 +109,7 @@ module _ (d : List ℕ) where
     comment-bad : (p : ℕ) {o : ℕ} → text d p ≡ sign p 60 (text d (p + 1)) → Faulty d o 1 (p + 1) → Placed (fault 3 o)
     string-open : {p : ℕ} → text d p ≡ sign p 34 (text d (p + 1)) → StringOpen (text d (p + 1)) → Placed (fault 3 p)
     string-bad : (p : ℕ) {o : ℕ} → text d p ≡ sign p 34 (text d (p + 1)) → StringBad o (text d (p + 1)) → Placed (fault 3 o)
-    version-other : {p : ℕ} → (bytesOf isValue (text d p) ≡ [] → ⊥) → (bytesOf isValue (text d p) ≡ ONE-ONE → ⊥) → Placed (fault 4 p)
+    version-other : {p : ℕ} → (runBytes isValue (text d p) ≡ [] → ⊥) → (runBytes isValue (text d p) ≡ ONE-ONE → ⊥) → Placed (fault 4 p)
     judged-least : {f : Fault} (l : List Charge) → LeastOf l f → 4 < f .number → Placed f
 
   far : (f n : ℕ) {q : ℕ} → length d - n < f → text d n ≡ stop q → length d ≤ q
@@ -296,7 +296,8 @@ module _ (d : List ℕ) where
   variables-placed f (refusal.VariablesStops.later x s o z) = variables-placed f z
 
   -- ---- the heading
-  once-placed : {l : List Entry} {i n : ℕ} {S : Fault → Type 0} → Standing n → ((f : Fault) → S f → Placed f) → (f : Fault) → Once l i n S f
+  once-placed : {l : List HeadingEntry} {i n : ℕ} {S : Fault → Type 0} → Standing n → ((f : Fault) → S f → Placed f) → (f : Fault)
+      → Once l i n S f
       → Placed f
   once-placed s t f (second e) = due-here s
   once-placed s t f (first-time e z) = t f z
@@ -304,7 +305,7 @@ module _ (d : List ℕ) where
   texted-placed : (n : ℕ) (f : Fault) → TextedStops d n f → Placed f
   texted-placed n = each (string-placed n) λ t m s. notes-placed
 
-  item-placed : (l : List Entry) {n : ℕ} → Standing n → (f : Fault) → ItemStops d l n f → Placed f
+  item-placed : (l : List HeadingEntry) {n : ℕ} → Standing n → (f : Fault) → ItemStops d l n f → Placed f
   item-placed l s =
       or-placed (λ m. once-placed s (texted-placed m))
       (or-placed (λ m. once-placed s (texted-placed m))
@@ -312,11 +313,11 @@ module _ (d : List ℕ) where
       (or-placed (λ m. once-placed s (texted-placed m))
       (or-placed (λ m. once-placed s (each (word-placed NAMES m) λ u k x. notes-placed)) never-placed))))
 
-  items-placed : {l : List Entry} {n : ℕ} → Standing n → (f : Fault) → ItemsStops d l n f → Placed f
+  items-placed : {l : List HeadingEntry} {n : ℕ} → Standing n → (f : Fault) → ItemsStops d l n f → Placed f
   items-placed {l} s f (in-item z) = item-placed l s f z
   items-placed s f (refusal.ItemsStops.later x g r z) = items-placed (noted-standing r) f z
 
-  read-standing : {l k : List Entry} {n m : ℕ} → ItemsRead d l n k m → Standing m
+  read-standing : {l k : List HeadingEntry} {n m : ℕ} → ItemsRead d l n k m → Standing m
   read-standing (items x s z) = noted-standing s
 
   -- ---- the whole

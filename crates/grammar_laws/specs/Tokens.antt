@@ -11,7 +11,7 @@ use borrow.Author.Tests.{ne-eqb, eqb-true, eqb-false}
 use Rattle.ascii.specs.rule.Class.{classOf}
 use Rattle.scan.specs.rule.Text.{stop, sign, text}
 use Rattle.scan.specs.rule.Text as scan
-use Rattle.scan.specs.rule.Number.{isDigit, isValue, runOf, bytesOf}
+use Rattle.scan.specs.rule.Number.{isDigit, isValue, runOf, runBytes}
 use Rattle.scan.specs.rule.Word.{wordAt}
 use Rattle.scan.specs.Word.{capitals}
 use Rattle.scan.specs.declared.Word.{Word}
@@ -29,9 +29,9 @@ use Rattle.tokens.specs.declared.Reading.{Reading}
 use Rattle.tokens.specs.declared.Reading.the-variants.{At, Refused}
 use Rattle.tokens.specs.rule.Gap.{fault, gapAt}
 use Rattle.token_laws.specs.Gaps.{gap-exactly}
-use Rattle.survey.specs.rule.Survey.{Figure, Amount, Text}
+use Rattle.survey.specs.rule.Survey.{Figure, Amount, KeptText}
 use Rattle.reading.specs.rule.Result.{Result, Is, Not, Reader, bind, give}
-use Rattle.reading.specs.rule.Token.{amountOf, closed, quoted, letterIn, passed, onWord, gap, either, here, word, optional, whether}
+use Rattle.reading.specs.rule.Token.{amountRead, closed, quoted, letterIn, passed, onWord, gap, either, here, word, optional, whether}
 use Rattle.reading.specs.rule.Token.{figure, number, amount, value, string, letter}
 use Rattle.bridge.specs.Lowest.{never}
 use Rattle.grammar.specs.Token.{Gap, Here, NoWord, Keyword, keyword, Run, more, other, end, figureOf, Number, Value, String, Letter}
@@ -46,18 +46,18 @@ use Rattle.grammar_laws.specs.Places.{Stood, byte, gap-stood, gap-there}
 use Rattle.grammar_laws.specs.Places as places
 
 -- ---- runs: THE LONGEST, both ways
-pub run-there : {f : ℕ → Bool} {n m : ℕ} {t : scan.Text} {s : List ℕ} → Run f n t s m → (runOf f n t ≡ m) × (bytesOf f t ≡ s)
-unfolding runOf bytesOf
+pub run-there : {f : ℕ → Bool} {n m : ℕ} {t : scan.Text} {s : List ℕ} → Run f n t s m → (runOf f n t ≡ m) × (runBytes f t ≡ s)
+unfolding runOf runBytes
 run-there (more {b = b} e r) = let c = run-there r in (rw e (c .0), rw e (ap (λ (x : List ℕ). b ∷ x) (c .1)))
 run-there (other e) = (rw e, rw e)
 run-there end = (refl, refl)
 
-pub run-read : (f : ℕ → Bool) (n : ℕ) (t : scan.Text) → Run f n t (bytesOf f t) (runOf f n t)
-unfolding runOf bytesOf
+pub run-read : (f : ℕ → Bool) (n : ℕ) (t : scan.Text) → Run f n t (runBytes f t) (runOf f n t)
+unfolding runOf runBytes
 run-read f n (stop p) = end
 run-read f n (sign p b t) = by (f b) refl (run-read f (p + 1) t) where
-  by : (q : Bool) → f b ≡ q → Run f (p + 1) t (bytesOf f t) (runOf f (p + 1) t)
-      → Run f n (sign p b t) (cond q (b ∷ bytesOf f t) []) (cond q (runOf f (p + 1) t) n)
+  by : (q : Bool) → f b ≡ q → Run f (p + 1) t (runBytes f t) (runOf f (p + 1) t)
+      → Run f n (sign p b t) (cond q (b ∷ runBytes f t) []) (cond q (runOf f (p + 1) t) n)
   by true e r = more e r
   by false e r = other e
 
@@ -111,7 +111,7 @@ module _ (d : List ℕ) where
   -- ---- numbers
   pub number-view : (n : ℕ) → View (Number d n) (NumberStops d n) (number d n)
   unfolding figure
-  number-view n = then (gap-view n) (λ u m g. on m g (bytesOf isDigit (text d m)) (runOf isDigit m (text d m)) (run-read isDigit m (text d
+  number-view n = then (gap-view n) (λ u m g. on m g (runBytes isDigit (text d m)) (runOf isDigit m (text d m)) (run-read isDigit m (text d
       m))) where
         on : (m : ℕ) → Gap d n m → (s : List ℕ) (e : ℕ) → Run isDigit m (text d m) s e
             → View (Number d n) (Due (Run isDigit m (text d m) [] m) m) (cond (eqb (length s) 0) (Not (fault 2 m)) (Is (figureOf m e s) e))
@@ -131,9 +131,9 @@ module _ (d : List ℕ) where
   -- ---- values
   pub amount-view : (n : ℕ) → View (Value d n) (ValueStops d n) (amount d n)
   unfolding amount
-  amount-view n = on (bytesOf isValue (text d n)) (runOf isValue n (text d n)) (run-read isValue n (text d n)) where
+  amount-view n = on (runBytes isValue (text d n)) (runOf isValue n (text d n)) (run-read isValue n (text d n)) where
     on : (s : List ℕ) (e : ℕ) → Run isValue n (text d n) s e
-        → View (Value d n) (ValueStops d n) (cond (eqb (length s) 0) (Not (fault 2 n)) (Is (amountOf n e s) e))
+        → View (Value d n) (ValueStops d n) (cond (eqb (length s) 0) (Not (fault 2 n)) (Is (amountRead n e s) e))
     on [] e r = let q = run-none r in halts (due (rw q at r))
     on (b ∷ s) e r = rw (some-bytes b s) (reads (token.value r))
 
@@ -176,7 +176,7 @@ module _ (d : List ℕ) where
     stood m g (byte {b = b} e f h) = rw e (first m b g e (eqb b 34) refl)
     stood m g (places.end e) = rw e (halts (refusal.other (λ p q. let h = sym e ∙ q in never cc)))
 
-  pub string-is : {n m : ℕ} {t : Text} → String d n t m → string d n ≡ Is t m
+  pub string-is : {n m : ℕ} {t : KeptText} → String d n t m → string d n ≡ Is t m
   unfolding quoted
   string-is (token.string g e s) = rw (gap-there d g, e, string-complete s)
 

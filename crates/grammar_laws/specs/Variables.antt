@@ -7,7 +7,7 @@ use Prim.Native.Nat.{ℕ}
 use Rattle.scan.specs.Word.{capitals}
 use Rattle.tokens.specs.declared.Fault.{Fault}
 use Rattle.statements.specs.rule.Words.{NAME, LABEL, SPREAD, VALUES, VARIABLE, END}
-use Rattle.survey.specs.rule.Survey.{Figure, Text, Block, Content, single, multiple, quantity, character, logical, Variable}
+use Rattle.survey.specs.rule.Survey.{Figure, KeptText, Block, Content, single, multiple, quantity, character, logical, Variable}
 use Rattle.survey.specs.rule.Survey as says
 use Rattle.survey.specs.rule.Table.{linesAll}
 use Rattle.reading.specs.rule.Result.{Result, Is, Not, bind}
@@ -158,7 +158,7 @@ module _ (d : List ℕ) where
     abbrev before : ℕ
     before = linesAll earlier
 
-    variable-of : {n b c e g h i j m : ℕ} {x : Figure} {name label : Text} {t : Sort} {p : rule.Position} {r : Content}
+    variable-of : {n b c e g h i j m : ℕ} {x : Figure} {name label : KeptText} {t : Sort} {p : rule.Position} {r : Content}
         → IdentRead d earlier n x b → Phrase d NAME b name c → Phrase d LABEL c label e → TypeRead d e t g → PositionRead d g p h
         → RestRead d (room p) before t h r i → Statement d END i j → Keyword d VARIABLE j m
         → Clean (widthFaults (variableOf x name label p r))

@@ -12,12 +12,12 @@ use Rattle.tokens.specs.declared.Fault.{Fault}
 use Rattle.tokens.specs.declared.Reading.the-variants.{At, Refused}
 use Rattle.token_laws.specs.Opening.{Opens, one-one, sss, version, opening-exactly}
 use Rattle.statements.specs.rule.Words.{SURVEY, TITLE, RECORD, SSS, END}
-use Rattle.survey.specs.rule.Survey.{Text, Variable, Heading, Survey}
+use Rattle.survey.specs.rule.Survey.{KeptText, Variable, Heading, Survey}
 use Rattle.reading.specs.rule.Result.{Result, Is, Not, Reader, bind, repeat}
 use Rattle.reading.specs.rule.Token.{either, letter}
 use Rattle.reading.specs.rule.Opening as rule
 use Rattle.reading.specs.rule.Statement.{notes, statement}
-use Rattle.reading.specs.rule.Whole.{Entry, heading, texted, entered, another, front, ends, survey, surveyOf}
+use Rattle.reading.specs.rule.Whole.{HeadingEntry, heading, texted, headingEntered, anotherVariable, front, ends, survey, surveyOf}
 use Rattle.bridge.specs.Lowest.{never}
 use Rattle.bridge.specs.Tokens.{toReading}
 use Rattle.bridge.specs.Openings.{opening-on}
@@ -75,7 +75,7 @@ module _ (d : List ℕ) where
     by (Not g) e = let q : g ≡ f = cc in rw q
 
   -- ---- optional TITLE
-  abbrev titleOr : Reader (Option Text)
+  abbrev titleOr : Reader (Option KeptText)
   titleOr = either d TITLE (texted d) (λ m. Is none m)
 
   title-view : (n : ℕ) → View (TitleRead d n) (Or d TITLE n (StringStops d) Never) (titleOr n)
@@ -84,7 +84,7 @@ module _ (d : List ℕ) where
       either-view d {w = TITLE} refl n _ _ (λ m h. mapped some (string-view d m) (λ t k s. refusal.TitleRead.given h s)) (λ o. reads
       (refusal.untitled o))
 
-  title-read-is : (n : ℕ) {t : Option Text} {m : ℕ} → TitleRead d n t m → titleOr n ≡ Is t m
+  title-read-is : (n : ℕ) {t : Option KeptText} {m : ℕ} → TitleRead d n t m → titleOr n ≡ Is t m
   unfolding capitals
   title-read-is n (refusal.TitleRead.given h s) = rw (word-at d {w = TITLE} refl h, string-is d s)
   title-read-is n (refusal.untitled o) = rw (word-not d {w = TITLE} refl o)
@@ -94,7 +94,7 @@ module _ (d : List ℕ) where
   title-halted n = either-halted d {w = TITLE} refl n _ _ (λ m f z. rw (string-halted d m z)) (λ f z. absurd z)
 
   -- TITLE or none, and RECORD behind it
-  titled-is : {A : Type 0} {n k m : ℕ} {t : Option Text} (K : Option Text → Reader A) → Title d n t k → Statement d RECORD k m
+  titled-is : {A : Type 0} {n k m : ℕ} {t : Option KeptText} (K : Option KeptText → Reader A) → Title d n t k → Statement d RECORD k m
       → bind (notes d n) (λ u n. bind (titleOr n) λ t n. bind (statement d RECORD n) λ u. K t) ≡ K t m
   unfolding capitals differ
   titled-is K (grammar.title (token.phrase (token.statement s h) x)) r =
@@ -112,12 +112,14 @@ module _ (d : List ℕ) where
       )
 
   -- ---- up to the letter
-  titled : {c k e f g : ℕ} {t : Option Text} {a b : ℕ} {l : List Entry} {x : ℕ} → Opening d a → Items d [] a l b → Statement d SURVEY b c
+  titled : {c k e f g : ℕ} {t : Option KeptText} {a b : ℕ} {l : List HeadingEntry} {x : ℕ} → Opening d a → Items d [] a l b
+      → Statement d SURVEY b c
       → Notes d c k → TitleRead d k t e → Statement d RECORD e f → Letter d f x g → FrontRead d (heading l t x) g
   titled o i v r (refusal.TitleRead.given h s) z w = refusal.front o i v (grammar.title (token.phrase (token.statement r h) s)) z w
   titled o i v r (refusal.untitled h) z w = refusal.front o i v grammar.untitled (statement-back d r z) w
 
-  front-of : {a m c k e f g : ℕ} {t : Option Text} {l : List Entry} {x : ℕ} → Opening d a → ItemsRead d [] a l m → Here d SURVEY m c
+  front-of : {a m c k e f g : ℕ} {t : Option KeptText} {l : List HeadingEntry} {x : ℕ} → Opening d a → ItemsRead d [] a l m
+      → Here d SURVEY m c
       → Noted d c k → TitleRead d k t e → Statement d RECORD e f → Letter d f x g → FrontRead d (heading l t x) g
   front-of o (items i (noted s z) n) h (noted r y) t v w = titled o i (token.statement s h) r t v w
 
@@ -140,7 +142,7 @@ module _ (d : List ℕ) where
   unfolding front capitals
   front-is (refusal.front {a = a} {c = c} {l = l} o i (token.statement s h) t r w) =
       rw (opening-is o)
-      (sym (assoc (notes d a) (λ u. repeat (suc (length d)) (entered d) []) _)
+      (sym (assoc (notes d a) (λ u. repeat (suc (length d)) (headingEntered d) []) _)
       ∙ (rw (items-is d i s h, here-is d {w = SURVEY} refl h) (titled-is (λ t n. bind (letter d n) λ b m. Is (heading l t b) m) t r ∙ rw
       (letter-is d w))))
 
@@ -209,7 +211,7 @@ module _ (d : List ℕ) where
       then (recast (λ l m. variables-read) (λ f z. z) (variables-view d a)) λ l b y.
       mapped (λ u. surveyFrom h l) (ends-view b) (λ u m z. whole-of x y z)
 
-  variables-read-is : {n m : ℕ} {l : List Variable} → VariablesRead d n l m → repeat 513 (another d) [] n ≡ Is l m
+  variables-read-is : {n m : ℕ} {l : List Variable} → VariablesRead d n l m → repeat 513 (anotherVariable d) [] n ≡ Is l m
   variables-read-is (variables x e c) = variables-is d x e c
 
   pub survey-is : {s : Survey} {m : ℕ} → Sound (Definition d) faultsOf s m → surveyOf d ≡ Is s m

@@ -26,14 +26,15 @@ use Rattle.records.specs.rule.Verdict.{verdictOf, sound}
 use Rattle.read_laws.specs.Refused.{sound-passes}
 use Rattle.normal_laws.specs.Turns.{held-value}
 use Rattle.files.specs.rule.File.{soundWith, fileVerdict}
-use Rattle.file_laws.specs.rule.Files.{before, AllSound, none-yet, one-more}
+use Rattle.file_laws.specs.rule.Files.{recordsBefore, AllSound, none-yet, one-more}
 use Rattle.commas.specs.rule.Csv.{each}
-use Rattle.csv_fields.specs.rule.Page.{Page, torn, start, fresh, page, atEnd, Lines, done, broken, line, linesOf}
+use Rattle.csv_fields.specs.rule.Page.{Page, torn, start, fresh, page, pageAtEnd, Lines, done, broken, line, pageLines}
 use Rattle.csv_fields.specs.Page.{start-fresh}
 use Rattle.csv_laws.specs.rule.Grammar.{IsText, allOf}
 use Rattle.csv_laws.specs.Complete.{text-read-fresh}
 use Rattle.csv_laws.specs.Sound.{text-exactly}
-use Rattle.value_fields.specs.rule.Values.{valueText, fieldText, decimalsOf, rowField}
+use Rattle.value_fields.specs.rule.Values.{exportValue, exportField, rowField}
+use Rattle.widths.specs.rule.Width.{decimalsOf}
 use Rattle.record_lines.specs.rule.Lines as rows
 use Rattle.field_values.specs.rule.Value.{Left, IsValue}
 use Rattle.field_values.specs.rule.Read.{valueFrom}
@@ -42,7 +43,8 @@ use Rattle.name_line.specs.rule.Names.{nameLine}
 use Rattle.name_line.specs.Names.{nameAt}
 use Rattle.exports.specs.rule.Text.{exportLines}
 use Rattle.import_rule.specs.rule.Line.{LineSays, builds, faulty, onField, recordFrom, lineSays}
-use Rattle.import_rule.specs.rule.Text.{TextSays, accepts, refuses, andRecord, onLine, linesSay, sameBytes, differAt, namesThen, namesSay}
+use Rattle.import_rule.specs.rule.Text.{TextSays, accepts, refuses, andRecord, afterLine, linesSay, sameBytes, differAt, namesThen}
+use Rattle.import_rule.specs.rule.Text.{namesSay}
 use Rattle.import_rule.specs.rule.Text.{textSays, fileBytes}
 use Rattle.imports.specs.rule.Import.{importSays}
 use Rattle.import_laws.specs.rule.Exported.{FieldsLeft, no-field, and-field, LinesLeft, no-line, and-line, TextLeft, and-names}
@@ -92,13 +94,13 @@ record Lined (t : List ℤ) (ls : Lines) (rs : List (List ℕ)) : Type 0 where
   pub all : AllBuilt t fields rs
 
 lined : (t : List ℤ) (n : ℕ) (ls : Lines) (rs : List (List ℕ)) → linesSay t n ls ≡ accepts rs → Lined t ls rs
-unfolding linesSay onLine andRecord allOf
+unfolding linesSay afterLine andRecord allOf
 lined t n done [] e = record { fields = []; are = refl; all = none-built }
 lined t n done (r ∷ rs) e = let z : _≡_ {A = ℕ} 0 1 = cc in absurd (omega arith)
 lined t n (broken c) rs e = no-accepts e
 lined t n (line fs ls) rs e = go (lineSays t fs) refl (linesSay t (n + 1) ls) refl e (λ us w. lined t (n + 1) ls us w)
   where
-    go : (x : LineSays) → lineSays t fs ≡ x → (y : TextSays) → linesSay t (n + 1) ls ≡ y → onLine n x y ≡ accepts rs
+    go : (x : LineSays) → lineSays t fs ≡ x → (y : TextSays) → linesSay t (n + 1) ls ≡ y → afterLine n x y ≡ accepts rs
         → ((us : List (List ℕ)) → linesSay t (n + 1) ls ≡ accepts us → Lined t ls us) → Lined t (line fs ls) rs
     go (faulty k c) p y q w rec = no-accepts w
     go (builds r) p (refuses k m c) q w rec = no-accepts w
@@ -113,16 +115,16 @@ record Texted (t : List ℤ) (names : List (List ℕ)) (s : List ℕ) (rs : List
   pub spelt : IsText (names ∷ fields) s
   pub all : AllBuilt t fields rs
 
-not-empty : (s : List ℕ) {fs : List (List ℕ)} {ls : Lines} → linesOf (page fresh s) ≡ line fs ls → 0 < length s
-unfolding page atEnd linesOf
+not-empty : (s : List ℕ) {fs : List (List ℕ)} {ls : Lines} → pageLines (page fresh s) ≡ line fs ls → 0 < length s
+unfolding page pageAtEnd pageLines
 not-empty [] e = let z : _≡_ {A = ℕ} 0 1 = cc in absurd (omega arith)
 not-empty (b ∷ s) e = omega arith
 
 texted : (t : List ℤ) (names : List (List ℕ)) (s : List ℕ) (rs : List (List ℕ)) → textSays t names s ≡ accepts rs → Texted t names s rs
 unfolding textSays namesSay namesThen allOf
-texted t names s rs e = go (linesOf (page fresh s)) refl e
+texted t names s rs e = go (pageLines (page fresh s)) refl e
   where
-    go : (x : Lines) → linesOf (page fresh s) ≡ x → namesSay t names x ≡ accepts rs → Texted t names s rs
+    go : (x : Lines) → pageLines (page fresh s) ≡ x → namesSay t names x ≡ accepts rs → Texted t names s rs
     go done p w = no-accepts w
     go (broken c) p w = no-accepts w
     go (line fs ls) p w = by (eqb (differAt 1 names fs) 0) refl w
@@ -133,7 +135,7 @@ texted t names s rs e = go (linesOf (page fresh s)) refl e
         by true q k =
             let l = lined t 2 ls rs k in
             let n : names ≡ fs = differ-none 1 names fs (omega arith) (eqb-true (differAt 1 names fs) 0 q) in
-            let h : linesOf (page start s) ≡ allOf (names ∷ l .fields) = ap linesOf (start-fresh s 0 (not-empty s p)) ∙ p
+            let h : pageLines (page start s) ≡ allOf (names ∷ l .fields) = ap pageLines (start-fresh s 0 (not-empty s p)) ∙ p
             ∙ ap (line fs) (l .are) ∙ ap (λ (x : List (List ℕ)). line x (allOf (l .fields))) (sym n) in
             record { fields = l .fields; spelt = text-exactly s (names ∷ l .fields) .0 h; all = l .all }
 
@@ -154,8 +156,8 @@ module _ {t : List ℤ} (g : Table t) where
   line-left fs r e = let a = line-again g fs r e in rw (← (a .many)) (fields-left (all-left (a .reads)))
 
   lines-left : {fs : List (List (List ℕ))} {rs : List (List ℕ)} → AllBuilt t fs rs
-      → LinesLeft t (rows.linesOf t (length rs) (before rs over)) fs
-  unfolding rows.linesOf before
+      → LinesLeft t (rows.recordsLines t (length rs) (recordsBefore rs over)) fs
+  unfolding rows.recordsLines recordsBefore
   lines-left none-built = no-line
   lines-left (one-built {fs = fs} {r = r} e k) = and-line (line-left fs r e) (lines-left k)
 
@@ -165,7 +167,8 @@ module _ {t : List ℤ} (g : Table t) where
 
   -- EXPORTING WHAT WAS IMPORTED: the file that was built is sound, and its export is the text again, needless quotes and cut zeros aside
   pub import-again : (def s : List ℕ) (rs : List (List ℕ)) → importSays def t s ≡ accepts rs
-      → (fileVerdict t (fileBytes rs) ≡ soundWith (length rs)) × (recordsOf (fileBytes rs) ≡ before rs over) × AllSound t (lengthOf t) rs
+      → (fileVerdict t (fileBytes rs) ≡ soundWith (length rs)) × (recordsOf (fileBytes rs) ≡ recordsBefore rs over)
+      × AllSound t (lengthOf t) rs
       × IsExport def t (fileBytes rs) s
   unfolding importSays nameLine
   import-again def s rs e =
@@ -187,7 +190,7 @@ module _ {t : List ℤ} (g : Table t) where
   left-value : (r : List ℕ) (i : ℕ) (f : List ℕ) (x : Value) → readingAt t i r ≡ holds x
       → Left (decimalsOf (rowAt t i .kind)) (rowField t r i) f
       → IsValue t (rowsOf t) (rowAt t i) f x
-  unfolding rowField fieldText
+  unfolding rowField exportField
   left-value r i f x e l = record { accepted = read-fits t (rowsOf t) (rowAt t i) x r e; written = rw e at l }
 
   record Some (says : LineSays) : Type 0 where
@@ -227,8 +230,8 @@ module _ {t : List ℤ} (g : Table t) where
     pub is : says ≡ accepts records
 
   lines-taken : {first : ℕ} (rs : List (List ℕ)) → AllSound t first rs → (ms : List (List (List ℕ))) (k : ℕ)
-      → LinesLeft t (rows.linesOf t (length rs) (before rs over)) ms → Taken (linesSay t k (allOf ms))
-  unfolding rows.linesOf before allOf linesSay onLine andRecord
+      → LinesLeft t (rows.recordsLines t (length rs) (recordsBefore rs over)) ms → Taken (linesSay t k (allOf ms))
+  unfolding rows.recordsLines recordsBefore allOf linesSay afterLine andRecord
   lines-taken [] a [] k no-line = record { records = []; is = refl }
   lines-taken (r ∷ rs) (one-more l q a) (fs ∷ ms) k (and-line x y) =
       let b = line-some r q fs x in

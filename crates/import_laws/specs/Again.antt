@@ -18,7 +18,8 @@ use Rattle.sound.specs.rule.Rows.{rowsOf, lengthOf}
 use Rattle.sound.specs.Rows.{row-facts}
 use Rattle.records.specs.rule.Value.{readingAt}
 use Rattle.laws.specs.Tops.{row-topped}
-use Rattle.value_fields.specs.rule.Values.{valueText, fieldText, decimalsOf, rowField}
+use Rattle.value_fields.specs.rule.Values.{exportValue, exportField, rowField}
+use Rattle.widths.specs.rule.Width.{decimalsOf}
 use Rattle.field_values.specs.rule.Value.{Left, IsValue}
 use Rattle.field_values.specs.rule.Read.{valueFrom}
 use Rattle.field_values.specs.Exactly.{value-exactly}
@@ -40,7 +41,7 @@ pub data AllLeft (t : List ℤ) (s : List ℕ) : ℕ → List (List ℕ) → Typ
 
 left-of : (t : List ℤ) (s : List ℕ) (i : ℕ) (f : List ℕ) (x : Value) → readingAt t i s ≡ holds x → IsValue t (rowsOf t) (rowAt t i) f x
     → Left (decimalsOf (rowAt t i .kind)) (rowField t s i) f
-unfolding rowField fieldText
+unfolding rowField exportField
 left-of t s i f x e k = rw e (k .written)
 
 pub all-left : {t : List ℤ} {s : List ℕ} {i : ℕ} {fs : List (List ℕ)} → AllRead t s i fs → AllLeft t s i fs

@@ -30,7 +30,8 @@ use Rattle.sharing.specs.Claims.{by-cases}
 use Rattle.sharing.specs.Pairs.{apart-rows, apart-turn, apart-is, is-apart}
 use Rattle.normal_laws.specs.Turns.{held-value}
 use Rattle.commas.specs.rule.Csv.{each}
-use Rattle.value_fields.specs.rule.Values.{valueText, fieldText, decimalsOf, rowField}
+use Rattle.value_fields.specs.rule.Values.{exportValue, exportField, rowField}
+use Rattle.widths.specs.rule.Width.{decimalsOf}
 use Rattle.record_lines.specs.rule.Lines.{recordLine}
 use Rattle.field_values.specs.rule.Value.{Left, whole, IsValue}
 use Rattle.field_values.specs.rule.Read.{valueFrom}
@@ -46,10 +47,10 @@ field-taken t g i h f x k = value-exactly (row-facts t (g .formed) i h) f x .1 k
 -- the field that export writes for a row is the row's value
 pub own-field : (t : List ℤ) (r : List ℕ) (i : ℕ) (x : Value) → readingAt t i r ≡ holds x
     → IsValue t (rowsOf t) (rowAt t i) (rowField t r i) x
-unfolding rowField fieldText
+unfolding rowField exportField
 own-field t r i x e = record {
   accepted = read-fits t (rowsOf t) (rowAt t i) x r e;
-  written = whole (sym (ap (fieldText (decimalsOf (rowAt t i .kind))) e));
+  written = whole (sym (ap (exportField (decimalsOf (rowAt t i .kind))) e));
 }
 
 module _ {t : List ℤ} (g : Table t) where

@@ -19,14 +19,15 @@ use Rattle.sound.specs.Rows.{row-facts}
 use Rattle.sharing.specs.rule.Sharing.{sharesNone}
 use Rattle.kinds.specs.rule.Against.{yields}
 use Rattle.below.specs.Below.{holds-not}
-use Rattle.csv_fields.specs.rule.Page.{fresh, page, Lines, done, broken, line, linesOf}
+use Rattle.csv_fields.specs.rule.Page.{fresh, page, Lines, done, broken, line, pageLines}
 use Rattle.field_values.specs.rule.Read.{valueFrom}
 use Rattle.field_values.specs.Exactly.{value-exactly, value-none}
 use Rattle.import_rule.specs.rule.Line.{LineSays, builds, faulty, onField, recordFrom, lineSays}
-use Rattle.import_rule.specs.rule.Text.{TextSays, accepts, refuses, andRecord, onLine, linesSay, sameBytes, differAt, namesThen, namesSay}
+use Rattle.import_rule.specs.rule.Text.{TextSays, accepts, refuses, andRecord, afterLine, linesSay, sameBytes, differAt, namesThen}
+use Rattle.import_rule.specs.rule.Text.{namesSay}
 use Rattle.import_rule.specs.rule.Text.{textSays, fileBytes, dataOf}
-use Rattle.imports.specs.rule.Import.{ImportVerdict, refused, written, roomed, importSays, importVerdict, outputAfter, Imported}
-use Rattle.import_laws.specs.rule.Exactly.{Written, all-written, one-written, no-value, LineOutcome, other-count, its-fields}
+use Rattle.imports.specs.rule.Import.{ImportVerdict, refused, written, roomed, importSays, importVerdict, importAfter, Imported}
+use Rattle.import_laws.specs.rule.Exactly.{LineWritten, all-written, one-written, no-value, LineOutcome, other-count, its-fields}
 use Rattle.import_laws.specs.rule.Exactly.{LinesOutcome, no-line, malformed, refused-line, built-line, later-line}
 use Rattle.import_laws.specs.rule.Exactly.{FirstOther, more-fields, more-names, here, later, TextOutcome, no-names, torn-names}
 use Rattle.import_laws.specs.rule.Exactly.{other-names, same-names}
@@ -41,18 +42,20 @@ import-one a b = (a .says ∙ sym (b .says), a .leaves ∙ sym (b .leaves))
 
 -- ---- a line
 module _ (t : List ℤ) (g : wellFormed t ≡ true) where
-  fields-named : (fs : List (List ℕ)) (i : ℕ) (s : List ℕ) → i + length fs ≤ rowsOf t → Written t i fs s (recordFrom t (rowsOf t) i fs s)
+  fields-named : (fs : List (List ℕ)) (i : ℕ) (s : List ℕ) → i + length fs ≤ rowsOf t
+      → LineWritten t i fs s (recordFrom t (rowsOf t) i fs s)
   unfolding recordFrom onField
   fields-named [] i s h = all-written
   fields-named (f ∷ fs) i s h = go (valueFrom t (rowsOf t) (rowAt t i) f) refl (λ u. fields-named fs (i + 1) u (omega arith))
     where
       go : (y : Field) → valueFrom t (rowsOf t) (rowAt t i) f ≡ y
-          → ((u : List ℕ) → Written t (i + 1) fs u (recordFrom t (rowsOf t) (i + 1) fs u))
-          → Written t i (f ∷ fs) s (onField y (λ x. recordFrom t (rowsOf t) (i + 1) fs (writtenOf t (rowsOf t) (rowAt t i) x s)) (i + 1))
+          → ((u : List ℕ) → LineWritten t (i + 1) fs u (recordFrom t (rowsOf t) (i + 1) fs u))
+          → LineWritten t i (f ∷ fs) s (onField y (λ x. recordFrom t (rowsOf t) (i + 1) fs (writtenOf t (rowsOf t) (rowAt t i) x s))
+          (i + 1))
       go (holds x) e k = one-written x (value-exactly (row-facts t g i (omega arith)) f x .0 e) (k (writtenOf t (rowsOf t) (rowAt t i) x s))
       go illegal e k = no-value (value-none (row-facts t g i (omega arith)) f .0 e)
 
-  fields-only : {i : ℕ} {fs : List (List ℕ)} {s : List ℕ} {u : LineSays} → i + length fs ≤ rowsOf t → Written t i fs s u
+  fields-only : {i : ℕ} {fs : List (List ℕ)} {s : List ℕ} {u : LineSays} → i + length fs ≤ rowsOf t → LineWritten t i fs s u
       → recordFrom t (rowsOf t) i fs s ≡ u
   unfolding recordFrom onField
   fields-only h all-written = refl
@@ -77,18 +80,19 @@ module _ (t : List ℤ) (g : wellFormed t ≡ true) where
 
   -- ---- the lines
   pub lines-named : (n : ℕ) (ls : Lines) → LinesOutcome t n ls (linesSay t n ls)
-  unfolding linesSay onLine andRecord
+  unfolding linesSay afterLine andRecord
   lines-named n done = no-line
   lines-named n (broken c) = malformed
   lines-named n (line fs ls) = go (lineSays t fs) (line-named fs) (linesSay t (n + 1) ls) (lines-named (n + 1) ls)
     where
-      go : (x : LineSays) → LineOutcome t fs x → (y : TextSays) → LinesOutcome t (n + 1) ls y → LinesOutcome t n (line fs ls) (onLine n x y)
+      go : (x : LineSays) → LineOutcome t fs x → (y : TextSays) → LinesOutcome t (n + 1) ls y
+          → LinesOutcome t n (line fs ls) (afterLine n x y)
       go (builds r) a (accepts rs) b = built-line a b
       go (builds r) a (refuses k m c) b = later-line a b
       go (faulty k c) a y b = refused-line a
 
   pub lines-only : {n : ℕ} {ls : Lines} {x : TextSays} → LinesOutcome t n ls x → linesSay t n ls ≡ x
-  unfolding linesSay onLine andRecord
+  unfolding linesSay afterLine andRecord
   lines-only no-line = refl
   lines-only malformed = refl
   lines-only (refused-line a) = rw (line-only a)
@@ -133,9 +137,9 @@ first-named c (m ∷ ms) (f ∷ fs) n = go (sameBytes m f) refl n (λ w. first-n
     go false e w k = here (λ x. holds-not (same-of m f x) e)
 
 module _ (t : List ℤ) (g : wellFormed t ≡ true) (names : List (List ℕ)) where
-  pub text-named : (s : List ℕ) → TextOutcome t names (linesOf (page fresh s)) (textSays t names s)
+  pub text-named : (s : List ℕ) → TextOutcome t names (pageLines (page fresh s)) (textSays t names s)
   unfolding textSays namesSay namesThen
-  text-named s = go (linesOf (page fresh s))
+  text-named s = go (pageLines (page fresh s))
     where
       by : (fs : List (List ℕ)) (ls : Lines) (b : Bool) → eqb (differAt 1 names fs) 0 ≡ b
           → TextOutcome t names (line fs ls) (cond b (linesSay t 2 ls) (refuses 62 1 (differAt 1 names fs)))
@@ -154,7 +158,7 @@ module _ (t : List ℤ) (g : wellFormed t ≡ true) (names : List (List ℕ)) wh
   outcome-only (other-names {c = c} {fs = fs} o) = rw (first-only o, ne-eqb c 0 (λ e. omega (arith, e, first-some o (omega arith))))
   outcome-only (same-names {fs = fs} e o) = rw (e, none-differ 1 fs) (lines-only t g o)
 
-  pub text-only : (s : List ℕ) {x : TextSays} → TextOutcome t names (linesOf (page fresh s)) x → textSays t names s ≡ x
+  pub text-only : (s : List ℕ) {x : TextSays} → TextOutcome t names (pageLines (page fresh s)) x → textSays t names s ≡ x
   unfolding textSays
   text-only s o = outcome-only o
 
@@ -193,16 +197,16 @@ module _ (def : List ℕ) (t : List ℤ) (s : List ℕ) (room : ℕ) where
 
 -- ---- THE OUTPUT: kept whole by a refusal; else the data, and behind them what stood there
 pub import-kept : {def : List ℕ} {t : List ℤ} {s out out′ : List ℕ} {k n c : ℕ} → Imported def t s out out′ (refused k n c) → out′ ≡ out
-unfolding outputAfter
-import-kept {def} {t} {s} {out} a = a .leaves ∙ ap (λ v. outputAfter v (dataOf (importSays def t s)) out) (sym (a .says))
+unfolding importAfter
+import-kept {def} {t} {s} {out} a = a .leaves ∙ ap (λ v. importAfter v (dataOf (importSays def t s)) out) (sym (a .says))
 
 module _ {def : List ℕ} {t : List ℤ} {s out out′ : List ℕ} {n m : ℕ} (a : Imported def t s out out′ (written n m)) where
   abbrev built : List ℕ
   built = dataOf (importSays def t s)
 
   whole : out′ ≡ built ++ drop (length built) out
-  unfolding outputAfter
-  whole = a .leaves ∙ ap (λ w. outputAfter w built out) (sym (a .says))
+  unfolding importAfter
+  whole = a .leaves ∙ ap (λ w. importAfter w built out) (sym (a .says))
 
   pub import-stands : take (length built) out′ ≡ built
   import-stands = ap (take (length built)) whole ∙ take-append-seam built (drop (length built) out)

@@ -12,8 +12,8 @@ use lib.IntN.{ℤ}
 use lib.ListN.{length, getD, set}
 use Rattle.below.specs.Below.{lt-or-le}
 use Rattle.places.specs.rule.Places.{put}
-use Rattle.cuts.specs.rule.Cut.{pair, beginsWith, terminatorAt, terminatorOf, wholeAt, beginsAt}
-use Rattle.cuts.specs.rule.Records.{Records, over, record-and, atEnd, cut, recordsOf}
+use Rattle.cuts.specs.rule.Cut.{twoBytes, beginsWith, terminatorAt, terminatorOf, wholeAt, beginsAt}
+use Rattle.cuts.specs.rule.Records.{Records, over, record-and, atEnd, cut, recordsOf, lengthOfFirst}
 use Rattle.layout.specs.rule.Row.{rowAt}
 use Rattle.fields.specs.rule.Field.{Value, Field, holds, illegal, spaces}
 use Rattle.fields.specs.rule.Row.{placesOf, bytesOf, writtenOf}
@@ -26,7 +26,7 @@ use Rattle.records.specs.rule.Verdict.{verdictOf, sound}
 use Rattle.read_laws.specs.Refused.{passes-sound}
 use Rattle.normal_laws.specs.PlainBytes.{High, none, more, high-bytes}
 use Rattle.files.specs.rule.File.{soundWith, fileVerdict}
-use Rattle.file_laws.specs.rule.Files.{before, firstOf, AllSound, none-yet, one-more, SoundBefore, all-sound}
+use Rattle.file_laws.specs.rule.Files.{recordsBefore, AllSound, none-yet, one-more, SoundBefore, all-sound}
 use Rattle.file_laws.specs.Files.{file-only}
 use Rattle.field_values.specs.rule.Read.{valueFrom}
 use Rattle.field_values.specs.Exactly.{value-exactly}
@@ -142,32 +142,33 @@ module _ {t : List ℤ} (g : Table t) where
 high-not : (b c : ℕ) → 32 ≤ b → c < 32 → eqb b c ≡ false
 high-not b c h l = ne-eqb b c (λ e. omega arith)
 
-ends-found : {r : List ℕ} → High r → (u : List ℕ) → terminatorOf (r ++ (13 ∷ 10 ∷ u)) ≡ pair 13 10
+ends-found : {r : List ℕ} → High r → (u : List ℕ) → terminatorOf (r ++ (13 ∷ 10 ∷ u)) ≡ twoBytes 13 10
 unfolding terminatorOf terminatorAt beginsWith
 ends-found none u = refl
 ends-found (more b h g) u = rw (high-not b 13 h (omega arith), high-not b 10 h (omega arith)) (ends-found g u)
 
-cut-one : {r : List ℕ} → High r → (a u : List ℕ) → cut (pair 13 10) 0 a (r ++ (13 ∷ 10 ∷ u)) ≡ record-and (a ++ r) (cut (pair 13 10) 0 [] u)
+cut-one : {r : List ℕ} → High r → (a u : List ℕ) → cut (twoBytes 13 10) 0 a (r ++ (13 ∷ 10 ∷ u))
+    ≡ record-and (a ++ r) (cut (twoBytes 13 10) 0 [] u)
 unfolding cut beginsAt wholeAt beginsWith
 cut-one none a u = rw (append-nil a)
 cut-one (more b {s = s} h g) a u =
     rw (high-not b 13 h (omega arith)) (cut-one g (a ++ (b ∷ [])) u
-    ∙ ap (λ (x : List ℕ). record-and x (cut (pair 13 10) 0 [] u)) (append-assoc a (b ∷ []) s))
+    ∙ ap (λ (x : List ℕ). record-and x (cut (twoBytes 13 10) 0 [] u)) (append-assoc a (b ∷ []) s))
 
 module _ {t : List ℤ} (g : Table t) where
-  cut-all : {rs : List (List ℕ)} → AllLines g rs → cut (pair 13 10) 0 [] (fileBytes rs) ≡ before rs over
-  unfolding fileBytes before cut atEnd
+  cut-all : {rs : List (List ℕ)} → AllLines g rs → cut (twoBytes 13 10) 0 [] (fileBytes rs) ≡ recordsBefore rs over
+  unfolding fileBytes recordsBefore cut atEnd
   cut-all no-more = refl
   cut-all (and-more {r = r} {rs = rs} a k) = cut-one (a .high) [] (fileBytes rs) ∙ ap (record-and r) (cut-all k)
 
-  pub file-cut : {rs : List (List ℕ)} → AllLines g rs → recordsOf (fileBytes rs) ≡ before rs over
-  unfolding recordsOf fileBytes before cut atEnd
+  pub file-cut : {rs : List (List ℕ)} → AllLines g rs → recordsOf (fileBytes rs) ≡ recordsBefore rs over
+  unfolding recordsOf fileBytes recordsBefore cut atEnd
   file-cut no-more = refl
   file-cut (and-more {r = r} {rs = rs} a k) =
       rw (ends-found (a .high) (fileBytes rs)) (cut-one (a .high) [] (fileBytes rs) ∙ ap (record-and r) (cut-all k))
 
-  first-is : {rs : List (List ℕ)} → AllLines g rs → AllSound t (firstOf (recordsOf (fileBytes rs))) rs
-  unfolding firstOf before
+  first-is : {rs : List (List ℕ)} → AllLines g rs → AllSound t (lengthOfFirst (recordsOf (fileBytes rs))) rs
+  unfolding lengthOfFirst recordsBefore
   first-is no-more = none-yet
   first-is (and-more a k) = rw (file-cut (and-more a k), a .size) (all-judged g (and-more a k))
 

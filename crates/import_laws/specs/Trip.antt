@@ -10,9 +10,10 @@ use Rattle.cuts.specs.rule.Records.{Records, over, recordsOf}
 use Rattle.sound.specs.rule.Rows.{rowsOf}
 use Rattle.sound.specs.Rows.{parts}
 use Rattle.files.specs.rule.File.{FileVerdict, soundWith, badTable, faultIn, fileVerdict}
-use Rattle.file_laws.specs.rule.Files.{before, SoundBefore, FileOutcome, not-formed, all-sound, not-ended, other-length, record-fault}
+use Rattle.file_laws.specs.rule.Files.{recordsBefore, SoundBefore, FileOutcome, not-formed, all-sound, not-ended, other-length}
+use Rattle.file_laws.specs.rule.Files.{record-fault}
 use Rattle.file_laws.specs.Files.{file-named}
-use Rattle.commas.specs.rule.Csv.{each, textBytes}
+use Rattle.commas.specs.rule.Csv.{each, csvBytes}
 use Rattle.name_line.specs.rule.Names.{nameLine}
 use Rattle.name_line.specs.Names.{nameAt}
 use Rattle.record_lines.specs.rule.Lines as lines
@@ -35,8 +36,9 @@ sound-before t d {n} {A} e k = go (file-named t d) e
 
 -- the export of a sound file: its names, and its records' lines
 pub sound-lines : (def : List ℕ) (t : List ℤ) (d : List ℕ) (rs : List (List ℕ)) {n : ℕ} → fileVerdict t d ≡ soundWith n → n ≡ length rs
-    → recordsOf d ≡ before rs over → exportLines def t d ≡ each (nameAt def t) 0 (rowsOf t) ∷ lines.linesOf t (length rs) (before rs over)
-unfolding exportLines linesWith lines.before nameLine
+    → recordsOf d ≡ recordsBefore rs over → exportLines def t d ≡ each (nameAt def t) 0 (rowsOf t)
+    ∷ lines.recordsLines t (length rs) (recordsBefore rs over)
+unfolding exportLines linesWith lines.soundBefore nameLine
 sound-lines def t d rs e f g = rw (e, f, g)
 
 pub import-export : (def : List ℕ) {t : List ℤ} (d : List ℕ) {n : ℕ} → Table t → fileVerdict t d ≡ soundWith n → Returned def t d

@@ -13,7 +13,7 @@ use Rattle.layout.specs.declared.Row.{Row}
 use Rattle.fields.specs.Facts.{RowFacts}
 use Rattle.fields.specs.rule.Field.{Value, Field, holds, illegal, spaces}
 use Rattle.field_values.specs.rule.Read.{valueFrom}
-use Rattle.csv_fields.specs.rule.Page.{fresh, page, broken, linesOf}
+use Rattle.csv_fields.specs.rule.Page.{fresh, page, broken, pageLines}
 use Rattle.csv_fields.specs.Page.{part, Bounded, Stands}
 use Rattle.field_judges.specs.Judged.{Standing, standing-bounded, standing-value}
 use Rattle.import_lines.specs.Undoubled.{undoubled}
@@ -87,7 +87,7 @@ pub record SomeLine (t : List ℤ) (d : List ℕ) (from next : ℕ) : Type 0 whe
 abbrev pub LineJudged : List ℤ → List ℕ → ℕ → LineEnd → Type 0
 LineJudged t d from (Good next) = SomeLine t d from next
 LineJudged t d from (Refused k c) = FaultyLine t d from k c
-LineJudged t d from (Torn c) = linesOf (page fresh (drop from d)) ≡ broken c
+LineJudged t d from (Torn c) = pageLines (page fresh (drop from d)) ≡ broken c
 
 taken-judged : (t : List ℤ) (d : List ℕ) (from : ℕ) (s : List ℕ) (r : LineEnd) → LineTaken t d from s r → LineJudged t d from r
 taken-judged t d from s (Good next) k = record { bytes = s; good = k }

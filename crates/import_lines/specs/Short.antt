@@ -16,7 +16,8 @@ use Rattle.fields.specs.rule.Field.{Value, missing, number, members, text, trut
 use Rattle.fields.specs.rule.Row.{Fit, fits, otherType, fitsBy, fitOf}
 use Rattle.fieldlaws.specs.BackLaws.{Limits, fit-legal, fit-set}
 use Rattle.fieldlaws.specs.TextLaws.{fitting}
-use Rattle.value_fields.specs.rule.Values.{valueText, decimalsOf}
+use Rattle.value_fields.specs.rule.Values.{exportValue}
+use Rattle.widths.specs.rule.Width.{decimalsOf}
 use Rattle.field_values.specs.rule.Value.{zeros, Left, whole, cut, unpointed}
 use Rattle.field_values.specs.rule.Read.{guessOf, leftOf, isFits, triedAs, valueFrom}
 use Rattle.field_values.specs.Left.{left-is}
@@ -30,8 +31,8 @@ left-length {f = f} (cut j h e) = omega (arith, ap length e, length-append f (ze
 left-length {k = k} {f = f} (unpointed h e) = omega (arith, ap length e, length-append f (46 ∷ zeros k))
 
 text-long : (k : Kind) (t : List ℤ) (v : ℕ) (r : Row) → Limits k t v r → (x : Value) → fitsBy k t v r x ≡ fits
-    → length (valueText (decimalsOf k) x) ≤ 50000
-unfolding fitsBy valueText decimalsOf
+    → length (exportValue (decimalsOf k) x) ≤ 50000
+unfolding fitsBy exportValue decimalsOf
 text-long k t v r l missing e = omega arith
 text-long Single t v r l (number z) e = omega (arith, text-short 0 z (omega arith))
 text-long (Quantity g) t v r l (number z) e = omega (arith, text-short (g .decimals) z (l .kind .decimals))
@@ -62,10 +63,10 @@ text-long Character t v r l (truth b) e = no-other e
 pub long-none : (t : List ℤ) (v : ℕ) (r : Row) → Limits (r .kind) t v r → (f : List ℕ) → 50000 < length f → valueFrom t v r f ≡ illegal
 unfolding valueFrom triedAs
 long-none t v r l f h =
-    go (leftOf (decimalsOf (r .kind)) (valueText (decimalsOf (r .kind)) (guessOf (r .kind) f)) f)
+    go (leftOf (decimalsOf (r .kind)) (exportValue (decimalsOf (r .kind)) (guessOf (r .kind) f)) f)
     (isFits (fitOf t v r (guessOf (r .kind) f))) refl refl
   where
-    go : (p q : Bool) → leftOf (decimalsOf (r .kind)) (valueText (decimalsOf (r .kind)) (guessOf (r .kind) f)) f ≡ p
+    go : (p q : Bool) → leftOf (decimalsOf (r .kind)) (exportValue (decimalsOf (r .kind)) (guessOf (r .kind) f)) f ≡ p
         → isFits (fitOf t v r (guessOf (r .kind) f)) ≡ q
         → cond p (cond q (holds (guessOf (r .kind) f)) illegal) illegal ≡ illegal
     go true true a b =
@@ -73,7 +74,7 @@ long-none t v r l f h =
         absurd (omega (
           arith,
           text-long (r .kind) t v r l x (fits-is (fitOf t v r x) b),
-          left-length (left-is (decimalsOf (r .kind)) (valueText (decimalsOf (r .kind)) x) f a),
+          left-length (left-is (decimalsOf (r .kind)) (exportValue (decimalsOf (r .kind)) x) f a),
         ))
     go true false a b = refl
     go false q a b = refl

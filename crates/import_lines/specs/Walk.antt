@@ -17,7 +17,7 @@ use Rattle.fields.specs.rule.Row.{writtenOf}
 use Rattle.sound.specs.rule.Rows.{rowsOf, lengthOf}
 use Rattle.field_values.specs.rule.Read.{valueFrom}
 use Rattle.field_values.specs.Steps.{isHeld, tookBy, Took}
-use Rattle.csv_fields.specs.rule.Page.{Page, over, torn, more, last, start, fresh, page, Lines, done, broken, line, withField, linesOf}
+use Rattle.csv_fields.specs.rule.Page.{Page, over, torn, more, last, start, fresh, page, Lines, done, broken, line, withField, pageLines}
 use Rattle.commas.specs.rule.Csv.{doubled}
 use Rattle.csv_fields.specs.Page.{Stands, Found, hasQuote, doubled-bare}
 use Rattle.import_rule.specs.rule.Line.{LineSays, builds, faulty, onField, recordFrom, lineSays}
@@ -112,7 +112,7 @@ pub record Walking (t : List ℤ) (v : ℕ) (d : List ℕ) (from at j bad : ℕ)
   pub count : j ≡ length fields
   pub on : from + j ≤ at
   pub within : at ≤ length d
-  pub reads : linesOf (page fresh (drop from d)) ≡ withFields fields (linesOf (page fresh (drop at d)))
+  pub reads : pageLines (page fresh (drop from d)) ≡ withFields fields (pageLines (page fresh (drop at d)))
   pub walked : walk t v 0 fields 0 blank ≡ walk-of bad s
 
 pub walking-none : (t : List ℤ) (v : ℕ) (d : List ℕ) (from : ℕ) (blank : List ℕ) → from ≤ length d → Walking t v d from from 0 0 blank blank
@@ -121,7 +121,7 @@ walking-none t v d from blank h = record { fields = []; count = refl; on = omega
 
 pub record GoodLine (t : List ℤ) (d : List ℕ) (from : ℕ) (s : List ℕ) (next : ℕ) : Type 0 where
   pub fields : List (List ℕ)
-  pub reads : linesOf (page fresh (drop from d)) ≡ line fields (linesOf (page start (drop next d)))
+  pub reads : pageLines (page fresh (drop from d)) ≡ line fields (pageLines (page start (drop next d)))
   pub says : lineSays t fields ≡ builds s
   pub ahead : from < next
   pub within : next ≤ length d
@@ -129,14 +129,14 @@ pub record GoodLine (t : List ℤ) (d : List ℕ) (from : ℕ) (s : List ℕ) (n
 pub record FaultyLine (t : List ℤ) (d : List ℕ) (from k c : ℕ) : Type 0 where
   pub fields : List (List ℕ)
   pub rest : Lines
-  pub reads : linesOf (page fresh (drop from d)) ≡ line fields rest
+  pub reads : pageLines (page fresh (drop from d)) ≡ line fields rest
   pub says : lineSays t fields ≡ faulty k c
 
 -- THE END OF A LINE: what it says, with the record in the slot
 abbrev pub LineTaken : List ℤ → List ℕ → ℕ → List ℕ → LineEnd → Type 0
 LineTaken t d from s (Good next) = GoodLine t d from s next
 LineTaken t d from s (Refused k c) = FaultyLine t d from k c
-LineTaken t d from s (Torn c) = linesOf (page fresh (drop from d)) ≡ broken c
+LineTaken t d from s (Torn c) = pageLines (page fresh (drop from d)) ≡ broken c
 
 -- ---- a field as it stands in the text
 pub record RawOf (raw : List ℕ) (b : Bool) : Type 0 where
@@ -205,38 +205,38 @@ module _ {t : List ℤ} {v : ℕ} {d : List ℕ} {from at j bad : ℕ} {blank s 
   pub walking-more : {p q next b : ℕ} {c : Bool} {u : List ℕ}
       → Found d (page fresh (drop at d)) p q c next (λ f. more f (page fresh (drop next d)))
       → walk-of b u ≡ step t v j (undoubled false (take (q - p) (drop p d))) bad s → at < next → Walking t v d from next (j + 1) b blank u
-  unfolding linesOf
+  unfolding pageLines
   walking-more {p} {q} {next} {b} {c} {u} k e l = record {
     fields = w .fields ++ (k .f ∷ []);
     count = omega (arith, w .count, length-append (w .fields) (k .f ∷ []));
     on = omega (arith, w .on);
     within = k .inside′;
-    reads = w .reads ∙ ap (λ (x : Page). withFields (w .fields) (linesOf x)) (k .reads)
-        ∙ sym (fields-more (w .fields) (k .f) (linesOf (page fresh (drop next d))));
+    reads = w .reads ∙ ap (λ (x : Page). withFields (w .fields) (pageLines x)) (k .reads)
+        ∙ sym (fields-more (w .fields) (k .f) (pageLines (page fresh (drop next d))));
     walked = walked-more (k .f) (e ∙ ap (λ (x : List ℕ). step t v j x bad s) (stands-field (k .stands)));
   }
 
-  pub walking-torn : page fresh (drop at d) ≡ torn → linesOf (page fresh (drop from d)) ≡ broken (j + 1)
-  unfolding linesOf
-  walking-torn e = w .reads ∙ ap (λ (x : Page). withFields (w .fields) (linesOf x)) e ∙ fields-broken (w .fields) 1
+  pub walking-torn : page fresh (drop at d) ≡ torn → pageLines (page fresh (drop from d)) ≡ broken (j + 1)
+  unfolding pageLines
+  walking-torn e = w .reads ∙ ap (λ (x : Page). withFields (w .fields) (pageLines x)) e ∙ fields-broken (w .fields) 1
       ∙ ap (λ (i : ℕ). broken (i + 1)) (sym (w .count))
 
   -- the whole line
   pub record Whole (next b : ℕ) (u : List ℕ) : Type 0 where
     pub fields : List (List ℕ)
     pub count : length fields ≡ j + 1
-    pub reads : linesOf (page fresh (drop from d)) ≡ line fields (linesOf (page start (drop next d)))
+    pub reads : pageLines (page fresh (drop from d)) ≡ line fields (pageLines (page start (drop next d)))
     pub walked : walk t v 0 fields 0 blank ≡ walk-of b u
 
   pub walking-last : {p q next b : ℕ} {c : Bool} {u : List ℕ}
       → Found d (page fresh (drop at d)) p q c next (λ f. last f (page start (drop next d)))
       → walk-of b u ≡ step t v j (undoubled false (take (q - p) (drop p d))) bad s → Whole next b u
-  unfolding linesOf
+  unfolding pageLines
   walking-last {p} {q} {next} {b} {c} {u} k e = record {
     fields = w .fields ++ (k .f ∷ []);
     count = omega (arith, w .count, length-append (w .fields) (k .f ∷ []));
-    reads = w .reads ∙ ap (λ (x : Page). withFields (w .fields) (linesOf x)) (k .reads)
-        ∙ fields-line (w .fields) (k .f ∷ []) (linesOf (page start (drop next d)));
+    reads = w .reads ∙ ap (λ (x : Page). withFields (w .fields) (pageLines x)) (k .reads)
+        ∙ fields-line (w .fields) (k .f ∷ []) (pageLines (page start (drop next d)));
     walked = walked-more (k .f) (e ∙ ap (λ (x : List ℕ). step t v j x bad s) (stands-field (k .stands)));
   }
 
@@ -267,7 +267,7 @@ unfolding lineSays
 said-count t fields count n x = rw (n, x)
 
 pub line-taken : (t : List ℤ) (d : List ℕ) {from next count b : ℕ} {fields : List (List ℕ)} {u : List ℕ} → length fields ≡ count
-    → linesOf (page fresh (drop from d)) ≡ line fields (linesOf (page start (drop next d)))
+    → pageLines (page fresh (drop from d)) ≡ line fields (pageLines (page start (drop next d)))
     → walk t (rowsOf t) 0 fields 0 (spaces (lengthOf t)) ≡ walk-of b u → from < next → next ≤ length d
     → LineTaken t d from u (endOf (rowsOf t) count b next)
 unfolding endOf
@@ -278,12 +278,18 @@ line-taken t d {from} {next} {count} {b} {fields} {u} n e w h l = go (eqb count 
     go true true x y = record { fields = fields; reads = e; says = said-good t fields count b u n w x y; ahead = h; within = l }
     go true false x y = record {
       fields = fields;
-      rest = linesOf (page start (drop next d));
+      rest = pageLines (page start (drop next d));
       reads = e;
       says = said-wrong t fields count b u
           n w x y;
     }
-    go false q x y = record { fields = fields; rest = linesOf (page start (drop next d)); reads = e; says = said-count t fields count n x }
+    go false q x y = record {
+      fields = fields;
+      rest = pageLines (page start (drop next d));
+      reads = e;
+      says = said-count t fields count n
+          x;
+    }
 
 -- ---- a value taken, said otherwise
 pub took-as : {t : List ℤ} {v : ℕ} {r : Row} {f g old new : List ℕ} {b : Bool} → f ≡ g → Took t v r f old new b → Took t v r g old new b

@@ -13,7 +13,7 @@ use lib.ListN.{length, take, drop, getD, length-append}
 use Rattle.below.specs.Below.{lt-or-le}
 use Rattle.signs.specs.declared.Sign.{Sign}
 use Rattle.commas.specs.rule.Csv.{each}
-use Rattle.csv_fields.specs.rule.Page.{Page, torn, more, last, start, fresh, page, Lines, broken, line, linesOf}
+use Rattle.csv_fields.specs.rule.Page.{Page, torn, more, last, start, fresh, page, Lines, broken, line, pageLines}
 use Rattle.csv_fields.specs.Page.{Found}
 use Rattle.layout.specs.rule.Layout.{rowBase, mostRows}
 use Rattle.name_line.specs.rule.Names.{signByte, nameText, placeAt, longAt, nameLine}
@@ -151,7 +151,7 @@ pub record Naming (g : ℕ → List ℕ) (rows : ℕ) (d : List ℕ) (at j bad :
   pub count : j ≡ length fields
   pub on : j ≤ at
   pub within : at ≤ length d
-  pub reads : linesOf (page fresh d) ≡ withFields fields (linesOf (page fresh (drop at d)))
+  pub reads : pageLines (page fresh d) ≡ withFields fields (pageLines (page fresh (drop at d)))
   pub differs : (gs : List (List ℕ)) → differAt 1 (each g 0 rows) (fields ++ gs) ≡ orLater bad (differAt (j + 1) (each g j (rows - j)) gs)
 
 pub naming-none : (g : ℕ → List ℕ) (rows : ℕ) (d : List ℕ) → Naming g rows d 0 0 0
@@ -163,21 +163,21 @@ naming-none g rows d =
 -- THE END of the name line: where these names are due
 pub record SameNames (names : List (List ℕ)) (d : List ℕ) (next : ℕ) : Type 0 where
   pub fields : List (List ℕ)
-  pub reads : linesOf (page fresh d) ≡ line fields (linesOf (page start (drop next d)))
+  pub reads : pageLines (page fresh d) ≡ line fields (pageLines (page start (drop next d)))
   pub same : differAt 1 names fields ≡ 0
   pub within : next ≤ length d
 
 pub record OtherNames (names : List (List ℕ)) (d : List ℕ) (c : ℕ) : Type 0 where
   pub fields : List (List ℕ)
   pub rest : Lines
-  pub reads : linesOf (page fresh d) ≡ line fields rest
+  pub reads : pageLines (page fresh d) ≡ line fields rest
   pub differs : differAt 1 names fields ≡ c
   pub some : 1 ≤ c
 
 abbrev pub NamesTaken : List (List ℕ) → List ℕ → NamesEnd → Type 0
 NamesTaken names d (Same next) = SameNames names d next
 NamesTaken names d (Differs c) = OtherNames names d c
-NamesTaken names d (Torn c) = linesOf (page fresh d) ≡ broken c
+NamesTaken names d (Torn c) = pageLines (page fresh d) ≡ broken c
 
 unfoldable pub namesEnd : ℕ → ℕ → ℕ → ℕ → NamesEnd
 namesEnd rows count bad next = cond (eqb bad 0) (cond (ltb count rows) (Differs (count + 1)) (Same next)) (Differs bad)
@@ -209,33 +209,33 @@ module _ {g : ℕ → List ℕ} {rows : ℕ} {d : List ℕ} {at j bad : ℕ} (w 
 
   pub naming-more : {p q next b : ℕ} {c : Bool} → Found d (page fresh (drop at d)) p q c next (λ f. more f (page fresh (drop next d)))
       → b ≡ nameStep g rows j (undoubled false (take (q - p) (drop p d))) bad → at < next → Naming g rows d next (j + 1) b
-  unfolding linesOf
+  unfolding pageLines
   naming-more {p} {q} {next} {b} {c} k e l = record {
     fields = w .fields ++ (k .f ∷ []);
     count = omega (arith, w .count, length-append (w .fields) (k .f ∷ []));
     on = omega (arith, w .on);
     within = k .inside′;
-    reads = w .reads ∙ ap (λ (x : Page). withFields (w .fields) (linesOf x)) (k .reads)
-        ∙ sym (fields-more (w .fields) (k .f) (linesOf (page fresh (drop next d))));
+    reads = w .reads ∙ ap (λ (x : Page). withFields (w .fields) (pageLines x)) (k .reads)
+        ∙ sym (fields-more (w .fields) (k .f) (pageLines (page fresh (drop next d))));
     differs = λ gs. one-more (k .f) gs (e ∙ ap (λ (x : List ℕ). nameStep g rows j x bad) (stands-field (k .stands)));
   }
 
-  pub naming-torn : page fresh (drop at d) ≡ torn → linesOf (page fresh d) ≡ broken (j + 1)
-  unfolding linesOf
-  naming-torn e = w .reads ∙ ap (λ (x : Page). withFields (w .fields) (linesOf x)) e ∙ fields-broken (w .fields) 1
+  pub naming-torn : page fresh (drop at d) ≡ torn → pageLines (page fresh d) ≡ broken (j + 1)
+  unfolding pageLines
+  naming-torn e = w .reads ∙ ap (λ (x : Page). withFields (w .fields) (pageLines x)) e ∙ fields-broken (w .fields) 1
       ∙ ap (λ (i : ℕ). broken (i + 1)) (sym (w .count))
 
   pub naming-last : {p q next b : ℕ} {c : Bool} → Found d (page fresh (drop at d)) p q c next (λ f. last f (page start (drop next d)))
       → b ≡ nameStep g rows j (undoubled false (take (q - p) (drop p d))) bad → NamesTaken (each g 0 rows) d (namesEnd rows (j + 1) b next)
-  unfolding linesOf namesEnd
+  unfolding pageLines namesEnd
   naming-last {p} {q} {next} {b} {c} k e = go (eqb b 0) refl (ltb (j + 1) rows) refl
     where
       fields : List (List ℕ)
       fields = w .fields ++ (k .f ∷ [])
 
-      reads : linesOf (page fresh d) ≡ line fields (linesOf (page start (drop next d)))
-      reads = w .reads ∙ ap (λ (x : Page). withFields (w .fields) (linesOf x)) (k .reads)
-          ∙ fields-line (w .fields) (k .f ∷ []) (linesOf (page start (drop next d)))
+      reads : pageLines (page fresh d) ≡ line fields (pageLines (page start (drop next d)))
+      reads = w .reads ∙ ap (λ (x : Page). withFields (w .fields) (pageLines x)) (k .reads)
+          ∙ fields-line (w .fields) (k .f ∷ []) (pageLines (page start (drop next d)))
 
       differs : differAt 1 (each g 0 rows) fields ≡ orLater b (differAt (j + 1 + 1) (each g (j + 1) (rows - (j + 1))) [])
       differs =
@@ -246,7 +246,7 @@ module _ {g : ℕ → List ℕ} {rows : ℕ} {d : List ℕ} {at j bad : ℕ} (w 
           → NamesTaken (each g 0 rows) d (cond x (cond y (Differs (j + 1 + 1)) (Same next)) (Differs b))
       go true x true y = record {
         fields = fields;
-        rest = linesOf (page start (drop next d));
+        rest = pageLines (page start (drop next d));
         reads = reads;
         differs = differs ∙ later-none b _ (eqb-true b 0 x) ∙ end-short g rows (j + 1) (ltb-true (j + 1) rows y);
         some = omega arith;
@@ -261,7 +261,7 @@ module _ {g : ℕ → List ℕ} {rows : ℕ} {d : List ℕ} {at j bad : ℕ} (w 
           let n = eqb-false b 0 x in
           record {
             fields = fields;
-            rest = linesOf (page start (drop next d));
+            rest = pageLines (page start (drop next d));
             reads = reads;
             differs = differs ∙ later-bad b _ n;
             some = pos-of b n;

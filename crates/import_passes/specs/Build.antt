@@ -17,10 +17,10 @@ use Rattle.fields.specs.rule.Row.{writtenOf}
 use Rattle.fieldlaws.specs.TextLaws.{length-spaces}
 use Rattle.fieldlaws.specs.Corrections.{written-length}
 use Rattle.sound.specs.rule.Rows.{rowsOf, lengthOf}
-use Rattle.csv_fields.specs.rule.Page.{start, fresh, page, Lines, done, broken, line, linesOf}
+use Rattle.csv_fields.specs.rule.Page.{start, fresh, page, Lines, done, broken, line, pageLines}
 use Rattle.field_values.specs.rule.Read.{valueFrom}
 use Rattle.import_rule.specs.rule.Line.{LineSays, builds, faulty, onField, recordFrom, lineSays}
-use Rattle.import_rule.specs.rule.Text.{TextSays, accepts, refuses, andRecord, onLine, linesSay, fileBytes, dataOf}
+use Rattle.import_rule.specs.rule.Text.{TextSays, accepts, refuses, andRecord, afterLine, linesSay, fileBytes, dataOf}
 use Rattle.import_lines.specs.Walk.{FaultyLine}
 use Rattle.import_passes.specs.Passes.{ahead, ahead-accepts, ahead-refuses, Passing, Accepted, Ended, passing-none, passing-more}
 use Rattle.import_passes.specs.Passes.{passing-over, passing-faulty, passing-torn}
@@ -82,12 +82,12 @@ one-sized s us n e h = omega (arith, length-append s (13 ∷ 10 ∷ fileBytes us
 
 pub lines-sized : (t : List ℤ) (n : ℕ) (ls : Lines) {rs : List (List ℕ)} → linesSay t n ls ≡ accepts rs → length (fileBytes rs)
     ≡ length rs * (lengthOf t + 2)
-unfolding linesSay onLine andRecord
+unfolding linesSay afterLine andRecord
 lines-sized t n done {rs} e = rw (← same-records e) (no-bytes (lengthOf t + 2))
 lines-sized t n (broken c) e = not-accepts e
 lines-sized t n (line fs ls) {rs} e = by (lineSays t fs) refl (linesSay t (n + 1) ls) e (λ us h. lines-sized t (n + 1) ls h)
   where
-    by : (x : LineSays) → lineSays t fs ≡ x → (y : TextSays) → onLine n x y ≡ accepts rs
+    by : (x : LineSays) → lineSays t fs ≡ x → (y : TextSays) → afterLine n x y ≡ accepts rs
         → ((us : List (List ℕ)) → y ≡ accepts us → length (fileBytes us) ≡ length us * (lengthOf t + 2)) → length (fileBytes rs)
         ≡ length rs * (lengthOf t + 2)
     by (builds s) w (accepts us) h k = rw (← same-records h) (one-sized s us (lengthOf t) (line-sized t fs w) (k us refl))
@@ -139,7 +139,7 @@ placed f x out₀ k m e h =
     (ap (λ (y : List ℕ). f ++ (x ++ y)) (drop-drop m k out₀) ∙ sym (append-assoc f x (drop (k + m) out₀)))
 
 module _ {t : List ℤ} {d : List ℕ} {from at i k n : ℕ} {out₀ out : List ℕ} (w : Building t d from at i k out₀ out)
-    (a : Accepted (linesSay t 2 (linesOf (page start (drop from d)))) n) where
+    (a : Accepted (linesSay t 2 (pageLines (page start (drop from d)))) n) where
   -- while records are left, so are lines
   pub lines-left : i < n → at < length d
   lines-left h =
@@ -156,7 +156,7 @@ module _ {t : List ℤ} {d : List ℕ} {from at i k n : ℕ} {out₀ out : List 
   pub not-faulty : {A : Type 0} {x c : ℕ} → i < n → FaultyLine t d at x c → A
   not-faulty h g = not-accepts (sym (passing-faulty (w .passing) (lines-left h) g) ∙ a .is)
 
-  pub not-torn : {A : Type 0} {c : ℕ} → i < n → linesOf (page fresh (drop at d)) ≡ broken c → A
+  pub not-torn : {A : Type 0} {c : ℕ} → i < n → pageLines (page fresh (drop at d)) ≡ broken c → A
   not-torn h g = not-accepts (sym (passing-torn (w .passing) (lines-left h) g) ∙ a .is)
 
   pub building-more : {slot : List ℕ} {next m : ℕ} → m ≡ lengthOf t + 2 → n * m ≤ length out₀ → i < n → Ended t d at slot next
@@ -190,11 +190,12 @@ module _ {t : List ℤ} {d : List ℕ} {from at i k n : ℕ} {out₀ out : List 
       }
 
   -- no record is left
-  pub building-all : i ≡ n → out ≡ dataOf (linesSay t 2 (linesOf (page start (drop from d))))
-      ++ drop (length (dataOf (linesSay t 2 (linesOf (page start (drop from d)))))) out₀
+  pub building-all : i ≡ n → out ≡ dataOf (linesSay t 2 (pageLines (page start (drop from d))))
+      ++ drop (length (dataOf (linesSay t 2 (pageLines (page start (drop from d)))))) out₀
   building-all h =
-      let e = same-all (w .records) (linesSay t (i + 2) (linesOf (page start (drop at d)))) (sym (w .passing .says) ∙ a .is)
+      let e = same-all (w .records) (linesSay t (i + 2) (pageLines (page start (drop at d)))) (sym (w .passing .says) ∙ a .is)
       (a .count ∙ sym h ∙ sym (w .passing .count)) in
-      let f : dataOf (linesSay t 2 (linesOf (page start (drop from d)))) ≡ fileBytes (w .records) = ap dataOf (a .is) ∙ data-of (a .records)
+      let f : dataOf (linesSay t 2 (pageLines (page start (drop from d)))) ≡ fileBytes (w .records) = ap dataOf (a .is)
+      ∙ data-of (a .records)
       ∙ ap fileBytes (sym e) in
       rw f (w .built ∙ ap (λ (x : ℕ). fileBytes (w .records) ++ drop x out₀) (sym (w .size)))

@@ -10,10 +10,10 @@ use Rattle.places.specs.rule.Places.{put, run}
 use Rattle.places.specs.Laws.{pick-run, length-put, back, once-run, below-run, length-run}
 use Rattle.fields.specs.rule.Field.{spaces}
 use Rattle.fieldlaws.specs.TextLaws.{length-spaces}
-use Rattle.csv_fields.specs.rule.Page.{Page, over, start, fresh, page, Lines, done, broken, line, linesOf}
+use Rattle.csv_fields.specs.rule.Page.{Page, over, start, fresh, page, Lines, done, broken, line, pageLines}
 use Rattle.csv_fields.specs.Page.{start-fresh, start-over}
 use Rattle.import_rule.specs.rule.Line.{LineSays, builds, faulty, lineSays}
-use Rattle.import_rule.specs.rule.Text.{TextSays, accepts, refuses, andRecord, onLine, linesSay}
+use Rattle.import_rule.specs.rule.Text.{TextSays, accepts, refuses, andRecord, afterLine, linesSay}
 use Rattle.import_lines.specs.declared.LineEnd.{LineEnd}
 use Rattle.import_lines.specs.declared.LineEnd.the-variants.{Good, Refused, Torn}
 use Rattle.import_lines.specs.Walk.{GoodLine, FaultyLine, LineTaken}
@@ -68,7 +68,7 @@ pub record Ended (t : List ℤ) (d : List ℕ) (from : ℕ) (slot : List ℕ) (n
 abbrev pub LineEnded : List ℤ → List ℕ → ℕ → List ℕ → LineEnd → Type 0
 LineEnded t d from slot (Good next) = Ended t d from slot next
 LineEnded t d from slot (Refused k c) = FaultyLine t d from k c
-LineEnded t d from slot (Torn c) = linesOf (page fresh (drop from d)) ≡ broken c
+LineEnded t d from slot (Torn c) = pageLines (page fresh (drop from d)) ≡ broken c
 
 pub line-ended : (t : List ℤ) (d : List ℕ) (from : ℕ) (s : List ℕ) {slot : List ℕ} (r : LineEnd) → LineTaken t d from s r → slot ≡ s
     ++ (13 ∷ 10 ∷ []) → LineEnded t d from slot r
@@ -101,7 +101,7 @@ pub record Passing (t : List ℤ) (d : List ℕ) (from at n : ℕ) (rs : List (L
   pub count : length rs ≡ n
   pub on : from + n ≤ at
   pub within : at ≤ length d
-  pub says : linesSay t 2 (linesOf (page start (drop from d))) ≡ ahead rs (linesSay t (n + 2) (linesOf (page start (drop at d))))
+  pub says : linesSay t 2 (pageLines (page start (drop from d))) ≡ ahead rs (linesSay t (n + 2) (pageLines (page start (drop at d))))
 
 pub passing-none : (t : List ℤ) (d : List ℕ) (from : ℕ) → from ≤ length d → Passing t d from from 0 []
 unfolding ahead
@@ -125,31 +125,31 @@ abbrev pub JudgedAs : TextSays → Judged → Type 0
 JudgedAs says (judged.Done n) = Accepted says n
 JudgedAs says (judged.Refused k l c) = says ≡ refuses k l c
 
-line-says : (t : List ℤ) (d : List ℕ) (at n : ℕ) → at < length d → {fs : List (List ℕ)} {ls : Lines} → linesOf (page fresh (drop at d))
+line-says : (t : List ℤ) (d : List ℕ) (at n : ℕ) → at < length d → {fs : List (List ℕ)} {ls : Lines} → pageLines (page fresh (drop at d))
     ≡ line fs ls
-    → linesSay t n (linesOf (page start (drop at d))) ≡ onLine n (lineSays t fs) (linesSay t (n + 1) ls)
+    → linesSay t n (pageLines (page start (drop at d))) ≡ afterLine n (lineSays t fs) (linesSay t (n + 1) ls)
 unfolding linesSay
-line-says t d at n h e = ap (λ (x : Page). linesSay t n (linesOf x)) (start-fresh d at h) ∙ ap (linesSay t n) e
+line-says t d at n h e = ap (λ (x : Page). linesSay t n (pageLines x)) (start-fresh d at h) ∙ ap (linesSay t n) e
 
-torn-says : (t : List ℤ) (d : List ℕ) (at n c : ℕ) → at < length d → linesOf (page fresh (drop at d)) ≡ broken c
-    → linesSay t n (linesOf (page start (drop at d))) ≡ refuses 61 n c
+torn-says : (t : List ℤ) (d : List ℕ) (at n c : ℕ) → at < length d → pageLines (page fresh (drop at d)) ≡ broken c
+    → linesSay t n (pageLines (page start (drop at d))) ≡ refuses 61 n c
 unfolding linesSay
-torn-says t d at n c h e = ap (λ (x : Page). linesSay t n (linesOf x)) (start-fresh d at h) ∙ ap (linesSay t n) e
+torn-says t d at n c h e = ap (λ (x : Page). linesSay t n (pageLines x)) (start-fresh d at h) ∙ ap (linesSay t n) e
 
-over-says : (t : List ℤ) (d : List ℕ) (at n : ℕ) → length d ≤ at → linesSay t n (linesOf (page start (drop at d))) ≡ accepts []
-unfolding linesSay linesOf
-over-says t d at n h = ap (λ (x : Page). linesSay t n (linesOf x)) (start-over d at h)
+over-says : (t : List ℤ) (d : List ℕ) (at n : ℕ) → length d ≤ at → linesSay t n (pageLines (page start (drop at d))) ≡ accepts []
+unfolding linesSay pageLines
+over-says t d at n h = ap (λ (x : Page). linesSay t n (pageLines x)) (start-over d at h)
 
 module _ {t : List ℤ} {d : List ℕ} {from at n : ℕ} {rs : List (List ℕ)} (w : Passing t d from at n rs) where
   pub passing-more : {s : List ℕ} {next : ℕ} → at < length d → GoodLine t d at s next → Passing t d from next (n + 1) (rs ++ (s ∷ []))
-  unfolding onLine
+  unfolding afterLine
   passing-more {s} {next} h g =
       let z : n + 2 + 1 ≡ n + 1 + 2 = omega arith in
-      let x = linesSay t (n + 1 + 2) (linesOf (page start (drop next d))) in
-      let e : linesSay t (n + 2) (linesOf (page start (drop at d))) ≡ andRecord s x =
-      line-says t d at (n + 2) h (g .reads) ∙ ap (λ (y : LineSays). onLine (n + 2) y
-      (linesSay t (n + 2 + 1) (linesOf (page start (drop next d))))) (g .says)
-      ∙ ap (λ (i : ℕ). andRecord s (linesSay t i (linesOf (page start (drop next d))))) z in
+      let x = linesSay t (n + 1 + 2) (pageLines (page start (drop next d))) in
+      let e : linesSay t (n + 2) (pageLines (page start (drop at d))) ≡ andRecord s x =
+      line-says t d at (n + 2) h (g .reads) ∙ ap (λ (y : LineSays). afterLine (n + 2) y
+      (linesSay t (n + 2 + 1) (pageLines (page start (drop next d))))) (g .says)
+      ∙ ap (λ (i : ℕ). andRecord s (linesSay t i (pageLines (page start (drop next d))))) z in
       record {
         count = omega (arith, length-append rs (s ∷ []), w .count);
         on = omega (arith, w .on, g .ahead);
@@ -157,19 +157,19 @@ module _ {t : List ℤ} {d : List ℕ} {from at n : ℕ} {rs : List (List ℕ)} 
         says = w .says ∙ ap (ahead rs) e ∙ sym (ahead-more rs s x);
       }
 
-  pub passing-faulty : {k c : ℕ} → at < length d → FaultyLine t d at k c → linesSay t 2 (linesOf (page start (drop from d)))
+  pub passing-faulty : {k c : ℕ} → at < length d → FaultyLine t d at k c → linesSay t 2 (pageLines (page start (drop from d)))
       ≡ refuses k (n + 2) c
-  unfolding onLine
+  unfolding afterLine
   passing-faulty {k} {c} h g =
       w .says ∙ ap (ahead rs) (line-says t d at (n + 2) h (g .reads)
-      ∙ ap (λ (y : LineSays). onLine (n + 2) y (linesSay t (n + 2 + 1) (g .rest))) (g .says))
+      ∙ ap (λ (y : LineSays). afterLine (n + 2) y (linesSay t (n + 2 + 1) (g .rest))) (g .says))
       ∙ ahead-refuses rs k (n + 2) c
 
-  pub passing-torn : {c : ℕ} → at < length d → linesOf (page fresh (drop at d)) ≡ broken c
-      → linesSay t 2 (linesOf (page start (drop from d))) ≡ refuses 61 (n + 2) c
+  pub passing-torn : {c : ℕ} → at < length d → pageLines (page fresh (drop at d)) ≡ broken c
+      → linesSay t 2 (pageLines (page start (drop from d))) ≡ refuses 61 (n + 2) c
   passing-torn {c} h e = w .says ∙ ap (ahead rs) (torn-says t d at (n + 2) c h e) ∙ ahead-refuses rs 61 (n + 2) c
 
-  pub passing-over : length d ≤ at → linesSay t 2 (linesOf (page start (drop from d))) ≡ accepts rs
+  pub passing-over : length d ≤ at → linesSay t 2 (pageLines (page start (drop from d))) ≡ accepts rs
   passing-over h = w .says ∙ ap (ahead rs) (over-says t d at (n + 2) h) ∙ ahead-accepts rs [] ∙ ap accepts (append-nil rs)
 
 pub judging-more : {t : List ℤ} {d : List ℕ} {from at n next : ℕ} → Judging t d from at n → at < length d
@@ -177,7 +177,7 @@ pub judging-more : {t : List ℤ} {d : List ℕ} {from at n next : ℕ} → Judg
 judging-more w h g = record { records = w .records ++ (g .bytes ∷ []); passing = passing-more (w .passing) h (g .good) }
 
 pub judging-over : {t : List ℤ} {d : List ℕ} {from at n : ℕ} → Judging t d from at n → length d ≤ at
-    → Accepted (linesSay t 2 (linesOf (page start (drop from d)))) n
+    → Accepted (linesSay t 2 (pageLines (page start (drop from d)))) n
 judging-over w h = record { records = w .records; is = passing-over (w .passing) h; count = w .passing .count }
 
 -- the case that was met
@@ -193,7 +193,7 @@ pub judged-faulty : (t : List ℤ) (d : List ℕ) (at : ℕ) (r : LineEnd) {n c 
 judged-faulty t d at r k e = rw e at k
 
 pub judged-torn : (t : List ℤ) (d : List ℕ) (at : ℕ) (r : LineEnd) {c : ℕ} → LineJudged t d at r → r ≡ Torn c
-    → linesOf (page fresh (drop at d)) ≡ broken c
+    → pageLines (page fresh (drop at d)) ≡ broken c
 judged-torn t d at r k e = rw e at k
 
 pub ended-faulty : (t : List ℤ) (d : List ℕ) (at : ℕ) (s : List ℕ) (r : LineEnd) {n c : ℕ} → LineEnded t d at s r → r ≡ Refused n c
@@ -201,5 +201,5 @@ pub ended-faulty : (t : List ℤ) (d : List ℕ) (at : ℕ) (s : List ℕ) (r : 
 ended-faulty t d at s r k e = rw e at k
 
 pub ended-torn : (t : List ℤ) (d : List ℕ) (at : ℕ) (s : List ℕ) (r : LineEnd) {c : ℕ} → LineEnded t d at s r → r ≡ Torn c
-    → linesOf (page fresh (drop at d)) ≡ broken c
+    → pageLines (page fresh (drop at d)) ≡ broken c
 ended-torn t d at s r k e = rw e at k

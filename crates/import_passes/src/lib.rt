@@ -7,7 +7,7 @@ ghost use lib.ListN.{length, drop};
 ghost use Rattle.ascii.specs.rule.Tens.{Tens};
 ghost use Rattle.sound.specs.rule.Rows.{rowsOf, lengthOf};
 ghost use Rattle.sharing.specs.Known.{TableKnown};
-ghost use Rattle.csv_fields.specs.rule.Page.{start, page, linesOf};
+ghost use Rattle.csv_fields.specs.rule.Page.{start, page, pageLines};
 ghost use Rattle.import_rule.specs.rule.Text.{linesSay, dataOf};
 ghost use Rattle.import_lines.specs.Build.{FullRows};
 ghost use Rattle.import_passes.specs.Passes.{LineEnded, Accepted, JudgedAs};
@@ -80,7 +80,7 @@ pub fn judge_lines(
     requires { ⌜ TableKnown (now t) rows len × (rows ≡ rowsOf (now t)) × (len ≡ lengthOf (now t)) ⌝ }
     requires { ⌜ (from ≤ length (now d)) × (length (now slot) ≡ len + 2) × FullRows (now t) rows (now full) ⌝ }
     requires { ⌜ (length (now list) ≡ 9999) × (length (now room) ≡ 50000) × (length (now spare) ≡ 50000) ⌝ }
-    ensures { λ r. ⌜ JudgedAs (linesSay (now (t .entry)) 2 (linesOf (page start (drop from (now (d .entry)))))) r ⌝ }
+    ensures { λ r. ⌜ JudgedAs (linesSay (now (t .entry)) 2 (pageLines (page start (drop from (now (d .entry)))))) r ⌝ }
 {
     let mut at = from;
     let mut n: usize = 0;
@@ -127,10 +127,10 @@ pub fn build_lines(
     requires { ⌜ Tens (now powers) ⌝ }
     requires { ⌜ TableKnown (now t) rows len × (rows ≡ rowsOf (now t)) × (len ≡ lengthOf (now t)) ⌝ }
     requires { ⌜ (from ≤ length (now d)) × (n * (len + 2) ≤ length (now out)) × (len ≤ 16384) × FullRows (now t) rows (now full) ⌝ }
-    requires { ⌜ Accepted (linesSay (now t) 2 (linesOf (page start (drop from (now d))))) n ⌝ }
+    requires { ⌜ Accepted (linesSay (now t) 2 (pageLines (page start (drop from (now d))))) n ⌝ }
     requires { ⌜ (length (now list) ≡ 9999) × (length (now room) ≡ 50000) × (length (now spare) ≡ 50000) ⌝ }
-    ensures { λ _. ⌜ now (out .exit) ≡ dataOf (linesSay (now (t .entry)) 2 (linesOf (page start (drop from (now (d .entry))))))
-        ++ drop (length (dataOf (linesSay (now (t .entry)) 2 (linesOf (page start (drop from (now (d .entry)))))))) (now (out .entry)) ⌝ }
+    ensures { λ _. ⌜ now (out .exit) ≡ dataOf (linesSay (now (t .entry)) 2 (pageLines (page start (drop from (now (d .entry))))))
+        ++ drop (length (dataOf (linesSay (now (t .entry)) 2 (pageLines (page start (drop from (now (d .entry)))))))) (now (out .entry)) ⌝ }
 {
     let size = len + 2;
     let mut at = from;

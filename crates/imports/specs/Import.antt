@@ -19,7 +19,7 @@ use Rattle.sound.specs.Rows.{length-low}
 use Rattle.sharing.specs.rule.Sharing.{sharesNone}
 use Rattle.sharing.specs.Known.{TableKnown, table-known}
 use Rattle.kinds.specs.rule.Against.{yields}
-use Rattle.csv_fields.specs.rule.Page.{start, fresh, page, Lines, broken, linesOf}
+use Rattle.csv_fields.specs.rule.Page.{start, fresh, page, Lines, broken, pageLines}
 use Rattle.name_line.specs.rule.Names.{nameLine}
 use Rattle.import_rule.specs.rule.Text.{TextSays, accepts, refuses, linesSay, namesThen, namesSay, textSays, fileBytes, dataOf}
 use Rattle.import_names.specs.Names.{SameNames, OtherNames, NamesTaken}
@@ -29,20 +29,20 @@ use Rattle.import_passes.specs.Passes.{Accepted, JudgedAs}
 use Rattle.import_passes.specs.Build.{lines-sized}
 use Rattle.import_passes.specs.declared.Judged.{Judged}
 use Rattle.import_passes.specs.declared.Judged.the-variants as judged
-use Rattle.imports.specs.rule.Import.{ImportVerdict, refused, written, roomed, importSays, importVerdict, outputAfter, Imported}
+use Rattle.imports.specs.rule.Import.{ImportVerdict, refused, written, roomed, importSays, importVerdict, importAfter, Imported}
 
 -- what a text says, in the room of an output
 pub record Roomed (says : TextSays) (out out′ : List ℕ) (v : ImportVerdict) : Type 0 where
   pub verdict : v ≡ roomed says (length out)
-  pub leaves : out′ ≡ outputAfter (roomed says (length out)) (dataOf says) out
+  pub leaves : out′ ≡ importAfter (roomed says (length out)) (dataOf says) out
 
 pub roomed-refused : {says : TextSays} (out : List ℕ) {k n c : ℕ} → says ≡ refuses k n c → Roomed says out out (refused k n c)
-unfolding roomed outputAfter
+unfolding roomed importAfter
 roomed-refused out e = record { verdict = rw e; leaves = rw e }
 
 module _ {says : TextSays} {n m : ℕ} (a : Accepted says n) (s : length (fileBytes (a .records)) ≡ n * m) (p : 1 ≤ m) (out : List ℕ) where
   pub roomed-short : length out / m < n → Roomed says out out (refused 60 0 0)
-  unfolding roomed outputAfter
+  unfolding roomed importAfter
   roomed-short h =
       let x : leb (length (fileBytes (a .records))) (length out) ≡ false =
       ⊎-elim (λ y. lt-leb (length (fileBytes (a .records))) (length out) y)
@@ -55,7 +55,7 @@ module _ {says : TextSays} {n m : ℕ} (a : Accepted says n) (s : length (fileBy
 
   pub roomed-written : n ≤ length out / m → {out′ : List ℕ} → out′ ≡ dataOf says ++ drop (length (dataOf says)) out
       → Roomed says out out′ (written n (n * m))
-  unfolding roomed outputAfter
+  unfolding roomed importAfter
   roomed-written h {out′} e =
       let x : leb (length (fileBytes (a .records))) (length out)
       ≡ true = le-leb (length (fileBytes (a .records))) (length out) (rw s (roomed-fits h)) in
@@ -84,13 +84,14 @@ names-good names d r k e = rw e at k
 pub names-bad : (names : List (List ℕ)) (d : List ℕ) (r : NamesEnd) {c : ℕ} → NamesTaken names d r → r ≡ Differs c → OtherNames names d c
 names-bad names d r k e = rw e at k
 
-pub names-broken : (names : List (List ℕ)) (d : List ℕ) (r : NamesEnd) {c : ℕ} → NamesTaken names d r → r ≡ Torn c → linesOf (page fresh d)
+pub names-broken : (names : List (List ℕ)) (d : List ℕ) (r : NamesEnd) {c : ℕ} → NamesTaken names d r → r ≡ Torn c
+    → pageLines (page fresh d)
     ≡ broken c
 names-broken names d r k e = rw e at k
 
 -- ---- the name line
 module _ (t : List ℤ) (names : List (List ℕ)) (d : List ℕ) where
-  pub names-same : {next : ℕ} → SameNames names d next → textSays t names d ≡ linesSay t 2 (linesOf (page start (drop next d)))
+  pub names-same : {next : ℕ} → SameNames names d next → textSays t names d ≡ linesSay t 2 (pageLines (page start (drop next d)))
   unfolding textSays namesSay namesThen
   names-same k = rw (k .reads, k .same)
 
@@ -98,7 +99,7 @@ module _ (t : List ℤ) (names : List (List ℕ)) (d : List ℕ) where
   unfolding textSays namesSay namesThen
   names-other {c} k = rw (k .reads, k .differs, ne-eqb c 0 (λ e. omega (arith, k .some)))
 
-  pub names-torn : {c : ℕ} → linesOf (page fresh d) ≡ broken c → textSays t names d ≡ refuses 61 1 c
+  pub names-torn : {c : ℕ} → pageLines (page fresh d) ≡ broken c → textSays t names d ≡ refuses 61 1 c
   unfolding textSays namesSay
   names-torn e = rw e
 
@@ -109,13 +110,13 @@ module _ (def : List ℕ) (t : List ℤ) (d : List ℕ) {rows : ℕ} (e : rows �
   as-due = rw e
 
   pub import-same : {next : ℕ} → SameNames (nameLine def t rows) d next → importSays def t d
-      ≡ linesSay t 2 (linesOf (page start (drop next d)))
+      ≡ linesSay t 2 (pageLines (page start (drop next d)))
   import-same k = as-due ∙ names-same t (nameLine def t rows) d k
 
   pub import-other : {c : ℕ} → OtherNames (nameLine def t rows) d c → importSays def t d ≡ refuses 62 1 c
   import-other k = as-due ∙ names-other t (nameLine def t rows) d k
 
-  pub import-torn : {c : ℕ} → linesOf (page fresh d) ≡ broken c → importSays def t d ≡ refuses 61 1 c
+  pub import-torn : {c : ℕ} → pageLines (page fresh d) ≡ broken c → importSays def t d ≡ refuses 61 1 c
   import-torn k = as-due ∙ names-torn t (nameLine def t rows) d k
 
 -- ---- the call
@@ -128,15 +129,15 @@ module _ (t : List ℤ) (good : wellFormed t ≡ true) (h : Header) (head : h �
 
 module _ (def : List ℕ) (t : List ℤ) (s out : List ℕ) where
   pub bad-table : wellFormed t ≡ false → Imported def t s out out (refused 20 0 0)
-  unfolding importVerdict outputAfter
+  unfolding importVerdict importAfter
   bad-table e = record { says = rw e; leaves = rw e }
 
   pub other-table : wellFormed t ≡ true → yields def t ≡ false → Imported def t s out out (refused 40 0 0)
-  unfolding importVerdict outputAfter
+  unfolding importVerdict importAfter
   other-table e f = record { says = rw (e, f); leaves = rw (e, f) }
 
   pub shared-place : wellFormed t ≡ true → yields def t ≡ true → sharesNone t (rowsOf t) ≡ false → Imported def t s out out (refused 90 0 0)
-  unfolding importVerdict outputAfter
+  unfolding importVerdict importAfter
   shared-place e f g = record { says = rw (e, f, g); leaves = rw (e, f, g) }
 
   pub as-said : wellFormed t ≡ true → yields def t ≡ true → sharesNone t (rowsOf t) ≡ true → {out′ : List ℕ} {v : ImportVerdict}

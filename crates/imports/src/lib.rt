@@ -6,7 +6,7 @@ ghost use lib.ListN.{length, drop};
 ghost use Rattle.ascii.specs.rule.Tens.{Tens};
 ghost use Rattle.sound.specs.rule.Rows.{rowsOf, lengthOf};
 ghost use Rattle.sharing.specs.Known.{TableKnown};
-ghost use Rattle.csv_fields.specs.rule.Page.{start, page, linesOf};
+ghost use Rattle.csv_fields.specs.rule.Page.{start, page, pageLines};
 ghost use Rattle.import_rule.specs.rule.Text.{linesSay};
 ghost use Rattle.import_lines.specs.Build.{FullRows};
 ghost use Rattle.import_passes.specs.Passes.{Accepted, JudgedAs};
@@ -51,9 +51,9 @@ fn build_records(
     requires { ⌜ Tens (now powers) ⌝ }
     requires { ⌜ TableKnown (now t) rows len × (rows ≡ rowsOf (now t)) × (len ≡ lengthOf (now t)) ⌝ }
     requires { ⌜ (from ≤ length (now d)) × (len ≤ 16384) × FullRows (now t) rows (now full) ⌝ }
-    requires { ⌜ Accepted (linesSay (now t) 2 (linesOf (page start (drop from (now d))))) n ⌝ }
+    requires { ⌜ Accepted (linesSay (now t) 2 (pageLines (page start (drop from (now d))))) n ⌝ }
     requires { ⌜ (length (now list) ≡ 9999) × (length (now room) ≡ 50000) × (length (now spare) ≡ 50000) ⌝ }
-    ensures { λ r. ⌜ Roomed (linesSay (now (t .entry)) 2 (linesOf (page start (drop from (now (d .entry)))))) (now (out .entry))
+    ensures { λ r. ⌜ Roomed (linesSay (now (t .entry)) 2 (pageLines (page start (drop from (now (d .entry)))))) (now (out .entry))
         (now (out .exit)) (importSaid r) ⌝ }
 {
     let size = len + 2;
@@ -98,7 +98,7 @@ fn judge_records(
     requires { ⌜ TableKnown (now t) rows len × (rows ≡ rowsOf (now t)) × (len ≡ lengthOf (now t)) ⌝ }
     requires { ⌜ (from ≤ length (now d)) × (len ≤ 16384) × (length (now slot) ≡ 16386) × FullRows (now t) rows (now full) ⌝ }
     requires { ⌜ (length (now list) ≡ 9999) × (length (now room) ≡ 50000) × (length (now spare) ≡ 50000) ⌝ }
-    ensures { λ r. ⌜ JudgedAs (linesSay (now (t .entry)) 2 (linesOf (page start (drop from (now (d .entry)))))) r ⌝ }
+    ensures { λ r. ⌜ JudgedAs (linesSay (now (t .entry)) 2 (pageLines (page start (drop from (now (d .entry)))))) r ⌝ }
 {
     let size = len + 2;
     import_passes::judge_lines(
@@ -127,7 +127,7 @@ fn import_records(
 ) -> Import
     requires { ⌜ TableKnown (now t) rows len × (rows ≡ rowsOf (now t)) × (len ≡ lengthOf (now t)) ⌝ }
     requires { ⌜ (from ≤ length (now d)) × (len ≤ 16384) ⌝ }
-    ensures { λ r. ⌜ Roomed (linesSay (now (t .entry)) 2 (linesOf (page start (drop from (now (d .entry)))))) (now (out .entry))
+    ensures { λ r. ⌜ Roomed (linesSay (now (t .entry)) 2 (pageLines (page start (drop from (now (d .entry)))))) (now (out .entry))
         (now (out .exit)) (importSaid r) ⌝ }
 {
     let powers = ascii::powers();

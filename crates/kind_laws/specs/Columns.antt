@@ -15,9 +15,9 @@ use Rattle.survey.specs.rule.Survey.{Figure, Amount, Range, Line, Block, Spread
 use Rattle.survey.specs.rule.Survey.{Variable}
 use Rattle.survey.specs.rule.Width.{someOf, eachOf, rangeEnds, amounts, scaled, decimalsIn, bare, pointIn, blockIn, finishIn, roomIn}
 use Rattle.survey.specs.rule.Width.{partsOf, subwidthOf}
-use Rattle.survey.specs.rule.Width.{kindIn, widest, widthIn}
-use Rattle.survey.specs.rule.Table.{typeOf, spreadIn, ranged, fromOf, toOf, columnsOf, linesOf}
-use Rattle.kind_laws.specs.rule.Meet.{amountSaid, rangeSaid, lineSaid, blockSaid, spreadSaid, contentSaid, saidBy}
+use Rattle.survey.specs.rule.Width.{kindIn, widestAmount, widthIn}
+use Rattle.survey.specs.rule.Table.{typeOf, spreadIn, ranged, fromOf, toOf, variableColumns, linesOf}
+use Rattle.kind_laws.specs.rule.Meet.{amountSaid, rangeSaid, lineSaid, blockSaid, spreadSaid, contentSaid, saidAlike}
 
 -- ---- the numbers of a block
 some-said : (f : Amount → Bool) → ((a : Amount) → f (amountSaid a) ≡ f a) → (l : List Amount) → someOf f (map amountSaid l) ≡ someOf f l
@@ -40,8 +40,8 @@ point-said l =
     let f = each-said bare (λ a. refl) l in
     rw (e, f)
 
-widest-said : (k : Kind) (l : List Amount) → widest k (map amountSaid l) ≡ widest k l
-unfolding widest
+widest-said : (k : Kind) (l : List Amount) → widestAmount k (map amountSaid l) ≡ widestAmount k l
+unfolding widestAmount
 widest-said k [] = refl
 widest-said k (a ∷ l) = ap (λ (n : ℕ). max (need k (scaled a)) n) (widest-said k l)
 
@@ -75,8 +75,8 @@ module _ (b : Block) where
   block-point : pointIn said ≡ pointIn own
   block-point = ap pointIn said-is ∙ point-said own
 
-  block-widest : (k : Kind) → widest k said ≡ widest k own
-  block-widest k = ap (widest k) said-is ∙ widest-said k own
+  block-widest : (k : Kind) → widestAmount k said ≡ widestAmount k own
+  block-widest k = ap (widestAmount k) said-is ∙ widest-said k own
 
 range-ranged : (r : Option Range) → ranged (rangeSaid r) ≡ ranged r
 range-ranged none = refl
@@ -188,24 +188,24 @@ shape-said room logical = record {
   lines = refl;
 }
 
-firsts-said : (before : ℕ) (v : Variable) → firsts (columnsOf before (saidBy v)) ≡ firsts (columnsOf before v)
-unfolding columnsOf saidBy
+firsts-said : (before : ℕ) (v : Variable) → firsts (variableColumns before (saidAlike v)) ≡ firsts (variableColumns before v)
+unfolding variableColumns saidAlike
 firsts-said before v =
     let s = shape-said (roomIn v) (v .content) in
     rw (s .kind, s .width, s .decimals, s .point, s .subfields, s .subwidth) (rw (s .range, s .from, s .to, s .lines))
 
 -- SO ROWS OF VARIABLES THAT SAY THE SAME are the same in these
-module _ (v u : Variable) (same : saidBy v ≡ saidBy u) where
-  pub firsts-same : (before : ℕ) → firsts (columnsOf before v) ≡ firsts (columnsOf before u)
+module _ (v u : Variable) (same : saidAlike v ≡ saidAlike u) where
+  pub firsts-same : (before : ℕ) → firsts (variableColumns before v) ≡ firsts (variableColumns before u)
   firsts-same before =
-      sym (firsts-said before v) ∙ ap (λ (w : Variable). firsts (columnsOf before w)) same ∙ firsts-said before u
+      sym (firsts-said before v) ∙ ap (λ (w : Variable). firsts (variableColumns before w)) same ∙ firsts-said before u
 
   pub finish-same : finishIn v ≡ finishIn u
-  unfolding saidBy
+  unfolding saidAlike
   finish-same = ap (λ (w : Variable). finishIn w) same
 
-  lines-said : (w : Variable) → linesOf (saidBy w) ≡ map lineSaid (linesOf w)
-  unfolding saidBy
+  lines-said : (w : Variable) → linesOf (saidAlike w) ≡ map lineSaid (linesOf w)
+  unfolding saidAlike
   lines-said w = by (w .content) where
     by : (c : Content) → blockIn (contentSaid c) .lines ≡ map lineSaid (blockIn c .lines)
     by (single b) = refl

@@ -11,7 +11,7 @@ use Rattle.markup.specs.declared.Skip.the-variants as skip
 use Rattle.markup.specs.declared.Char.{Char}
 use Rattle.markup.specs.declared.Char.the-variants as char
 use Rattle.markup.specs.rule.Bytes as bytes
-use Rattle.markup.specs.rule.Gap.{gapOf, commentOf}
+use Rattle.markup.specs.rule.Gap.{gapOf, xmlComment}
 use Rattle.markup.specs.rule.Reference.{referenceOf}
 use Rattle.angles.specs.declared.Angle.{Angle}
 use Rattle.angles.specs.declared.Angle.the-variants as angle
@@ -24,7 +24,7 @@ use Rattle.tags.specs.declared.Tag.the-variants as tag
 use Rattle.tags.specs.declared.Turn.{Turn}
 use Rattle.tags.specs.declared.Turn.the-variants as turn
 use Rattle.attributes.specs.rule.Attribute.{attributeOf}
-use Rattle.tags.specs.rule.Tag.{missesOf, putOf, shutOf, turned, turnOf, turnsOf, tagOf}
+use Rattle.tags.specs.rule.Tag.{missesOf, putOf, shutTag, turned, turnOf, turnsOf, tagOf}
 use Rattle.tags.specs.rule.Tag as tags
 use Rattle.tags.proofs.Turns.{turn-on, turns-next, turns-over}
 use Rattle.pairs.specs.declared.Stand.{Stand}
@@ -33,14 +33,15 @@ use Rattle.pairs.specs.declared.Pair.{Pair}
 use Rattle.pairs.specs.declared.Pair.the-variants as pair
 use Rattle.pairs.specs.rule.Stand.{standOf, bareOf}
 use Rattle.pairs.specs.rule.Stand as stands
-use Rattle.pairs.specs.rule.Pair.{onBare, onShut, onStand, missedOf, closedOf, pairOf}
+use Rattle.pairs.specs.rule.Pair.{pairBare, pairShut, onStand, missedOf, closedOf, pairOf}
 use Rattle.contents.specs.declared.Going.{Going}
 use Rattle.contents.specs.declared.Content.{Content}
 use Rattle.contents.specs.declared.Content.the-variants as content
 use Rattle.contents.specs.declared.Step.{Step}
 use Rattle.contents.specs.declared.Step.the-variants as step
 use Rattle.contents.specs.rule.Grammar.{br, text, lang}
-use Rattle.contents.specs.rule.Step.{onChar, onNote, onPair, onBreak, onLanguage, onOther, onOut, onEnd, onAngle, knowing, modeIn, kindOf}
+use Rattle.contents.specs.rule.Step.{onChar, onNote, contentPair, onBreak, onLanguage, onOther, onOut, onEnd, onAngle, knowing, modeIn}
+use Rattle.contents.specs.rule.Step.{stepKind}
 use Rattle.contents.specs.rule.Step.{bracketAt, returnAt, referAt, noteAt, pairAt, breakAt, languageAt, otherAt, startAt, closeAt, markAt}
 use Rattle.contents.specs.rule.Step.{stepOf}
 use Rattle.contents.specs.rule.Content.{begun, contentFrom, contentOf}
@@ -48,8 +49,9 @@ use Rattle.contents.specs.declared.Said.{Said}
 use Rattle.contents.proofs.Goes.{step-on, content-next, content-over}
 use Rattle.prologs.specs.rule.Form.{Form, done, white, room, word, value, encoding, literal, root, bracket, perhaps, which}
 use Rattle.prologs.specs.rule.Form.{XML, DOCTYPE, UTF-8, ISO-8859-1, sss, declaration, doctype}
-use Rattle.prologs.specs.rule.Told.{startOf, amongOf, alikeOf, quotedOf, missOf, blanks, onSkip, tellOf, declarationOf, gapTo, gapOn}
-use Rattle.prologs.specs.rule.Told.{headOf, endOf, behindRoot, tailOf}
+use Rattle.prologs.specs.rule.Told.{startBehindMark, amongOf, alikeOf, quotedString, missOf, blanks, onPassed, tellOf, declarationOf, gapTo}
+use Rattle.prologs.specs.rule.Told.{gapOn}
+use Rattle.prologs.specs.rule.Told.{headOf, endOfFile, behindRoot, tailFrom}
 use Rattle.prologs.specs.declared.Prolog.{Prolog}
 use Rattle.prologs.specs.declared.Prolog.the-variants as prolog
 use Rattle.prologs.specs.declared.Tail.{Tail}
@@ -81,7 +83,7 @@ put-free h slot name next good v k =
     (either TurnFree (eqb slot 3) (either TurnFree (eqb (h .c) 0) (either TurnFree good tt refl) refl) tt))
 
 turned-free : (d x y z : List ℕ) (f g k required : ℕ) (h : Held) (a : Attribute) → TurnFree (turned d x y z f g k required h a)
-unfolding shutOf
+unfolding shutTag
 turned-free d x y z f g k required h (attribute.One n e v w next) = put-free h _ n next _ v w
 turned-free d x y z f g k required h (attribute.Shut empty place next) = either TagFree (missesOf required h) refl tt
 turned-free d x y z f g k required h (attribute.Faulty p) = refl
@@ -109,7 +111,7 @@ module _ (bad : Bool) (d : List ℕ) (opened : ℕ) (x y z : List ℕ) (f g k re
 pub tag-free : (bad : Bool) (d : List ℕ) (opened at : ℕ) (x y z : List ℕ) (f g k required : ℕ)
     → TagFree (tagOf bad d opened at x y z f g k required)
 tag-free bad d opened at x y z f g k required =
-    turns-free bad d opened x y z f g k required (length d - at) (tags.nothing at) (omega arith)
+    turns-free bad d opened x y z f g k required (length d - at) (tags.nothingHeld at) (omega arith)
 
 pub bare-free : (bad : Bool) (d : List ℕ) (p e : ℕ) → TagFree (bareOf bad d p e)
 bare-free bad d p e = tag-free bad d p e [] [] [] 0 0 0 0
@@ -123,11 +125,11 @@ PairFree (pair.Fault k p) = Free k
 pub pair-free : (bad : Bool) (d : List ℕ) (at : ℕ) (w : List ℕ) → PairFree (pairOf bad d at w)
 unfolding pairOf missedOf closedOf
 pair-free bad d at w = by (standOf bad d at) where
-  bare : (o : ℕ) (t : Tag) → TagFree t → PairFree (onBare o t)
+  bare : (o : ℕ) (t : Tag) → TagFree t → PairFree (pairBare o t)
   bare o (tag.Read h empty p n) k = tt
   bare o (tag.Fault number p) k = k
 
-  shut : (s : Skip) → PairFree (onShut s)
+  shut : (s : Skip) → PairFree (pairShut s)
   shut (skip.Past n) = tt
   shut (skip.Broken p) = refl
 
@@ -157,7 +159,7 @@ module _ (bad : Bool) (d : List ℕ) (g : Going) where
   note-free (skip.Past n) = tt
   note-free (skip.Broken p) = refl
 
-  broken-free : (h : Going) (x : Pair) → PairFree x → StepFree (onPair h x)
+  broken-free : (h : Going) (x : Pair) → PairFree x → StepFree (contentPair h x)
   broken-free h (pair.Past n) k = tt
   broken-free h (pair.Cut p) k = tt
   broken-free h (pair.Fault number p) k = k
@@ -187,9 +189,9 @@ module _ (bad : Bool) (d : List ℕ) (g : Going) where
   start-free : (m e : ℕ) → StepFree (startAt bad d m g e)
   unfolding startAt breakAt languageAt otherAt
   start-free m e =
-      either StepFree (eqb (kindOf d (modeIn m (g .inside)) (g .next + 1) e) 1)
+      either StepFree (eqb (stepKind d (modeIn m (g .inside)) (g .next + 1) e) 1)
       (break-free (bareOf bad d (g .next) e) (bare-free bad d (g .next) e))
-      (either StepFree (eqb (kindOf d (modeIn m (g .inside)) (g .next + 1) e) 2)
+      (either StepFree (eqb (stepKind d (modeIn m (g .inside)) (g .next + 1) e) 2)
       (language-free (tagOf bad d (g .next) e lang [] [] 0 0 0 1) (tag-free bad d (g .next) e lang [] [] 0 0 0 1))
       (other-free (bareOf bad d (g .next) e) (bare-free bad d (g .next) e)))
 
@@ -207,7 +209,7 @@ module _ (bad : Bool) (d : List ℕ) (g : Going) where
       either StepFree (leb (length d) (g .next)) refl
       (either StepFree (eqb (getD d (g .next) 0) 60)
       (either StepFree (bytes.stands (60 ∷ 33 ∷ 45 ∷ 45 ∷ []) (drop (g .next) d))
-      (note-free (commentOf bad (g .next) (g .next + 4) (drop (g .next + 4) d)))
+      (note-free (xmlComment bad (g .next) (g .next + 4) (drop (g .next + 4) d)))
       (angle-free m w (angleOf bad d (g .next))))
       (either StepFree (eqb (getD d (g .next) 0) 38) (refer-free (referenceOf (g .next) (drop (g .next + 1) d)))
       (either StepFree (eqb (getD d (g .next) 0) 93) (either StepFree (bytes.stands (93 ∷ 93 ∷ 62 ∷ []) (drop (g .next) d)) refl tt)
@@ -237,7 +239,7 @@ abbrev pub PrologFree : Prolog → Type 0
 PrologFree (prolog.Read latin n) = Unit
 PrologFree (prolog.Fault k p) = Free k
 
-skip-free : (s : Skip) (k : ℕ → Prolog) → ((n : ℕ) → PrologFree (k n)) → PrologFree (onSkip s k)
+skip-free : (s : Skip) (k : ℕ → Prolog) → ((n : ℕ) → PrologFree (k n)) → PrologFree (onPassed s k)
 skip-free (skip.Past n) k h = h n
 skip-free (skip.Broken p) k h = refl
 
@@ -248,13 +250,13 @@ module _ (bad : Bool) (d : List ℕ) (o : ℕ) where
   tell-free (white f) latin p = either PrologFree (eqb (blanks d p) p) refl (tell-free f latin (blanks d p))
   tell-free (room f) latin p = tell-free f latin (blanks d p)
   tell-free (word w f) latin p = either PrologFree (bytes.stands w (drop p d)) (tell-free f latin (p + length w)) refl
-  tell-free (value ws f) latin p = skip-free (quotedOf true false bad d o p) _
+  tell-free (value ws f) latin p = skip-free (quotedString true false bad d o p) _
       (λ k. either PrologFree (amongOf d (p + 1) k ws) (tell-free f latin (k + 1)) refl)
   tell-free (encoding marked f) latin p =
-      skip-free (quotedOf true false bad d o p) _
+      skip-free (quotedString true false bad d o p) _
       (λ k. either PrologFree (alikeOf d (p + 1) k UTF-8) (tell-free f false (k + 1))
       (either PrologFree marked refl (either PrologFree (alikeOf d (p + 1) k ISO-8859-1) (tell-free f true (k + 1)) refl)))
-  tell-free (literal public f) latin p = skip-free (quotedOf false public bad d o p) _ (λ k. tell-free f latin (k + 1))
+  tell-free (literal public f) latin p = skip-free (quotedString false public bad d o p) _ (λ k. tell-free f latin (k + 1))
   tell-free (root f) latin p =
       either PrologFree (bytes.stands sss (drop p d)) (tell-free f latin (p + 3))
       (either PrologFree (leb (length d) p) refl (either PrologFree (bytes.startsName (getD d p 0)) refl refl))
@@ -267,8 +269,8 @@ module _ (bad : Bool) (d : List ℕ) (o : ℕ) where
 pub declaration-free : (d : List ℕ) → PrologFree (declarationOf d)
 unfolding declarationOf
 declaration-free d =
-    either PrologFree (bytes.stands XML (drop (startOf d) d))
-    (tell-free false d (startOf d) (declaration (ltb 0 (startOf d))) false (startOf d)) tt
+    either PrologFree (bytes.stands XML (drop (startBehindMark d) d))
+    (tell-free false d (startBehindMark d) (declaration (ltb 0 (startBehindMark d))) false (startBehindMark d)) tt
 
 gap-free : (bad : Bool) (d : List ℕ) (x : Prolog) → PrologFree x → PrologFree (gapOn bad d x)
 unfolding gapTo
@@ -286,8 +288,8 @@ abbrev pub TailFree : Tail → Type 0
 TailFree tail.Clean = Unit
 TailFree (tail.Foul k p) = Free k
 
-pub tail-free : (bad : Bool) (d : List ℕ) (p : ℕ) → TailFree (tailOf bad d p)
-unfolding tailOf endOf
+pub tail-free : (bad : Bool) (d : List ℕ) (p : ℕ) → TailFree (tailFrom bad d p)
+unfolding tailFrom endOfFile
 tail-free bad d p = by (gapOf bad d p) where
   by : (s : Skip) → TailFree (behindRoot bad d s)
   by (skip.Past n) =

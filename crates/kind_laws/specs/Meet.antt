@@ -15,14 +15,15 @@ use Rattle.layout.specs.declared.Columns.{Columns}
 use Rattle.rows.specs.rule.Cells.{rowCells, headerCells}
 use Rattle.survey.specs.rule.Survey.{Line, Variable}
 use Rattle.survey.specs.rule.Width.{scaled, finishIn}
-use Rattle.survey.specs.rule.Table.{columnsOf, linesOf, linesAll, highestIn, headerFor, rowsFrom, lineCells, cellsOf, allLines, tableOf}
-use Rattle.xml_reading.specs.rule.Role.{Entry, variablesOf}
+use Rattle.survey.specs.rule.Table.{variableColumns, linesOf, linesAll, highestIn, headerFor, rowsFrom, lineCells, cellsOf, allLines}
+use Rattle.survey.specs.rule.Table.{tableOf}
+use Rattle.xml_reading.specs.rule.Role.{XmlEntry, variablesOf}
 use Rattle.xml_reading.specs.rule.Whole as xml
 use Rattle.sound.specs.rule.Rows.{rowsOf}
 use Rattle.sound.specs.rule.Sound.{wellFormed}
 use Rattle.blind_laws.specs.rule.Blind.{Alike, SameRules}
 use Rattle.blind_laws.specs.Blind.{blind}
-use Rattle.kind_laws.specs.rule.Meet.{lineSaid, saidBy, Meet, nil, more}
+use Rattle.kind_laws.specs.rule.Meet.{lineSaid, saidAlike, Meet, nil, more}
 use Rattle.kind_laws.specs.Columns.{firsts, lasts, firsts-same, finish-same, lines-same, count-same}
 
 -- ---- lines
@@ -42,7 +43,7 @@ cells-alike (x ∷ l) (y ∷ m) s t e h (suc j) =
     let n : lineSize * suc j ≡ suc (suc (suc (suc (lineSize * j)))) = omega arith in
     rw n (cells-alike l m s t q h j)
 
-lines-alike : {l : List Entry} {m : List Variable} → Meet l m → (j : ℕ)
+lines-alike : {l : List XmlEntry} {m : List Variable} → Meet l m → (j : ℕ)
     → cell (allLines (variablesOf l)) (lineSize * j) ≡ cell (allLines m) (lineSize * j)
 unfolding allLines
 lines-alike nil j = refl
@@ -50,16 +51,16 @@ lines-alike (more {v = v} {u = u} {l = l} {m = m} e r) j =
     cells-alike (linesOf (v .variable)) (linesOf u) (allLines (variablesOf l)) (allLines m) (lines-same (v .variable) u e) (lines-alike r) j
 
 -- ---- counts
-rows-same : {l : List Entry} {m : List Variable} → Meet l m → length l ≡ length m
+rows-same : {l : List XmlEntry} {m : List Variable} → Meet l m → length l ≡ length m
 rows-same nil = refl
 rows-same (more e r) = rw (rows-same r)
 
-all-same : {l : List Entry} {m : List Variable} → Meet l m → linesAll (variablesOf l) ≡ linesAll m
+all-same : {l : List XmlEntry} {m : List Variable} → Meet l m → linesAll (variablesOf l) ≡ linesAll m
 unfolding linesAll
 all-same nil = refl
 all-same (more {v = v} {u = u} e r) = rw (count-same (v .variable) u e, all-same r)
 
-highest-same : {l : List Entry} {m : List Variable} → Meet l m → highestIn (variablesOf l) ≡ highestIn m
+highest-same : {l : List XmlEntry} {m : List Variable} → Meet l m → highestIn (variablesOf l) ≡ highestIn m
 unfolding highestIn
 highest-same nil = refl
 highest-same (more {v = v} {u = u} e r) = rw (finish-same (v .variable) u e, highest-same r)
@@ -79,18 +80,18 @@ row-long c = refl
 row-behind : (c : Columns) (s : List ℤ) (n : ℕ) → cell (rowCells c ++ s) (rowSize + n) ≡ cell s n
 row-behind c s n = rw (← row-long c) (getD-append-add (rowCells c) s n (pos 0))
 
-columns-for : (before : ℕ) (v : Entry) → firsts (xml.columnsFor before v) ≡ firsts (columnsOf before (v .variable))
+columns-for : (before : ℕ) (v : XmlEntry) → firsts (xml.columnsFor before v) ≡ firsts (variableColumns before (v .variable))
 unfolding xml.columnsFor
 columns-for before v = refl
 
-rows-alike : {l : List Entry} {m : List Variable} → Meet l m → (before : ℕ) (s t : List ℤ) (i k : ℕ) → i < length l → k < 14
-    → cell (xml.rowsFrom before l ++ s) (rowSize * i + k) ≡ cell (rowsFrom before m ++ t) (rowSize * i + k)
-unfolding xml.rowsFrom rowsFrom
+rows-alike : {l : List XmlEntry} {m : List Variable} → Meet l m → (before : ℕ) (s t : List ℤ) (i k : ℕ) → i < length l → k < 14
+    → cell (xml.xmlRows before l ++ s) (rowSize * i + k) ≡ cell (rowsFrom before m ++ t) (rowSize * i + k)
+unfolding xml.xmlRows rowsFrom
 rows-alike nil before s t i k h g = absurd (omega arith)
 rows-alike (more {v = v} {u = u} {l = l} {m = m} e r) before s t zero k h g =
     let c = xml.columnsFor before v in
-    let f = columnsOf before u in
-    let n = xml.rowsFrom (before + length (linesOf (v .variable))) l in
+    let f = variableColumns before u in
+    let n = xml.xmlRows (before + length (linesOf (v .variable))) l in
     let o = rowsFrom (before + length (linesOf u)) m in
     let z : rowSize * zero + k ≡ k = omega arith in
     rw (z, append-assoc (rowCells c) n s, append-assoc (rowCells f) o t)
@@ -98,8 +99,8 @@ rows-alike (more {v = v} {u = u} {l = l} {m = m} e r) before s t zero k h g =
     ∙ sym (row-front f (o ++ t) k g))
 rows-alike (more {v = v} {u = u} {l = l} {m = m} e r) before s t (suc i) k h g =
     let c = xml.columnsFor before v in
-    let f = columnsOf before u in
-    let n = xml.rowsFrom (before + length (linesOf (v .variable))) l in
+    let f = variableColumns before u in
+    let n = xml.xmlRows (before + length (linesOf (v .variable))) l in
     let o = rowsFrom (before + length (linesOf (v .variable))) m in
     let z : rowSize * suc i + k ≡ rowSize + (rowSize * i + k) = omega arith in
     rw (z, ← count-same (v .variable) u e, append-assoc (rowCells c) n s, append-assoc (rowCells f) o t)
@@ -107,19 +108,19 @@ rows-alike (more {v = v} {u = u} {l = l} {m = m} e r) before s t (suc i) k h g =
     ∙ rows-alike r (before + length (linesOf (v .variable))) s t i k (omega arith) g
     ∙ sym (row-behind f (o ++ t) (rowSize * i + k)))
 
-xml-long : (before : ℕ) (l : List Entry) → length (xml.rowsFrom before l) ≡ rowSize * length l
-unfolding xml.rowsFrom
+xml-long : (before : ℕ) (l : List XmlEntry) → length (xml.xmlRows before l) ≡ rowSize * length l
+unfolding xml.xmlRows
 xml-long before [] = refl
 xml-long before (v ∷ l) =
-    length-append (rowCells (xml.columnsFor before v)) (xml.rowsFrom (before + length (linesOf (v .variable))) l)
+    length-append (rowCells (xml.columnsFor before v)) (xml.xmlRows (before + length (linesOf (v .variable))) l)
     ∙ rw (row-long (xml.columnsFor before v), xml-long (before + length (linesOf (v .variable))) l) (omega arith)
 
 sss-long : (before : ℕ) (l : List Variable) → length (rowsFrom before l) ≡ rowSize * length l
 unfolding rowsFrom
 sss-long before [] = refl
 sss-long before (v ∷ l) =
-    length-append (rowCells (columnsOf before v)) (rowsFrom (before + length (linesOf v)) l)
-    ∙ rw (row-long (columnsOf before v), sss-long (before + length (linesOf v)) l) (omega arith)
+    length-append (rowCells (variableColumns before v)) (rowsFrom (before + length (linesOf v)) l)
+    ∙ rw (row-long (variableColumns before v), sss-long (before + length (linesOf v)) l) (omega arith)
 
 -- ---- the tables
 -- behind a header, and behind rows
@@ -140,20 +141,20 @@ five-same : {v w e f n o : ℕ} → v ≡ w → e ≡ f → n ≡ o → (k : ℕ
     ≡ cell (pos w ∷ pos f ∷ pos o ∷ pos headerSize ∷ pos (linesBase w) ∷ []) k
 five-same p q s k = rw (p, q, s)
 
-rows-are : (l : List Entry) → rowsOf (xml.tableOf l) ≡ length l
-unfolding xml.tableOf xml.headerFor headerCells headerOf countOf
+rows-are : (l : List XmlEntry) → rowsOf (xml.xmlTable l) ≡ length l
+unfolding xml.xmlTable xml.xmlHeader headerCells headerOf countOf
 rows-are l = refl
 
-module _ {l : List Entry} {m : List Variable} (r : Meet l m) where
+module _ {l : List XmlEntry} {m : List Variable} (r : Meet l m) where
   abbrev x : List ℤ
-  x = xml.rowsFrom 0 l ++ allLines (variablesOf l)
+  x = xml.xmlRows 0 l ++ allLines (variablesOf l)
 
   abbrev y : List ℤ
   y = rowsFrom 0 m ++ allLines m
 
   -- the header but for its mark
-  header-alike : (k : ℕ) → 1 ≤ k → k < headerSize → cell (xml.tableOf l) k ≡ cell (tableOf m) k
-  unfolding xml.tableOf tableOf xml.headerFor headerFor headerCells
+  header-alike : (k : ℕ) → 1 ≤ k → k < headerSize → cell (xml.xmlTable l) k ≡ cell (tableOf m) k
+  unfolding xml.xmlTable tableOf xml.xmlHeader headerFor headerCells
   header-alike zero a b = absurd (omega arith)
   header-alike (suc k) a b =
       header-front (pos markXml) (pos (length l)) (pos (linesAll (variablesOf l))) (pos (highestIn (variablesOf l))) (pos headerSize)
@@ -162,35 +163,35 @@ module _ {l : List Entry} {m : List Variable} (r : Meet l m) where
       ∙ sym (header-front (pos mark) (pos (length m)) (pos (linesAll m)) (pos (highestIn m)) (pos headerSize) (pos (linesBase (length m))) y
       (suc k) b)
 
-  xml-behind : (n : ℕ) → cell (xml.tableOf l) (headerSize + n) ≡ cell x n
-  unfolding xml.tableOf xml.headerFor headerCells
+  xml-behind : (n : ℕ) → cell (xml.xmlTable l) (headerSize + n) ≡ cell x n
+  unfolding xml.xmlTable xml.xmlHeader headerCells
   xml-behind n = header-behind _ _ _ _ _ _ x n
 
   sss-behind : (n : ℕ) → cell (tableOf m) (headerSize + n) ≡ cell y n
   unfolding tableOf headerFor headerCells
   sss-behind n = header-behind _ _ _ _ _ _ y n
 
-  row-alike : (i k : ℕ) → i < rowsOf (xml.tableOf l) → k < 14 → cell (xml.tableOf l) (rowBase i + k) ≡ cell (tableOf m) (rowBase i + k)
+  row-alike : (i k : ℕ) → i < rowsOf (xml.xmlTable l) → k < 14 → cell (xml.xmlTable l) (rowBase i + k) ≡ cell (tableOf m) (rowBase i + k)
   row-alike i k h g =
       let z : rowBase i + k ≡ headerSize + (rowSize * i + k) = omega arith in
       let j : i < length l = rw (rows-are l) at h in
       rw z (xml-behind (rowSize * i + k) ∙ rows-alike r 0 (allLines (variablesOf l)) (allLines m) i k j g
       ∙ sym (sss-behind (rowSize * i + k)))
 
-  value-alike : (j : ℕ) → cell (xml.tableOf l) (lineBase (length l) j) ≡ cell (tableOf m) (lineBase (length l) j)
+  value-alike : (j : ℕ) → cell (xml.xmlTable l) (lineBase (length l) j) ≡ cell (tableOf m) (lineBase (length l) j)
   value-alike j =
       let z : lineBase (length l) j ≡ headerSize + (rowSize * length l + lineSize * j) = omega arith in
       let n : length (rowsFrom 0 m) ≡ rowSize * length l = sss-long 0 m ∙ rw (rows-same r) in
       rw z
       (xml-behind (rowSize * length l + lineSize * j)
-      ∙ rows-behind (xml.rowsFrom 0 l) (allLines (variablesOf l)) (length l) (lineSize * j) (xml-long 0 l)
+      ∙ rows-behind (xml.xmlRows 0 l) (allLines (variablesOf l)) (length l) (lineSize * j) (xml-long 0 l)
       ∙ lines-alike r j
       ∙ sym (rows-behind (rowsFrom 0 m) (allLines m) (length l) (lineSize * j) n)
       ∙ sym (sss-behind (rowSize * length l + lineSize * j)))
 
-  pub roads-meet : Alike (xml.tableOf l) (tableOf m)
+  pub roads-meet : Alike (xml.xmlTable l) (tableOf m)
   roads-meet = record { header = header-alike; row = row-alike; line = λ j h. rw (rows-are l) (value-alike j) }
 
   -- so, both well formed, every reading, judgement and write by the one is that by the other
-  pub rules-meet : wellFormed (xml.tableOf l) ≡ true → wellFormed (tableOf m) ≡ true → SameRules (xml.tableOf l) (tableOf m)
-  rules-meet g h = blind (xml.tableOf l) (tableOf m) g h roads-meet
+  pub rules-meet : wellFormed (xml.xmlTable l) ≡ true → wellFormed (tableOf m) ≡ true → SameRules (xml.xmlTable l) (tableOf m)
+  rules-meet g h = blind (xml.xmlTable l) (tableOf m) g h roads-meet

@@ -15,14 +15,14 @@ use Rattle.definition.specs.rule.Definition as sss
 use Rattle.refusals.specs.Refusals.{refusal-named, refusal-placed, answered}
 use Rattle.prologs.specs.rule.Told.{isXml}
 use Rattle.xml_reading.specs.rule.Whole as xml
-use Rattle.kinds.specs.rule.Definition.{ofXml, outcomeOf, answerOf, DefinitionRead}
+use Rattle.kinds.specs.rule.Definition.{ofXml, definitionOutcome, answerOf, DefinitionRead}
 use Rattle.kinds.specs.Plain.{plain-read}
 use Rattle.kind_laws.specs.Leaves.{Free}
 use Rattle.kind_laws.specs.Three.{OutcomeFree, outcome-free}
 
 module _ {d : List ℕ} {t t′ : List ℤ} {k p : ℕ} (w : DefinitionRead d t t′ (answer.Refused k p)) where
   -- 1 to 10 alone, in the file or at its end
-  sss-refused : isXml d ≡ false → sss.outcomeOf d (length t) ≡ sss.Refusal k p
+  sss-refused : isXml d ≡ false → sss.sssOutcome d (length t) ≡ sss.Refusal k p
   sss-refused plain = answered d (length t) k p (sym (plain-read d plain t t′ (answer.Refused k p) .0 w .says))
 
   pub fifty-never-in-sss : isXml d ≡ false → (1 ≤ k) × (k ≤ 10)
@@ -32,9 +32,9 @@ module _ {d : List ℕ} {t t′ : List ℤ} {k p : ℕ} (w : DefinitionRead d t 
   placed-in-sss plain = refusal-placed d (length t) k p (sss-refused plain)
 
   free : isXml d ≡ true → Free k
-  unfolding outcomeOf answerOf
-  free x = go (xml.outcomeOf d (length t)) (outcome-free d (length t)) (w .says ∙ rw x) where
-    go : (o : xml.Outcome) → OutcomeFree o → answer.Refused k p ≡ answerOf (ofXml o) → Free k
+  unfolding definitionOutcome answerOf
+  free x = go (xml.xmlOutcome d (length t)) (outcome-free d (length t)) (w .says ∙ rw x) where
+    go : (o : xml.XmlOutcome) → OutcomeFree o → answer.Refused k p ≡ answerOf (ofXml o) → Free k
     go (xml.Built l) h e = let z : _≡_ {A = ℕ} 0 1 = cc in absurd (omega arith)
     go (xml.Refusal number place) h e = let u : number ≡ k = cc in rw u at h
 

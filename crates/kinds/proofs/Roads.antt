@@ -16,7 +16,7 @@ use Rattle.laying.specs.declared.Rooms.the-variants as rooms
 use Rattle.laying.specs.Code.{cellsIn}
 use Rattle.survey.specs.rule.Table.{linesAll}
 use Rattle.prologs.specs.rule.Told.{isXml}
-use Rattle.xml_reading.specs.rule.Role.{Entry, variablesOf}
+use Rattle.xml_reading.specs.rule.Role.{XmlEntry, variablesOf}
 use Rattle.xml_reading.specs.rule.Whole as xml
 use Rattle.definition.specs.rule.Definition as sss
 use Rattle.definition.specs.Books as books
@@ -26,22 +26,22 @@ use Rattle.definition.proofs.Bridge as bridge
 use Rattle.definition.proofs.Settles.{count-is, lines-is, cells-are}
 use Rattle.definition.proofs.Wholes.{rooms-fit}
 use Rattle.xml_files.specs.Code as sheet
-use Rattle.kinds.specs.rule.Definition.{Outcome, Built, Refusal, ofSss, ofXml, outcomeOf}
+use Rattle.kinds.specs.rule.Definition.{DefinitionOutcome, Built, Refusal, ofSss, ofXml, definitionOutcome}
 use Rattle.kinds.specs.Code.{markOf, fitting, Standing, Ready}
 
 -- ---- 1.1
 -- the outcome of the code's books
-abbrev ofBooks : books.Outcome → Outcome
+abbrev ofBooks : books.Outcome → DefinitionOutcome
 ofBooks (books.Built l) = Built (length l) (kept.linesAll l) (kept.tableOf l)
 ofBooks (books.Refusal k p) = Refusal k p
 
-books-same : {d : List ℕ} {o : books.Outcome} {q : sss.Outcome} → SameOutcome d o q → ofBooks o ≡ ofSss q
+books-same : {d : List ℕ} {o : books.Outcome} {q : sss.SssOutcome} → SameOutcome d o q → ofBooks o ≡ ofSss q
 books-same (bridge.built s) = rw (sames-count s, sames-lines s, sames-table s)
 books-same bridge.refused = refl
 
 module _ (d : List ℕ) (long : length d ≤ 1048576) (plain : isXml d ≡ false) where
-  outcome-is : (n : ℕ) (o : books.Outcome) → books.judged d n (books.surveyOf d) ≡ o → outcomeOf d n ≡ ofBooks o
-  unfolding outcomeOf books.outcomeIn
+  outcome-is : (n : ℕ) (o : books.Outcome) → books.judged d n (books.surveyOf d) ≡ o → definitionOutcome d n ≡ ofBooks o
+  unfolding definitionOutcome books.outcomeIn
   outcome-is n o e =
       let q : books.outcomeIn d n ≡ o = rw (le-ltb 1048576 (length d) long) e in
       rw plain (sym (books-same (outcome-same d n)) ∙ ap ofBooks q)
@@ -58,7 +58,7 @@ module _ (d : List ℕ) (long : length d ≤ 1048576) (plain : isXml d ≡ false
         by true = refl
         by false = refl
 
-    sss-ready : (r : Rooms) → RoomsRead d rows lines r → Ready mark (outcomeOf d) rows lines r
+    sss-ready : (r : Rooms) → RoomsRead d rows lines r → Ready mark (definitionOutcome d) rows lines r
     sss-ready r w = record {
       stands = λ {y} e.
           let s = w .stands e in
@@ -71,27 +71,27 @@ module _ (d : List ℕ) (long : length d ≤ 1048576) (plain : isXml d ≡ false
       refuses = λ {k} {p} e n. outcome-is n (books.Refusal k p) (w .refuses e n);
     }
 
-    pub plain-ready : (r : Rooms) → RoomsRead d rows lines r → Ready (markOf (isXml d)) (outcomeOf d) rows lines r
+    pub plain-ready : (r : Rooms) → RoomsRead d rows lines r → Ready (markOf (isXml d)) (definitionOutcome d) rows lines r
     unfolding markOf
     plain-ready r w = rw plain (sss-ready r w)
 
 -- ---- XML
 module _ (d : List ℕ) (rows lines : List ℤ) (wide : length rows ≡ rowSize * mostRows) (many : length lines ≡ lineSize * mostLines) where
-  xml-fits : (y : Tally) (s : sheet.Standing (xml.outcomeOf d) rows lines y) (n : ℕ) → ofXml (xml.fitting n (s .read))
+  xml-fits : (y : Tally) (s : sheet.Standing (xml.xmlOutcome d) rows lines y) (n : ℕ) → ofXml (xml.xmlFitting n (s .read))
       ≡ fitting n (y .rows) (y .lines) (cellsIn markXml y rows lines)
-  unfolding xml.fitting fitting
-  xml-fits y s n = rw (s .cells, s .count, s .many) (by (ltb n (length (xml.tableOf (s .read))))) where
+  unfolding xml.xmlFitting fitting
+  xml-fits y s n = rw (s .cells, s .count, s .many) (by (ltb n (length (xml.xmlTable (s .read))))) where
     by : (b : Bool) → ofXml (cond b (xml.Refusal 10 0) (xml.Built (s .read)))
-        ≡ cond b (Refusal 10 0) (Built (length (s .read)) (linesAll (variablesOf (s .read))) (xml.tableOf (s .read)))
+        ≡ cond b (Refusal 10 0) (Built (length (s .read)) (linesAll (variablesOf (s .read))) (xml.xmlTable (s .read)))
     by true = refl
     by false = refl
 
-  xml-is : isXml d ≡ true → (n : ℕ) (o : xml.Outcome) → xml.outcomeOf d n ≡ o → outcomeOf d n ≡ ofXml o
-  unfolding outcomeOf
+  xml-is : isXml d ≡ true → (n : ℕ) (o : xml.XmlOutcome) → xml.xmlOutcome d n ≡ o → definitionOutcome d n ≡ ofXml o
+  unfolding definitionOutcome
   xml-is e n o q = rw e (ap ofXml q)
 
-  pub xml-ready : (r : Rooms) → isXml d ≡ true → sheet.RoomsRead (xml.outcomeOf d) rows lines r
-      → Ready (markOf (isXml d)) (outcomeOf d) rows lines r
+  pub xml-ready : (r : Rooms) → isXml d ≡ true → sheet.RoomsRead (xml.xmlOutcome d) rows lines r
+      → Ready (markOf (isXml d)) (definitionOutcome d) rows lines r
   unfolding markOf
   xml-ready r e w = rw e (record {
     stands = λ {y} h.
@@ -100,7 +100,7 @@ module _ (d : List ℕ) (rows lines : List ℤ) (wide : length rows ≡ rowSize 
           few = s .few;
           fit = (omega (arith, s .few .0, wide), omega (arith, s .few .1, many));
           outcome = λ n. xml-is e n
-              (xml.fitting n (s .read)) (s .outcome n) ∙ xml-fits y s n;
+              (xml.xmlFitting n (s .read)) (s .outcome n) ∙ xml-fits y s n;
         };
     refuses = λ {k} {p} h n. xml-is e n (xml.Refusal k p) (w .refuses h n);
   })

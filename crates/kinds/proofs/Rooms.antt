@@ -13,7 +13,7 @@ use Rattle.layout.specs.rule.Layout.{mark, markXml, rowSize, lineSize, lineBase
 use Rattle.values.specs.Room as unless
 use Rattle.laying.specs.declared.Tally.{Tally}
 use Rattle.laying.specs.declared.Rooms.the-variants as rooms
-use Rattle.laying.specs.rule.Begins.{begins}
+use Rattle.laying.specs.rule.Begins.{beginsTable}
 use Rattle.laying.specs.Code.{cellsIn, filledOver}
 use Rattle.laying.proofs.Matched.{cells-length}
 use Rattle.prologs.specs.rule.Told.{isXml}
@@ -24,7 +24,8 @@ use Rattle.definition.specs.declared.Against.{Against}
 use Rattle.definition.specs.declared.Against.the-variants as against
 use Rattle.definition.specs.Code.{fillSays, comparedBy}
 use Rattle.xml_reading.specs.rule.Whole as xml
-use Rattle.kinds.specs.rule.Definition.{Outcome, Built, Refusal, ofSss, ofXml, outcomeOf, answerOf, tableAfter, DefinitionRead}
+use Rattle.kinds.specs.rule.Definition.{DefinitionOutcome, Built, Refusal, ofSss, ofXml, definitionOutcome, answerOf, tableAfter}
+use Rattle.kinds.specs.rule.Definition.{DefinitionRead}
 use Rattle.kinds.specs.Settled.{definition-refused-keeps}
 use Rattle.kinds.specs.rule.Against.{held}
 use Rattle.kinds.specs.Code.{markOf, fitting, Standing, Perhaps}
@@ -69,14 +70,14 @@ few-keeps (unless.holds w) g = definition-refused-keeps (rw g at w)
 few-keeps (unless.small s l) g = s .1
 
 -- 1, whatever the kind
-pub long-refused : (d : List ℕ) (n : ℕ) → 1048576 < length d → outcomeOf d n ≡ Refusal 1 0
-unfolding outcomeOf sss.outcomeOf xml.outcomeOf
+pub long-refused : (d : List ℕ) (n : ℕ) → 1048576 < length d → definitionOutcome d n ≡ Refusal 1 0
+unfolding definitionOutcome sss.sssOutcome xml.xmlOutcome
 long-refused d n h = rw (lt-ltb 1048576 (length d) h) (by (isXml d)) where
   by : (b : Bool) → cond b (Refusal 1 0) (Refusal 1 0) ≡ Refusal 1 0
   by true = refl
   by false = refl
 
-module _ (m : ℕ) (o : ℕ → Outcome) (rows lines : List ℤ) (y : Tally) (s : Standing m o rows lines y) where
+module _ (m : ℕ) (o : ℕ → DefinitionOutcome) (rows lines : List ℤ) (y : Tally) (s : Standing m o rows lines y) where
   -- as many numbers as its rows and lines take
   size-is : length (cellsIn m y rows lines) ≡ lineBase (y .rows) (y .lines)
   size-is = cells-length m y rows lines (s .fit .0) (s .fit .1)
@@ -98,7 +99,7 @@ module _ (m : ℕ) (o : ℕ → Outcome) (rows lines : List ℤ) (y : Tally) (s 
     by false = refl
 
   -- a table of any definition has room enough
-  pub held-says : (t : List ℤ) → comparedBy (begins (cellsIn m y rows lines) t) ≡ held (o (lineBase mostRows mostLines)) t
+  pub held-says : (t : List ℤ) → comparedBy (beginsTable (cellsIn m y rows lines) t) ≡ held (o (lineBase mostRows mostLines)) t
   unfolding comparedBy fitting
   held-says t =
       let f : length (cellsIn m y rows lines) ≤ lineBase mostRows mostLines = omega (arith, size-is, s .few .0, s .few .1) in

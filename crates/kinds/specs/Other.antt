@@ -21,12 +21,12 @@ use Rattle.reading.specs.rule.Result.{Result, Is, Not}
 use Rattle.reading.specs.rule.Opening.{opening}
 use Rattle.reading.specs.rule.Whole.{front, survey, surveyOf}
 use Rattle.prologs.specs.rule.Form.{XML, SSS}
-use Rattle.prologs.specs.rule.Told.{startOf, isXml}
-use Rattle.definition.specs.rule.Definition.{Built, Refusal, outcomeOf}
+use Rattle.prologs.specs.rule.Told.{startBehindMark, isXml}
+use Rattle.definition.specs.rule.Definition.{Built, Refusal, sssOutcome}
 
 -- a file in XML begins with < or EF
 begins-so : (b : ℕ) (r : List ℕ) → isXml (b ∷ r) ≡ true → (b ≡ 60) ⊎ (b ≡ 239)
-unfolding isXml startOf stands
+unfolding isXml startBehindMark stands
 begins-so b r = by (stands (239 ∷ 187 ∷ 191 ∷ []) (b ∷ r)) refl where
   angle : stands XML (b ∷ r) ≡ true → b ≡ 60
   angle h = eqb-true b 60 (and-left (eqb b 60) (stands (63 ∷ 120 ∷ 109 ∷ 108 ∷ []) r) h)
@@ -49,18 +49,18 @@ unfolding surveyOf survey front opening text kept placeOf wordAt wordOf classOf 
 mark-refused r = refl
 
 xml-refused : (d : List ℕ) → isXml d ≡ true → surveyOf d ≡ Not (fault 2 0)
-unfolding isXml startOf stands
+unfolding isXml startBehindMark stands
 xml-refused [] h = holds-not h refl
 xml-refused (b ∷ r) h = ⊎-elim (λ e. rw e (angle-refused r)) (λ e. rw e (mark-refused r)) (begins-so b r h)
 
 -- the reader of 1.1 refuses it
-pub xml-as-sss : (d : List ℕ) (n : ℕ) → isXml d ≡ true → length d ≤ 1048576 → outcomeOf d n ≡ Refusal 2 0
-unfolding outcomeOf
+pub xml-as-sss : (d : List ℕ) (n : ℕ) → isXml d ≡ true → length d ≤ 1048576 → sssOutcome d n ≡ Refusal 2 0
+unfolding sssOutcome
 xml-as-sss d n h l = rw (le-ltb 1048576 (length d) l, xml-refused d h)
 
 -- what it accepts is not XML
-pub built-plain : (d : List ℕ) (n : ℕ) (l : List Variable) → outcomeOf d n ≡ Built l → isXml d ≡ false
-unfolding outcomeOf
+pub built-plain : (d : List ℕ) (n : ℕ) (l : List Variable) → sssOutcome d n ≡ Built l → isXml d ≡ false
+unfolding sssOutcome
 built-plain d n l e = by (isXml d) refl where
   none : {A : Type 0} → _≡_ {A = ℕ} 0 1 → A
   none z = absurd (omega arith)

@@ -7,7 +7,7 @@ use lib.IntN.{ℤ}
 use lib.ListN.{length}
 use Rattle.definition.specs.declared.Answer.{Answer}
 use Rattle.definition.specs.declared.Answer.the-variants as answer
-use Rattle.kinds.specs.rule.Definition.{Outcome, Built, Refusal, outcomeOf, answerOf, tableAfter, DefinitionRead}
+use Rattle.kinds.specs.rule.Definition.{DefinitionOutcome, Built, Refusal, definitionOutcome, answerOf, tableAfter, DefinitionRead}
 
 module _ {d : List ℕ} {t : List ℤ} where
   pub definition-settled : {t₁ t₂ : List ℤ} {a₁ a₂ : Answer} → DefinitionRead d t t₁ a₁ → DefinitionRead d t t₂ a₂ → (a₁ ≡ a₂) × (t₁ ≡ t₂)
@@ -15,7 +15,7 @@ module _ {d : List ℕ} {t : List ℤ} where
 
   pub definition-refused-keeps : {t′ : List ℤ} {n p : ℕ} → DefinitionRead d t t′ (answer.Refused n p) → t′ ≡ t
   unfolding answerOf tableAfter
-  definition-refused-keeps {t′} {n} {p} w = go (outcomeOf d (length t)) (w .says) (w .leaves) where
-    go : (o : Outcome) → answer.Refused n p ≡ answerOf o → t′ ≡ tableAfter o t → t′ ≡ t
+  definition-refused-keeps {t′} {n} {p} w = go (definitionOutcome d (length t)) (w .says) (w .leaves) where
+    go : (o : DefinitionOutcome) → answer.Refused n p ≡ answerOf o → t′ ≡ tableAfter o t → t′ ≡ t
     go (Built v e s) i q = let z : _≡_ {A = ℕ} 0 1 = cc in absurd (omega arith)
     go (Refusal k at) i q = q

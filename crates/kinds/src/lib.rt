@@ -14,7 +14,7 @@ ghost use lib.ListN.{length};
 ghost use Rattle.values.specs.Room.{Unless};
 ghost use Rattle.definition.specs.Code.{Lacking};
 ghost use Rattle.prologs.specs.rule.Told.{isXml};
-ghost use Rattle.kinds.specs.rule.Definition.{outcomeOf, DefinitionRead};
+ghost use Rattle.kinds.specs.rule.Definition.{definitionOutcome, DefinitionRead};
 ghost use Rattle.kinds.specs.rule.Against.{againstOf};
 ghost use Rattle.kinds.specs.Code.{markOf, Ready, Roomy, Perhaps};
 
@@ -39,7 +39,7 @@ fn mark_of(xml: bool) -> usize
 fn read_rooms(d: &[u8], rows: &mut [i64], lines: &mut [i64]) -> Rooms
     requires { ⌜ (length (now d) ≤ 1048576) × Roomy (isXml (now d)) (now rows) (now lines) ⌝ }
     ensures { λ r. ⌜ Unless (r ≡ Rooms.Refused 0 0) (Lacking (now (rows .entry)) (now (lines .entry)))
-        (Ready (markOf (isXml (now (d .entry)))) (outcomeOf (now (d .entry))) (now (rows .exit)) (now (lines .exit)) r) ⌝ }
+        (Ready (markOf (isXml (now (d .entry)))) (definitionOutcome (now (d .entry))) (now (rows .exit)) (now (lines .exit)) r) ⌝ }
 {
     let classes = ascii::classes();
     let powers = ascii::powers();

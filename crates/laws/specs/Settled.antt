@@ -19,10 +19,10 @@ use Rattle.definition.specs.declared.Answer.the-variants as definition
 use Rattle.definition.proofs.Goods.{read-well-formed}
 use Rattle.definition.specs.rule.Definition as sss
 use Rattle.prologs.specs.rule.Told.{isXml}
-use Rattle.xml_reading.specs.rule.Role.{Entry}
+use Rattle.xml_reading.specs.rule.Role.{XmlEntry}
 use Rattle.xml_reading.specs.rule.Whole as xml
 use Rattle.xml_files.proofs.Few as few
-use Rattle.kinds.specs.rule.Definition.{ofXml, outcomeOf, answerOf, tableAfter, DefinitionRead}
+use Rattle.kinds.specs.rule.Definition.{ofXml, definitionOutcome, answerOf, tableAfter, DefinitionRead}
 use Rattle.kinds.specs.Plain.{plain-read}
 use Rattle.files.specs.declared.Judgement.{Judgement}
 use Rattle.files.specs.declared.Judgement.the-variants as J
@@ -72,10 +72,10 @@ file-settled r₁ r₂ a b = sym (said-back r₁) ∙ ap unsaid (file-one a b) �
 
 -- WHAT IS READ IS WELL FORMED: the table that the call leaves passes the test of every call on records
 module _ {d : List ℕ} {t t′ : List ℤ} {v e : ℕ} where
-  sss-formed : sss.DefinitionRead d t t′ (definition.Read v e) → wellFormed t′ ≡ true
-  unfolding sss.answerOf
-  sss-formed w = go (sss.outcomeOf d (length t)) refl (w .says) where
-    go : (o : sss.Outcome) → sss.outcomeOf d (length t) ≡ o → definition.Read v e ≡ sss.answerOf o → wellFormed t′ ≡ true
+  sss-formed : sss.SssRead d t t′ (definition.Read v e) → wellFormed t′ ≡ true
+  unfolding sss.sssAnswer
+  sss-formed w = go (sss.sssOutcome d (length t)) refl (w .says) where
+    go : (o : sss.SssOutcome) → sss.sssOutcome d (length t) ≡ o → definition.Read v e ≡ sss.sssAnswer o → wellFormed t′ ≡ true
     go (sss.Built l) q f = rw (w .leaves) (read-well-formed d t l q)
     go (sss.Refusal k at) q f = let z : _≡_ {A = ℕ} 0 1 = cc in absurd (omega arith)
 
@@ -85,10 +85,10 @@ module _ {d : List ℕ} {t t′ : List ℤ} {v e : ℕ} where
 
   -- of one in XML
   pub xml-well-formed : isXml d ≡ true → DefinitionRead d t t′ (definition.Read v e) → wellFormed t′ ≡ true
-  unfolding outcomeOf answerOf tableAfter
-  xml-well-formed p w = go (xml.outcomeOf d (length t)) refl (w .says ∙ rw p) (w .leaves ∙ rw p) where
-    go : (o : xml.Outcome) → xml.outcomeOf d (length t) ≡ o → definition.Read v e ≡ answerOf (ofXml (xml.outcomeOf d (length t)))
-        → t′ ≡ tableAfter (ofXml (xml.outcomeOf d (length t))) t → wellFormed t′ ≡ true
+  unfolding definitionOutcome answerOf tableAfter
+  xml-well-formed p w = go (xml.xmlOutcome d (length t)) refl (w .says ∙ rw p) (w .leaves ∙ rw p) where
+    go : (o : xml.XmlOutcome) → xml.xmlOutcome d (length t) ≡ o → definition.Read v e ≡ answerOf (ofXml (xml.xmlOutcome d (length t)))
+        → t′ ≡ tableAfter (ofXml (xml.xmlOutcome d (length t))) t → wellFormed t′ ≡ true
     go (xml.Built l) q f k = rw (k, q) (few.xml-well-formed d t l q)
     go (xml.Refusal m at) q f k = let g : definition.Read v e ≡ answerOf (ofXml (xml.Refusal m at)) = f ∙ rw q in
         let z : _≡_ {A = ℕ} 0 1 = cc in absurd (omega arith)

@@ -21,35 +21,35 @@ use Rattle.sound.specs.rule.Rows.{rowsOf, lengthOf}
 use Rattle.sound.specs.Rows.{row-facts}
 use Rattle.writes.specs.declared.Wrote.{Wrote}
 use Rattle.writes.specs.declared.Wrote.the-variants.{Done, NotWellFormed, NoRow, TooShort, OtherType, NotLegal, TooMany}
-use Rattle.writes.specs.rule.Public.{numberOf, fitNumber, refusalOf, recordAfter, Written}
+use Rattle.writes.specs.rule.Public.{writeNumber, fitNumber, refusalOf, recordAfter, Written}
 use Rattle.laws.specs.Tops.{row-topped}
-use Rattle.laws.specs.rule.Writing.{Sound, Outcome, not-formed, no-row, too-short, other-type, not-legal, too-many, no-fault}
+use Rattle.laws.specs.rule.Writing.{Sound, WritingOutcome, not-formed, no-row, too-short, other-type, not-legal, too-many, no-fault}
 
 module _ (t : List ℤ) (i : ℕ) (x : Value) (n : ℕ) where
   -- the number names what is so
-  pub named : Outcome t i x n (refusalOf t i x n)
+  pub named : WritingOutcome t i x n (refusalOf t i x n)
   unfolding refusalOf fitNumber
   named = formed (wellFormed t) refl
     where
-      fitted : Sound t i n → (f : Fit) → fitOf t (rowsOf t) (rowAt t i) x ≡ f → Outcome t i x n (fitNumber f)
+      fitted : Sound t i n → (f : Fit) → fitOf t (rowsOf t) (rowAt t i) x ≡ f → WritingOutcome t i x n (fitNumber f)
       fitted s fits e = no-fault s e
       fitted s otherType e = other-type s e
       fitted s notLegal e = not-legal s e
       fitted s tooMany e = too-many s e
 
       longer : wellFormed t ≡ true → i < rowsOf t → (b : Bool) → ltb n (lengthOf t) ≡ b
-          → Outcome t i x n (cond b 22 (fitNumber (fitOf t (rowsOf t) (rowAt t i) x)))
+          → WritingOutcome t i x n (cond b 22 (fitNumber (fitOf t (rowsOf t) (rowAt t i) x)))
       longer g h true e = too-short g h (ltb-true n (lengthOf t) e)
       longer g h false e =
           fitted (record { formed = g; row = h; long = ltb-false n (lengthOf t) e }) (fitOf t (rowsOf t) (rowAt t i) x) refl
 
       rowed : wellFormed t ≡ true → (b : Bool) → leb (rowsOf t) i ≡ b
-          → Outcome t i x n (cond b 21 (cond (ltb n (lengthOf t)) 22 (fitNumber (fitOf t (rowsOf t) (rowAt t i) x))))
+          → WritingOutcome t i x n (cond b 21 (cond (ltb n (lengthOf t)) 22 (fitNumber (fitOf t (rowsOf t) (rowAt t i) x))))
       rowed g true e = no-row g (leb-true (rowsOf t) i e)
       rowed g false e = longer g (leb-false (rowsOf t) i e) (ltb n (lengthOf t)) refl
 
       formed : (b : Bool) → wellFormed t ≡ b
-          → Outcome t i x n
+          → WritingOutcome t i x n
           (cond b (cond (leb (rowsOf t) i) 21 (cond (ltb n (lengthOf t)) 22 (fitNumber (fitOf t (rowsOf t) (rowAt t i) x)))) 20)
       formed true g = rowed g (leb (rowsOf t) i) refl
       formed false g = not-formed g
@@ -59,7 +59,7 @@ module _ (t : List ℤ) (i : ℕ) (x : Value) (n : ℕ) where
   unfolding refusalOf
   sound-number s = rw (s .formed, lt-leb (rowsOf t) i (s .row), le-ltb n (lengthOf t) (s .long))
 
-  pub only : {k : ℕ} → Outcome t i x n k → refusalOf t i x n ≡ k
+  pub only : {k : ℕ} → WritingOutcome t i x n k → refusalOf t i x n ≡ k
   unfolding refusalOf fitNumber
   only (not-formed g) = rw g
   only (no-row g h) = rw (g, le-leb (rowsOf t) i h)
@@ -77,7 +77,7 @@ pub record Accepted (t : List ℤ) (i : ℕ) (x : Value) (n : ℕ) : Type 0 wher
 pub accepted-of : (t : List ℤ) (i : ℕ) (x : Value) (n : ℕ) → refusalOf t i x n ≡ 0 → Accepted t i x n
 accepted-of t i x n e = go (named t i x n) e
   where
-    go : {k : ℕ} → Outcome t i x n k → k ≡ 0 → Accepted t i x n
+    go : {k : ℕ} → WritingOutcome t i x n k → k ≡ 0 → Accepted t i x n
     go (not-formed g) e = absurd (omega arith)
     go (no-row g h) e = absurd (omega arith)
     go (too-short g h l) e = absurd (omega arith)
@@ -90,8 +90,8 @@ pub accepted-number : {t : List ℤ} {i : ℕ} {x : Value} {n : ℕ} → Accepte
 accepted-number {t} {i} {x} {n} a = only t i x n (no-fault (a .sound) (a .fitting))
 
 -- ---- the code's answers have different numbers
-pub same-answer : (a b : Wrote) → numberOf a ≡ numberOf b → a ≡ b
-unfolding numberOf
+pub same-answer : (a b : Wrote) → writeNumber a ≡ writeNumber b → a ≡ b
+unfolding writeNumber
 same-answer a b e = back a ∙ ap answer e ∙ sym (back b)
   where
     answer : ℕ → Wrote
@@ -100,7 +100,7 @@ same-answer a b e = back a ∙ ap answer e ∙ sym (back b)
         (cond (eqb k 20) NotWellFormed
         (cond (eqb k 21) NoRow (cond (eqb k 22) TooShort (cond (eqb k 26) OtherType (cond (eqb k 27) NotLegal TooMany)))))
 
-    back : (a : Wrote) → a ≡ answer (numberOf a)
+    back : (a : Wrote) → a ≡ answer (writeNumber a)
     back Done = refl
     back NotWellFormed = refl
     back NoRow = refl
@@ -115,7 +115,7 @@ module _ {t : List ℤ} {i : ℕ} {x : Value} {old new : List ℕ} where
   pub one-outcome : {new′ : List ℕ} {a a′ : ℕ} → Written t i x old new a → Written t i x old new′ a′ → (new ≡ new′) × (a ≡ a′)
   one-outcome w w′ = (w .leaves ∙ sym (w′ .leaves), w .says ∙ sym (w′ .says))
 
-  pub write-settled : {new′ : List ℕ} (a a′ : Wrote) → Written t i x old new (numberOf a) → Written t i x old new′ (numberOf a′)
+  pub write-settled : {new′ : List ℕ} (a a′ : Wrote) → Written t i x old new (writeNumber a) → Written t i x old new′ (writeNumber a′)
       → (new ≡ new′) × (a ≡ a′)
   write-settled a a′ w w′ = let e = one-outcome w w′ in (e .0, same-answer a a′ (e .1))
 

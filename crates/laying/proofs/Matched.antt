@@ -12,7 +12,7 @@ use Rattle.layout.specs.rule.Layout.{headerSize, rowSize, lineSize, linesBase, 
 use Rattle.layout.specs.declared.Header.{Header}
 use Rattle.rows.specs.rule.Cells.{headerCells}
 use Rattle.laying.specs.declared.Tally.{Tally}
-use Rattle.laying.specs.rule.Begins.{begins}
+use Rattle.laying.specs.rule.Begins.{beginsTable}
 use Rattle.laying.specs.Begins.{begins-append, begins-short}
 use Rattle.laying.specs.Code.{headerBy, cellsIn}
 
@@ -38,26 +38,27 @@ module _ (m : ℕ) (y : Tally) (rows lines : List ℤ) (r : rowSize * y .rows �
         length-take-le (lineSize * y .lines) lines s,
       ) (omega arith)
 
-  pub short-differs : (t : List ℤ) (n : ℕ) → n ≡ lineBase (y .rows) (y .lines) → length t < n → false ≡ begins (cellsIn m y rows lines) t
+  pub short-differs : (t : List ℤ) (n : ℕ) → n ≡ lineBase (y .rows) (y .lines) → length t < n → false
+      ≡ beginsTable (cellsIn m y rows lines) t
   short-differs t n e h = sym (begins-short (cellsIn m y rows lines) t (omega (arith, cells-length)))
 
   pub parts-match : (t header l : List ℤ) (h : Header) (n : ℕ) (a b c : Bool) → header ≡ pasted l 0 (headerCells h) → length l ≡ 6 → h
       ≡ headerBy m y → n ≡ linesBase (y .rows)
-      → a ≡ begins header (drop 0 t) → b ≡ begins (take (rowSize * y .rows) rows) (drop headerSize t) → c
-      ≡ begins (take (lineSize * y .lines) lines) (drop n t)
-      → (a && (b && c)) ≡ begins (cellsIn m y rows lines) t
+      → a ≡ beginsTable header (drop 0 t) → b ≡ beginsTable (take (rowSize * y .rows) rows) (drop headerSize t) → c
+      ≡ beginsTable (take (lineSize * y .lines) lines) (drop n t)
+      → (a && (b && c)) ≡ beginsTable (cellsIn m y rows lines) t
   unfolding cellsIn
   parts-match t header l h n a b c e g i j u v w =
       rw (u, v, w, e ∙ header-laid l h g, i, j)
       (sym (begins-append (headerCells (headerBy m y)) (take (rowSize * y .rows) rows ++ take (lineSize * y .lines) lines) t
-      ∙ ap (λ (q : Bool). begins (headerCells (headerBy m y)) t && q) rest))
+      ∙ ap (λ (q : Bool). beginsTable (headerCells (headerBy m y)) t && q) rest))
     where
       past : drop (length (take (rowSize * y .rows) rows)) (drop (length (headerCells (headerBy m y))) t) ≡ drop (linesBase (y .rows)) t
       past = rw (six (headerBy m y), length-take-le (rowSize * y .rows) rows r) (drop-drop (rowSize * y .rows) 6 t)
 
-      rest : begins (take (rowSize * y .rows) rows ++ take (lineSize * y .lines) lines) (drop (length (headerCells (headerBy m y))) t)
-          ≡ (begins (take (rowSize * y .rows) rows) (drop headerSize t)
-          && begins (take (lineSize * y .lines) lines) (drop (linesBase (y .rows)) t))
+      rest : beginsTable (take (rowSize * y .rows) rows ++ take (lineSize * y .lines) lines) (drop (length (headerCells (headerBy m y))) t)
+          ≡ (beginsTable (take (rowSize * y .rows) rows) (drop headerSize t)
+          && beginsTable (take (lineSize * y .lines) lines) (drop (linesBase (y .rows)) t))
       rest =
           begins-append (take (rowSize * y .rows) rows) (take (lineSize * y .lines) lines) (drop (length (headerCells (headerBy m y))) t)
           ∙ rw (past, six (headerBy m y)) refl

@@ -10,7 +10,7 @@ ghost use Prim.Native.Nat.{_+_, _*_, _≤_, _<_};
 ghost use lib.ListN.{length, drop};
 ghost use Rattle.cells.specs.rule.Cell.{pasted};
 ghost use Rattle.layout.specs.rule.Layout.{markXml, rowSize, lineSize, lineBase, mostRows, mostLines};
-ghost use Rattle.laying.specs.rule.Begins.{begins};
+ghost use Rattle.laying.specs.rule.Begins.{beginsTable};
 ghost use Rattle.laying.specs.Code.{tallyWith, headerBy, cellsIn, filledIn, filledOver};
 
 // Room for the most rows, and for the most lines.
@@ -90,7 +90,7 @@ pub fn fill(mark: usize, rows: &[i64], lines: &[i64], y: Tally, table: &mut [i64
 // Whether the numbers of t from a place on are these.
 fn same_at(t: &[i64], at: usize, part: &[i64]) -> bool
     requires { ⌜ at + length (now part) ≤ length (now t) ⌝ }
-    ensures { λ r. ⌜ r ≡ begins (now (part .entry)) (drop at (now (t .entry))) ⌝ }
+    ensures { λ r. ⌜ r ≡ beginsTable (now (part .entry)) (drop at (now (t .entry))) ⌝ }
 {
     let mut j: usize = 0;
     while j < part.len() {
@@ -108,7 +108,7 @@ pub fn matches(mark: usize, rows: &[i64], lines: &[i64], y: Tally, t: &[i64]) ->
     requires { ⌜ mark ≤ markXml ⌝ }
     requires { ⌜ (y .rows ≤ mostRows) × (y .lines ≤ mostLines) × (y .length ≤ 16384) ⌝ }
     requires { ⌜ (rowSize * y .rows ≤ length (now rows)) × (lineSize * y .lines ≤ length (now lines)) ⌝ }
-    ensures { λ r. ⌜ r ≡ begins (cellsIn mark y (now (rows .entry)) (now (lines .entry))) (now (t .entry)) ⌝ }
+    ensures { λ r. ⌜ r ≡ beginsTable (cellsIn mark y (now (rows .entry)) (now (lines .entry))) (now (t .entry)) ⌝ }
 {
     if t.len() < Line::base(y.rows, y.lines) {
         return false;

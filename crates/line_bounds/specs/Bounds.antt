@@ -21,7 +21,7 @@ use Rattle.layout.specs.declared.Kind.{Kind}
 use Rattle.layout.specs.declared.Kind.the-variants.{Single, Multiple, Quantity, Character, Logical}
 use Rattle.layout.specs.declared.Spread.the-variants.{Bits, Fields}
 use Rattle.layout.specs.rule.Row.{rowAt}
-use Rattle.widths.specs.rule.Width.{lowest, highest}
+use Rattle.widths.specs.rule.Width.{lowest, highest, decimalsOf}
 use Rattle.places.specs.rule.Places.{pick}
 use Rattle.fields.specs.rule.Legal.{legal}
 use Rattle.fields.specs.rule.Number.{padded, allSpaces}
@@ -40,11 +40,11 @@ use Rattle.sound.specs.Rows.{row-facts}
 use Rattle.records.specs.rule.Value.{readingAt}
 use Rattle.lines.specs.rule.Text.{numeral}
 use Rattle.cuts.specs.rule.Records.{Records, over, unended, record-and}
-use Rattle.commas.specs.rule.Csv.{holdsSpecial, doubledByte, doubled, fieldBytes, lineBytes, textBytes, each}
+use Rattle.commas.specs.rule.Csv.{holdsSpecial, doubledByte, doubled, fieldBytes, lineBytes, csvBytes, each}
 use Rattle.commas.specs.Csv.{field-plain, commaBefore, lineLeft, left-line}
-use Rattle.value_fields.specs.rule.Values.{amountText, numberText, codesBehind, setText, valueText, fieldText, decimalsOf, rowField}
+use Rattle.value_fields.specs.rule.Values.{amountText, exportNumber, codesBehind, setText, exportValue, exportField, rowField}
 use Rattle.value_fields.specs.Plain.{number-plain, set-plain, truth-plain}
-use Rattle.record_lines.specs.rule.Lines.{recordLine, linesOf}
+use Rattle.record_lines.specs.rule.Lines.{recordLine, recordsLines}
 
 -- ---- the most bytes of a field, by its row
 unfoldable pub mostBy : Kind → ℕ → ℕ
@@ -88,8 +88,8 @@ amount-most k n h = go (eqb k 0)
         let g = numeral-most (n / 10 ^ k) in let q = length-padded k n in
         omega arith
 
-number-most : (k : ℕ) (z : ℤ) → k ≤ 9 → length (numberText k z) ≤ 27
-unfolding numberText
+number-most : (k : ℕ) (z : ℤ) → k ≤ 9 → length (exportNumber k z) ≤ 27
+unfolding exportNumber
 number-most k z h = let a = amount-most k (signedOf z .size) h in go (signedOf z .minus) a
   where
     go : (b : Bool) → length (amountText k (signedOf z .size)) ≤ 26
@@ -98,8 +98,8 @@ number-most k z h = let a = amount-most k (signedOf z .size) h in go (signedOf z
     go false a = omega arith
 
 -- ---- codes
-code-most : (c : ℕ) → c < 10000 → length (numberText 0 (pos c)) ≤ 4
-unfolding numberText amountText numeral signedOf
+code-most : (c : ℕ) → c < 10000 → length (exportNumber 0 (pos c)) ≤ 4
+unfolding exportNumber amountText numeral signedOf
 code-most c h =
     let e = length-append (padded (digitsOf (c / 1)) (c / 1)) [] in
     let q = length-padded (digitsOf (c / 1)) (c / 1) in
@@ -111,7 +111,7 @@ unfolding codesBehind
 behind-most none h = omega arith
 behind-most (skip s) h = behind-most s (omega arith)
 behind-most (keep {c = c} {ms = ms} s) h =
-    let e = length-append (numberText 0 (pos c)) (codesBehind ms) in
+    let e = length-append (exportNumber 0 (pos c)) (codesBehind ms) in
     let a = code-most c (omega arith) in
     let b = behind-most s (omega arith) in
     omega arith
@@ -232,12 +232,12 @@ module _ (t : List ℤ) (v len : ℕ) (r : Row) (facts : RowFacts t v len r) (by
   truth-row (Quantity f) b e = no-other e
   truth-row Character b e = no-other e
 
-  pub value-most : (k : ℕ) → k ≤ 9 → (f : Field) → readingOf t v r bytes ≡ f → length (fieldBytes (fieldText k f)) ≤ fieldMost r
-  unfolding fieldText valueText readingOf
+  pub value-most : (k : ℕ) → k ≤ 9 → (f : Field) → readingOf t v r bytes ≡ f → length (fieldBytes (exportField k f)) ≤ fieldMost r
+  unfolding exportField exportValue readingOf
   value-most k h illegal e = empty-most (fieldMost r)
   value-most k h (holds missing) e = empty-most (fieldMost r)
   value-most k h (holds (number z)) e =
-      rw (← (field-plain (numberText k z) (number-plain k z)))
+      rw (← (field-plain (exportNumber k z) (number-plain k z)))
       (omega (arith, number-most k z h, number-row (r .kind) z (read-fits t v r (number z) bytes e)))
   value-most k h (holds (members ms)) e =
       rw (← (field-plain (setText ms) (set-plain ms))) (set-row (r .kind) ms refl e (read-fits t v r (members ms) bytes e))
@@ -285,13 +285,13 @@ module _ (t : List ℤ) (good : wellFormed t ≡ true) where
   unfolding recordLine
   line-most bytes = rw (left-line (rowField t bytes) (rowsOf t)) (left-most bytes (rowsOf t) 0 (omega arith))
 
-  pub lines-most : (n : ℕ) (rs : Records) → length (textBytes (linesOf t n rs)) ≤ n * mostFrom t 0 (rowsOf t)
-  unfolding linesOf textBytes
+  pub lines-most : (n : ℕ) (rs : Records) → length (csvBytes (recordsLines t n rs)) ≤ n * mostFrom t 0 (rowsOf t)
+  unfolding recordsLines csvBytes
   lines-most zero rs = omega (arith, zero-mul (mostFrom t 0 (rowsOf t)))
   lines-most (suc n) over = omega arith
   lines-most (suc n) (unended r) = omega arith
   lines-most (suc n) (record-and r rs) =
-      let a = length-append (lineBytes (recordLine t r)) (textBytes (linesOf t n rs)) in
+      let a = length-append (lineBytes (recordLine t r)) (csvBytes (recordsLines t n rs)) in
       let b = line-most r in
       let c = lines-most n rs in
       omega (arith, suc-mul n (mostFrom t 0 (rowsOf t)))

@@ -17,19 +17,19 @@ use Rattle.fields.specs.rule.Number.{padded}
 use Rattle.fieldlaws.specs.NumberLaws.{length-padded}
 use Rattle.lines.specs.rule.Text.{numeral, numberText}
 use Rattle.places.specs.Laws.{put-run-append, length-put}
-use Rattle.lines.specs.rule.Appended.{laid, Appended}
+use Rattle.lines.specs.rule.Appended.{laidAt, Appended}
 
 -- ---- laws
-pub laid-length : (out : List ℕ) (at : ℕ) (s : List ℕ) → length (laid out at s) ≡ length out
-unfolding laid
+pub laid-length : (out : List ℕ) (at : ℕ) (s : List ℕ) → length (laidAt out at s) ≡ length out
+unfolding laidAt
 laid-length out at s = length-put out (run at (length s)) s
 
-pub laid-none : (out : List ℕ) (at : ℕ) → laid out at [] ≡ out
-unfolding laid
+pub laid-none : (out : List ℕ) (at : ℕ) → laidAt out at [] ≡ out
+unfolding laidAt
 laid-none out at = refl
 
-pub laid-more : (out : List ℕ) (at : ℕ) (s u : List ℕ) → laid (laid out at s) (at + length s) u ≡ laid out at (s ++ u)
-unfolding laid
+pub laid-more : (out : List ℕ) (at : ℕ) (s u : List ℕ) → laidAt (laidAt out at s) (at + length s) u ≡ laidAt out at (s ++ u)
+unfolding laidAt
 laid-more out at s u = put-run-append s out at (length u) u ∙ rw (length-append s u)
 
 module _ {out : List ℕ} {at : ℕ} {s out′ : List ℕ} {r : ℕ} (a : Appended out at s out′ r) where
@@ -48,17 +48,17 @@ module _ {out : List ℕ} {at : ℕ} {s out′ : List ℕ} {r : ℕ} (a : Append
   as-text e = rw e at a
 
 pub one-byte : (out : List ℕ) (at b : ℕ) → at < length out → Appended out at (b ∷ []) (set out at b) (at + 1)
-unfolding laid
+unfolding laidAt
 one-byte out at b h = record { leaves = refl; ends = refl; inside = rw (length-set out at b) (omega arith) }
 
 pub nothing-more : (out : List ℕ) (at : ℕ) → at ≤ length out → Appended out at [] out at
-unfolding laid
+unfolding laidAt
 nothing-more out at h = record { leaves = refl; ends = sym (add-zero at); inside = h }
 
 -- ---- the digits of a count
 pub count-laid : (out : List ℕ) (at n w : ℕ) {out′ : List ℕ} → at + w ≤ length out → w ≡ digitsOf n → out′ ≡ put out (run at w) (padded w n)
     → Appended out at (numeral n) out′ (at + w)
-unfolding laid numeral
+unfolding laidAt numeral
 count-laid out at n w h e p = record {
   leaves = p ∙ rw (length-padded (digitsOf n) n, e);
   ends = rw (length-padded (digitsOf n) n, e);
@@ -97,7 +97,7 @@ number-few z = minus-length (signedOf z .minus) (numeral (signedOf z .size)) 16 
 
 -- ---- in a loop: the text that is left to append, and the whole
 pub record Left (out : List ℕ) (at : ℕ) (s : List ℕ) (out₀ : List ℕ) (at₀ : ℕ) (whole : List ℕ) : Type 0 where
-  pub leaves : laid out at s ≡ laid out₀ at₀ whole
+  pub leaves : laidAt out at s ≡ laidAt out₀ at₀ whole
   pub ends : at + length s ≡ at₀ + length whole
 
 pub all-left : (out : List ℕ) (at : ℕ) (s : List ℕ) → Left out at s out at s
@@ -122,7 +122,7 @@ left-as e l = rw e at l
 -- ---- bytes copied from a part of a record
 pub copied-text : (out : List ℕ) (at : ℕ) (bytes : List ℕ) (p n : ℕ) {out′ : List ℕ} → p + n ≤ length bytes → at + n ≤ length out
     → out′ ≡ put out (run at n) (take n (take (length bytes - p) (drop p bytes))) → Appended out at (take n (drop p bytes)) out′ (at + n)
-unfolding laid
+unfolding laidAt
 copied-text out at bytes p n h m e =
     let d : length (drop p bytes) ≡ length bytes - p = length-drop p bytes in
     let q : take (length bytes - p) (drop p bytes) ≡ drop p bytes = take-all (length bytes - p) (drop p bytes) (omega arith) in

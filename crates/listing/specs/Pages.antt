@@ -13,7 +13,7 @@ use Rattle.sound.specs.rule.Sound.{wellFormed}
 use Rattle.cuts.specs.declared.Terminator.{Terminator}
 use Rattle.cuts.specs.rule.Cut.{terminatorOf}
 use Rattle.cuts.specs.Records.{part}
-use Rattle.lines.specs.rule.Appended.{laid, Appended}
+use Rattle.lines.specs.rule.Appended.{laidAt, Appended}
 use Rattle.lines.specs.Appended.{keeps-room}
 use Rattle.listing.specs.Listing.{listingOf}
 use Rattle.listing.specs.Places.{startPlace, start-all, on-less}
@@ -30,7 +30,7 @@ pub data Turns (t : List ℤ) (w : Terminator) (d : List ℕ) : Place → List �
 
 -- a text that was appended stands there
 there : {out out′ s : List ℕ} {at r : ℕ} → Appended out at s out′ r → part out′ at r ≡ s
-unfolding laid
+unfolding laidAt
 there {out} {out′} {s} {at} {r} a =
     let n : r - at ≡ length s = omega (arith, a .ends) in
     let h : at + length s ≤ length out′ = omega (arith, a .ends, a .inside) in

@@ -6,27 +6,23 @@ use native.Mathlib.Omega.{arith}
 use mathlib.Core.Path.{_≡_, refl, ap}
 use mathlib.Core.List.{List, [], _∷_}
 use lib.ListN.{length, take, drop}
-use Rattle.little.specs.rule.Bytes.{bytesOf}
-
--- the number that bytes say, the lowest first
-unfoldable pub numberOf : List ℕ → ℕ
-numberOf [] = 0
-numberOf (b ∷ bs) = b + 256 * numberOf bs
+use Rattle.little.specs.rule.Bytes.{littleBytes, littleNumber}
 
 -- the number that the k bytes from a on say
 unfoldable pub numberAt : ℕ → ℕ → List ℕ → ℕ
-numberAt k a s = numberOf (take k (drop a s))
+numberAt k a s = littleNumber (take k (drop a s))
 
 -- ---- laws
-pub bytes-count : (k n : ℕ) → length (bytesOf k n) ≡ k
-unfolding bytesOf
+pub bytes-count : (k n : ℕ) → length (littleBytes k n) ≡ k
+unfolding littleBytes
 bytes-count zero n = refl
 bytes-count (suc k) n = ap suc (bytes-count k (n / 256))
 
 -- a number that fits its bytes is read back from them
-pub bytes-back : (k n : ℕ) → n < 256 ^ k → numberOf (bytesOf k n) ≡ n
-unfolding bytesOf numberOf
+pub bytes-back : (k n : ℕ) → n < 256 ^ k → littleNumber (littleBytes k n) ≡ n
+unfolding littleBytes littleNumber
 bytes-back zero n h = omega arith
 bytes-back (suc k) n h =
-    let e : numberOf (bytesOf k (n / 256)) ≡ n / 256 = bytes-back k (n / 256) (div-lt-iff-lt-mul (zero-lt-suc 255) .1 (rw pow-suc at h)) in
+    let e : littleNumber (littleBytes k (n / 256))
+    ≡ n / 256 = bytes-back k (n / 256) (div-lt-iff-lt-mul (zero-lt-suc 255) .1 (rw pow-suc at h)) in
     omega arith

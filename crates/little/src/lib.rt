@@ -5,7 +5,7 @@ ghost use Prim.Native.Nat.{_+_, _%_, _≤_};
 ghost use lib.Dec.{T};
 ghost use lib.ListN.{length};
 ghost use lib.Ieee.{binary64, isNan, nanBits, ofBits, toBits};
-ghost use Rattle.little.specs.rule.Bytes.{bytesOf, putAt};
+ghost use Rattle.little.specs.rule.Bytes.{littleBytes, putAt};
 ghost use Rattle.little.specs.Bytes.{numberAt};
 
 fn low(n: u64) -> u8
@@ -17,7 +17,7 @@ fn low(n: u64) -> u8
 // The width lowest bytes of n, the lowest first.
 pub fn put_number(out: &mut [u8], at: usize, n: u64, width: usize)
     requires { ⌜ at + width ≤ length (now out) ⌝ }
-    ensures { λ _. ⌜ now (out .exit) ≡ putAt (now (out .entry)) at (bytesOf width n) ⌝ }
+    ensures { λ _. ⌜ now (out .exit) ≡ putAt (now (out .entry)) at (littleBytes width n) ⌝ }
 {
     let mut left = n;
     let mut i = 0;
@@ -30,14 +30,14 @@ pub fn put_number(out: &mut [u8], at: usize, n: u64, width: usize)
 
 pub fn put_u32(out: &mut [u8], at: usize, n: u32)
     requires { ⌜ at + 4 ≤ length (now out) ⌝ }
-    ensures { λ _. ⌜ now (out .exit) ≡ putAt (now (out .entry)) at (bytesOf 4 n) ⌝ }
+    ensures { λ _. ⌜ now (out .exit) ≡ putAt (now (out .entry)) at (littleBytes 4 n) ⌝ }
 {
     put_number(out, at, n as u64, 4);
 }
 
 pub fn put_u64(out: &mut [u8], at: usize, n: u64)
     requires { ⌜ at + 8 ≤ length (now out) ⌝ }
-    ensures { λ _. ⌜ now (out .exit) ≡ putAt (now (out .entry)) at (bytesOf 8 n) ⌝ }
+    ensures { λ _. ⌜ now (out .exit) ≡ putAt (now (out .entry)) at (littleBytes 8 n) ⌝ }
 {
     put_number(out, at, n, 8);
 }
@@ -46,7 +46,7 @@ pub fn put_u64(out: &mut [u8], at: usize, n: u64)
 pub fn put_f64(out: &mut [u8], at: usize, x: f64)
     requires { ⌜ at + 8 ≤ length (now out) ⌝ }
     requires { ⌜ T (not (isNan x)) ⌝ }
-    ensures { λ _. ⌜ now (out .exit) ≡ putAt (now (out .entry)) at (bytesOf 8 (toBits binary64 x)) ⌝ }
+    ensures { λ _. ⌜ now (out .exit) ≡ putAt (now (out .entry)) at (littleBytes 8 (toBits binary64 x)) ⌝ }
 {
     put_number(out, at, f64::to_bits(x), 8);
 }

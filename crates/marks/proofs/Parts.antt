@@ -22,7 +22,7 @@ use Rattle.marks.specs.declared.Part.the-variants.{Said, Over}
 use Rattle.marks.specs.declared.Given.{Given}
 use Rattle.marks.specs.declared.Given.the-variants.{One, Nothing}
 use Rattle.marks.specs.rule.Marks.{isHex, insideOf}
-use Rattle.marks.specs.rule.Spelling.{pairOf, givesOf, gone, decodeOf}
+use Rattle.marks.specs.rule.Spelling.{hexPair, givesOf, gone, decodeOf}
 use Rattle.marks.specs.Spelling.{givenList, ready, idle, said, parted, partFrom}
 
 no : {A : Type 0} {s : Inside} → Closed ≡ Go s → A
@@ -148,7 +148,7 @@ module _ (b p : ℕ) where
     by false e f = not e
   said-idle (Pair o) a = λ e f. nothing f
   said-idle (Low o) a {t} {x} {m} = by (isHex b) where
-    by : (k : Bool) → cond k (Go (Pair o)) (Wrong o) ≡ Go t → Byte (pairOf a b) ∷ [] ≡ x ∷ m → idle t ≡ true
+    by : (k : Bool) → cond k (Go (Pair o)) (Wrong o) ≡ Go t → Byte (hexPair a b) ∷ [] ≡ x ∷ m → idle t ≡ true
     by true e f = to-idle {s = Pair o} refl e
     by false e f = not e
 

@@ -15,14 +15,14 @@ use Rattle.marks.specs.declared.Given.{Given}
 use Rattle.marks.specs.declared.Given.the-variants.{One, Nothing}
 use Rattle.marks.specs.declared.Part.{Part}
 use Rattle.marks.specs.declared.Part.the-variants.{Said, Over}
-use Rattle.marks.specs.rule.Spelling.{pairOf, givesOf}
+use Rattle.marks.specs.rule.Spelling.{hexPair, givesOf}
 
 -- a text is hex pairs, one or more, and a closing brace, which say the signs m, and then u
 pub data Pairs : Text → List Sign → Text → Type 0 where
   last : {p q r a b : ℕ} {u : Text} → isHex a ≡ true → isHex b ≡ true
-      → Pairs (sign p a (sign q b (sign r 125 u))) (Byte (pairOf a b) ∷ []) u
+      → Pairs (sign p a (sign q b (sign r 125 u))) (Byte (hexPair a b) ∷ []) u
   more : {p q a b : ℕ} {m : List Sign} {t u : Text} → isHex a ≡ true → isHex b ≡ true → Pairs t m u
-      → Pairs (sign p a (sign q b t)) (Byte (pairOf a b) ∷ m) u
+      → Pairs (sign p a (sign q b t)) (Byte (hexPair a b) ∷ m) u
 
 -- a text is a piece of a string, which says the signs m, and then u
 pub data Piece : Text → List Sign → Text → Type 0 where

@@ -15,7 +15,7 @@ use Rattle.scan.proofs.Loops.{loop-again, loop-done}
 use Rattle.utf.proofs.Strides.{drop-1}
 use Rattle.markup.specs.rule.Bytes.{isWhite, stands}
 use Rattle.markup.specs.rule.Bytes.{endFault}
-use Rattle.markup.specs.rule.Gap.{commentOf, onSkip, moveOf, nextOf, gapOf}
+use Rattle.markup.specs.rule.Gap.{xmlComment, onSkip, moveOf, nextMove, gapOf}
 use Rattle.markup.specs.declared.Skip.{Skip}
 use Rattle.markup.specs.declared.Skip.the-variants.{Past, Broken}
 use Rattle.markup.specs.declared.Move.{Move}
@@ -23,31 +23,31 @@ use Rattle.markup.specs.declared.Move.the-variants.{Go, Stop}
 use Rattle.markup.proofs.Runs.{onward}
 
 module _ (bad : Bool) (opened : ℕ) (d : List ℕ) (p : ℕ) where
-  pub comment-next : p < length d → stands (45 ∷ 45 ∷ []) (drop p d) ≡ false → commentOf bad opened p (drop p d)
-      ≡ commentOf bad opened (p + 1) (drop (p + 1) d)
-  unfolding commentOf
+  pub comment-next : p < length d → stands (45 ∷ 45 ∷ []) (drop p d) ≡ false → xmlComment bad opened p (drop p d)
+      ≡ xmlComment bad opened (p + 1) (drop (p + 1) d)
+  unfolding xmlComment
   comment-next h e =
       let f = rw (drop-1 d p h) at e in
       rw (drop-1 d p h, f)
 
   pub comment-closed : p < length d → stands (45 ∷ 45 ∷ []) (drop p d) ≡ true → stands (45 ∷ 45 ∷ 62 ∷ []) (drop p d) ≡ true
-      → commentOf bad opened p (drop p d) ≡ Past (p + 3)
-  unfolding commentOf
+      → xmlComment bad opened p (drop p d) ≡ Past (p + 3)
+  unfolding xmlComment
   comment-closed h e k =
       let f = rw (drop-1 d p h) at e in
       let g = rw (drop-1 d p h) at k in
       rw (drop-1 d p h, f, g)
 
   pub comment-broken : p < length d → stands (45 ∷ 45 ∷ []) (drop p d) ≡ true → stands (45 ∷ 45 ∷ 62 ∷ []) (drop p d) ≡ false
-      → commentOf bad opened p (drop p d) ≡ Broken p
-  unfolding commentOf
+      → xmlComment bad opened p (drop p d) ≡ Broken p
+  unfolding xmlComment
   comment-broken h e k =
       let f = rw (drop-1 d p h) at e in
       let g = rw (drop-1 d p h) at k in
       rw (drop-1 d p h, f, g)
 
-  pub comment-end : length d ≤ p → commentOf bad opened p (drop p d) ≡ Broken (endFault bad p opened)
-  unfolding commentOf
+  pub comment-end : length d ≤ p → xmlComment bad opened p (drop p d) ≡ Broken (endFault bad p opened)
+  unfolding xmlComment
   comment-end h = rw (drop-of-length-le d h)
 
 -- ---- one step of a gap, by the file's bytes
@@ -61,7 +61,7 @@ module _ (bad : Bool) (d : List ℕ) (p : ℕ) where
   move-white h e = rw (drop-1 d p h, e)
 
   pub move-note : p < length d → isWhite (getD d p 0) ≡ false → stands (60 ∷ 33 ∷ 45 ∷ 45 ∷ []) (drop p d) ≡ true
-      → moveOf bad p (drop p d) ≡ onSkip (commentOf bad p (p + 4) (drop (p + 4) d))
+      → moveOf bad p (drop p d) ≡ onSkip (xmlComment bad p (p + 4) (drop (p + 4) d))
   unfolding moveOf
   move-note h e k =
       let g = rw (drop-1 d p h) at k in
@@ -100,8 +100,8 @@ pub record Noted (s : List ℕ) (p n : ℕ) : Type 0 where
   pub split : s ≡ bytes ++ rest
   pub place : n ≡ p + length bytes
 
-pub comment-complete : (bad : Bool) (o p : ℕ) {u : List ℕ} → Note u → (t : List ℕ) → commentOf bad o p (u ++ t) ≡ Past (p + length u)
-unfolding commentOf stands
+pub comment-complete : (bad : Bool) (o p : ℕ) {u : List ℕ} → Note u → (t : List ℕ) → xmlComment bad o p (u ++ t) ≡ Past (p + length u)
+unfolding xmlComment stands
 comment-complete bad o p close t = refl
 comment-complete bad o p (plain {b} {s} h r) t =
     let e : p + 1 + length s ≡ p + suc (length s) = omega arith in
@@ -123,14 +123,14 @@ more-note b {u} t e r = by (eqb b 45) refl e where
   by false f e = plain (eqb-false b 45 f) r
   by true f e = let h = eqb-true b 45 f in rw h (with-dash e r)
 
-pub comment-sound : (bad : Bool) (o p n : ℕ) (s : List ℕ) → commentOf bad o p s ≡ Past n → Noted s p n
-unfolding commentOf
+pub comment-sound : (bad : Bool) (o p n : ℕ) (s : List ℕ) → xmlComment bad o p s ≡ Past n → Noted s p n
+unfolding xmlComment
 comment-sound bad o p n [] e = let z : _≡_ {A = ℕ} 0 1 = cc in absurd (omega arith)
 comment-sound bad o p n (b ∷ s) e =
     by (stands (45 ∷ 45 ∷ []) (b ∷ s)) (stands (45 ∷ 45 ∷ 62 ∷ []) (b ∷ s)) refl refl (comment-sound bad o (p + 1) n s) e where
       by : (q r : Bool) → stands (45 ∷ 45 ∷ []) (b ∷ s) ≡ q → stands (45 ∷ 45 ∷ 62 ∷ []) (b ∷ s) ≡ r
-          → (commentOf bad o (p + 1) s ≡ Past n → Noted s (p + 1) n)
-          → cond q (cond r (Past (p + 3)) (Broken p)) (commentOf bad o (p + 1) s) ≡ Past n → Noted (b ∷ s) p n
+          → (xmlComment bad o (p + 1) s ≡ Past n → Noted s (p + 1) n)
+          → cond q (cond r (Past (p + 3)) (Broken p)) (xmlComment bad o (p + 1) s) ≡ Past n → Noted (b ∷ s) p n
       by true true f g ih e =
           let x = stands-split (45 ∷ 45 ∷ 62 ∷ []) (b ∷ s) g in
           record { bytes = 45 ∷ 45 ∷ 62 ∷ []; rest = x .0; note = close; split = x .1; place = cc }
@@ -149,7 +149,7 @@ comment-sound bad o p n (b ∷ s) e =
           }
 
 -- COMMENT: past n exactly when bytes up to n are those of a comment, behind its <!--
-pub comment-exactly : (bad : Bool) (o p n : ℕ) (s : List ℕ) → (commentOf bad o p s ≡ Past n) ↔ Noted s p n
+pub comment-exactly : (bad : Bool) (o p n : ℕ) (s : List ℕ) → (xmlComment bad o p s ≡ Past n) ↔ Noted s p n
 comment-exactly bad o p n s =
     (comment-sound bad o p n s, λ r. rw (r .split, r .place) (comment-complete bad o p (r .note) (r .rest)))
 
@@ -179,7 +179,7 @@ pub move-go : (bad : Bool) (p m : ℕ) (s : List ℕ) → moveOf bad p s ≡ Go 
 unfolding moveOf
 move-go bad p m [] e = let z : _≡_ {A = ℕ} 0 1 = cc in absurd (omega arith)
 move-go bad p m (b ∷ s) e = by (isWhite b) (stands (60 ∷ 33 ∷ 45 ∷ 45 ∷ []) (b ∷ s)) refl refl e where
-  skip : (r : Skip) → commentOf bad p (p + 4) (drop 3 s) ≡ r → stands (60 ∷ 33 ∷ 45 ∷ 45 ∷ []) (b ∷ s) ≡ true → onSkip r ≡ Go m
+  skip : (r : Skip) → xmlComment bad p (p + 4) (drop 3 s) ≡ r → stands (60 ∷ 33 ∷ 45 ∷ 45 ∷ []) (b ∷ s) ≡ true → onSkip r ≡ Go m
       → Moved (b ∷ s) p m
   skip (Past n) f g e =
       let x = stands-split (60 ∷ 33 ∷ 45 ∷ 45 ∷ []) (b ∷ s) g in
@@ -189,9 +189,9 @@ move-go bad p m (b ∷ s) e = by (isWhite b) (stands (60 ∷ 33 ∷ 45 ∷ 45 �
   skip (Broken q) f g e = let z : _≡_ {A = ℕ} 0 1 = cc in absurd (omega arith)
 
   by : (q r : Bool) → isWhite b ≡ q → stands (60 ∷ 33 ∷ 45 ∷ 45 ∷ []) (b ∷ s) ≡ r
-      → cond q (Go (p + 1)) (cond r (onSkip (commentOf bad p (p + 4) (drop 3 s))) (Stop (Past p))) ≡ Go m → Moved (b ∷ s) p m
+      → cond q (Go (p + 1)) (cond r (onSkip (xmlComment bad p (p + 4) (drop 3 s))) (Stop (Past p))) ≡ Go m → Moved (b ∷ s) p m
   by true r f g e = record { bytes = b ∷ []; rest = s; split = refl; some = omega arith; place = cc; gaps = λ h k. white f k }
-  by false true f g e = skip (commentOf bad p (p + 4) (drop 3 s)) refl g e
+  by false true f g e = skip (xmlComment bad p (p + 4) (drop 3 s)) refl g e
   by false false f g e = let z : _≡_ {A = ℕ} 0 1 = cc in absurd (omega arith)
 
 -- neither white space nor a comment stands first
@@ -214,9 +214,10 @@ move-over bad p n (b ∷ s) e = by (isWhite b) (stands (60 ∷ 33 ∷ 45 ∷ 45 
   skip (Broken q) e = let z : _≡_ {A = ℕ} 0 1 = cc in absurd (omega arith)
 
   by : (q r : Bool) → isWhite b ≡ q → stands (60 ∷ 33 ∷ 45 ∷ 45 ∷ []) (b ∷ s) ≡ r
-      → cond q (Go (p + 1)) (cond r (onSkip (commentOf bad p (p + 4) (drop 3 s))) (Stop (Past p))) ≡ Stop (Past n) → (n ≡ p) × NoGap (b ∷ s)
+      → cond q (Go (p + 1)) (cond r (onSkip (xmlComment bad p (p + 4) (drop 3 s))) (Stop (Past p))) ≡ Stop (Past n) → (n ≡ p)
+      × NoGap (b ∷ s)
   by true r f g e = let z : _≡_ {A = ℕ} 0 1 = cc in absurd (omega arith)
-  by false true f g e = skip (commentOf bad p (p + 4) (drop 3 s)) e
+  by false true f g e = skip (xmlComment bad p (p + 4) (drop 3 s)) e
   by false false f g e = (cc, record { no-white = λ c t h. let k : c ≡ b = cc in rw k f; no-note = g })
 
 pub over-move : (bad : Bool) (p : ℕ) (s : List ℕ) → NoGap s → moveOf bad p s ≡ Stop (Past p)
@@ -226,7 +227,7 @@ over-move bad p (b ∷ s) n = rw (n .no-white b s refl, n .no-note)
 
 module _ (bad : Bool) (d : List ℕ) where
   abbrev step : ℕ → Next ℕ Skip
-  step p = nextOf (moveOf bad p (drop p d))
+  step p = nextMove (moveOf bad p (drop p d))
 
   pub move-less : (p m : ℕ) → moveOf bad p (drop p d) ≡ Go m → (p < m) × (m ≤ length d)
   move-less p m e =
@@ -240,7 +241,7 @@ module _ (bad : Bool) (d : List ℕ) where
 
   less : (p m : ℕ) → step p ≡ Again m → length d - m < length d - p
   less p m e = by (moveOf bad p (drop p d)) refl e where
-    by : (r : Move) → moveOf bad p (drop p d) ≡ r → nextOf r ≡ Again m → length d - m < length d - p
+    by : (r : Move) → moveOf bad p (drop p d) ≡ r → nextMove r ≡ Again m → length d - m < length d - p
     by (Go k) f e = let h : k ≡ m = cc in let l = move-less p k f in omega arith
     by (Stop r) f e = let z : _≡_ {A = ℕ} 0 1 = cc in absurd (omega arith)
 

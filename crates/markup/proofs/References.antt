@@ -9,18 +9,19 @@ use lib.Dec.{ltb, leb, eqb}
 use lib.ListN.{length, drop, length-append}
 use borrow.Author.Tests.{eqb-true, ne-eqb, ltb-true, leb-true, le-leb, lt-leb}
 use Rattle.below.specs.Below.{and-right, and-left, holds-not}
-use Rattle.utf.specs.rule.Chars.{legal}
-use Rattle.markup.specs.rule.Bytes.{isDigit, isHex, isName, startsName, ofKind, runOf, bytesOf, restOf, stands}
-use Rattle.markup.specs.rule.Reference.{numberOf, capped, digitKind, closedOf, namedOf, numberedOf, referenceOf}
-use Rattle.markup.specs.rule.Grammar.{Each, no-more, each, Digits, digits, Ref, lt, gt, amp, apos, quot, decimal, hex}
+use Rattle.utf.specs.rule.Chars.{legalCharacter}
+use Rattle.markup.specs.rule.Bytes.{isDigit, isHex, isName, startsName, ofKind, runOf, bytesWhile, restOf, stands}
+use Rattle.markup.specs.rule.Reference.{referenceNumber, heldBelow, digitKind, closedReference, namedCharacter, numberedOf}
+use Rattle.markup.specs.rule.Reference.{referenceOf}
+use Rattle.markup.specs.rule.Grammar.{Each, no-more, each, ReferenceDigits, digits, Ref, lt, gt, amp, apos, quot, decimal, hex}
 use Rattle.markup.specs.declared.Char.{Char}
 use Rattle.markup.specs.declared.Char.the-variants.{Is, Bad}
 use Rattle.markup.proofs.Runs.{run-splits, run-long, each-bytes, small}
 use Rattle.markup.proofs.Gaps.{stands-split}
 
 -- ---- runs of bytes that all pass
-run-bytes : (f : ℕ → Bool) {s : List ℕ} (x : ℕ) (t : List ℕ) → Each f s → f x ≡ false → bytesOf f (s ++ x ∷ t) ≡ s
-unfolding bytesOf
+run-bytes : (f : ℕ → Bool) {s : List ℕ} (x : ℕ) (t : List ℕ) → Each f s → f x ≡ false → bytesWhile f (s ++ x ∷ t) ≡ s
+unfolding bytesWhile
 run-bytes f x t no-more h = rw h
 run-bytes f x t (each {b} {s} e r) h = rw (e, run-bytes f x t r h)
 
@@ -30,8 +31,8 @@ run-rest f x t no-more h = rw h
 run-rest f x t (each {b} {s} e r) h = rw (e, run-rest f x t r h)
 
 -- ---- held values
-legal-not : (c : ℕ) → 2000000 < c → legal c ≡ false
-unfolding legal
+legal-not : (c : ℕ) → 2000000 < c → legalCharacter c ≡ false
+unfolding legalCharacter
 legal-not c h =
     rw (
       le-leb 32 c (omega arith),
@@ -43,22 +44,22 @@ legal-not c h =
     )
     (rw (ne-eqb c 9 (λ e. omega arith), ne-eqb c 10 (λ e. omega arith), ne-eqb c 13 (λ e. omega arith)))
 
-legal-small : (c : ℕ) → legal c ≡ true → capped c ≡ c
-unfolding capped
+legal-small : (c : ℕ) → legalCharacter c ≡ true → heldBelow c ≡ c
+unfolding heldBelow
 legal-small c e = by (ltb 2000000 c) refl where
   by : (q : Bool) → ltb 2000000 c ≡ q → cond q 2000000 c ≡ c
   by false f = refl
   by true f = holds-not e (legal-not c (ltb-true 2000000 c f))
 
-legal-held : (v : ℕ) → legal (capped v) ≡ true → capped v ≡ v
-unfolding capped legal
+legal-held : (v : ℕ) → legalCharacter (heldBelow v) ≡ true → heldBelow v ≡ v
+unfolding heldBelow legalCharacter
 legal-held v e = by (ltb 2000000 v) e where
-  by : (q : Bool) → legal (cond q 2000000 v) ≡ true → cond q 2000000 v ≡ v
+  by : (q : Bool) → legalCharacter (cond q 2000000 v) ≡ true → cond q 2000000 v ≡ v
   by false e = refl
   by true e = let z : _≡_ {A = ℕ} 0 1 = cc in absurd (omega arith)
 
-no-zero : {A : Type 0} → legal 0 ≡ true → A
-unfolding legal
+no-zero : {A : Type 0} → legalCharacter 0 ≡ true → A
+unfolding legalCharacter
 no-zero e = let z : _≡_ {A = ℕ} 0 1 = cc in absurd (omega arith)
 
 -- ---- complete
@@ -67,10 +68,11 @@ unfolding ofKind isHex isDigit
 no-semicolon true = refl
 no-semicolon false = refl
 
-numbered-complete : (h : Bool) (n : ℕ) {s : List ℕ} {c : ℕ} (t : List ℕ) → Each (ofKind (digitKind h)) s → c ≡ numberOf h 0 s → legal c
+numbered-complete : (h : Bool) (n : ℕ) {s : List ℕ} {c : ℕ} (t : List ℕ) → Each (ofKind (digitKind h)) s → c ≡ referenceNumber h 0 s
+    → legalCharacter c
     ≡ true
     → numberedOf h n (s ++ 59 ∷ t) ≡ Is c (n + length s + 1)
-unfolding numberedOf closedOf
+unfolding numberedOf closedReference
 numbered-complete h n {s} {c} t e q k =
     let f = ofKind (digitKind h) in
     let z = no-semicolon h in
@@ -83,18 +85,19 @@ no-x b e f = let h = leb-true b 57 (and-right (leb 48 b) (leb b 57) e) in omega 
 first : {f : ℕ → Bool} {b : ℕ} {s : List ℕ} → Each f (b ∷ s) → f b ≡ true
 first (each e r) = e
 
-decimal-complete : (p : ℕ) {b c : ℕ} {s : List ℕ} (t : List ℕ) → Each (ofKind 2) (b ∷ s) → c ≡ numberOf false 0 (b ∷ s) → legal c ≡ true
+decimal-complete : (p : ℕ) {b c : ℕ} {s : List ℕ} (t : List ℕ) → Each (ofKind 2) (b ∷ s) → c ≡ referenceNumber false 0 (b ∷ s)
+    → legalCharacter c ≡ true
     → referenceOf p (35 ∷ (b ∷ s) ++ 59 ∷ t) ≡ Is c (p + 2 + length (b ∷ s) + 1)
 unfolding referenceOf stands
 decimal-complete p {b} {c} {s} t r q k = rw (ne-eqb b 120 (no-x b (first r))) (numbered-complete false (p + 2) t r q k)
 
-hex-complete : (p : ℕ) {c : ℕ} {s : List ℕ} (t : List ℕ) → Each (ofKind 3) s → c ≡ numberOf true 0 s → legal c ≡ true
+hex-complete : (p : ℕ) {c : ℕ} {s : List ℕ} (t : List ℕ) → Each (ofKind 3) s → c ≡ referenceNumber true 0 s → legalCharacter c ≡ true
     → referenceOf p (35 ∷ 120 ∷ s ++ 59 ∷ t) ≡ Is c (p + 3 + length s + 1)
 unfolding referenceOf stands
 hex-complete p t r q k = numbered-complete true (p + 3) t r q k
 
 pub reference-complete : (p : ℕ) {u : List ℕ} {c : ℕ} → Ref u c → (t : List ℕ) → referenceOf p (u ++ t) ≡ Is c (p + 1 + length u)
-unfolding referenceOf stands namedOf closedOf ofKind runOf restOf isName isDigit startsName legal
+unfolding referenceOf stands namedCharacter closedReference ofKind runOf restOf isName isDigit startsName legalCharacter
 reference-complete p lt t = ap (Is 60) (omega arith)
 reference-complete p gt t = ap (Is 62) (omega arith)
 reference-complete p amp t = ap (Is 38) (omega arith)
@@ -121,15 +124,15 @@ pub record Referred (s : List ℕ) (p c n : ℕ) : Type 0 where
 record Closed (c c′ n n′ : ℕ) (r : List ℕ) : Type 0 where
   pub after : List ℕ
   pub semicolon : r ≡ 59 ∷ after
-  pub good : legal c ≡ true
+  pub good : legalCharacter c ≡ true
   pub same : c′ ≡ c
   pub next : n′ ≡ n + 1
 
-closed-is : (n c c′ n′ : ℕ) (r : List ℕ) → closedOf n c r ≡ Is c′ n′ → Closed c c′ n n′ r
-unfolding closedOf
+closed-is : (n c c′ n′ : ℕ) (r : List ℕ) → closedReference n c r ≡ Is c′ n′ → Closed c c′ n n′ r
+unfolding closedReference
 closed-is n c c′ n′ [] e = let z : _≡_ {A = ℕ} 0 1 = cc in absurd (omega arith)
-closed-is n c c′ n′ (b ∷ s) e = by (eqb b 59) (legal c) refl refl e where
-  by : (q r : Bool) → eqb b 59 ≡ q → legal c ≡ r → cond q (cond r (Is c (n + 1)) (Bad)) (Bad) ≡ Is c′ n′ → Closed c c′ n n′ (b ∷ s)
+closed-is n c c′ n′ (b ∷ s) e = by (eqb b 59) (legalCharacter c) refl refl e where
+  by : (q r : Bool) → eqb b 59 ≡ q → legalCharacter c ≡ r → cond q (cond r (Is c (n + 1)) (Bad)) (Bad) ≡ Is c′ n′ → Closed c c′ n n′ (b ∷ s)
   by true true f g e = let h = eqb-true b 59 f in record { after = s; semicolon = rw h; good = g; same = cc; next = cc }
   by true false f g e = let z : _≡_ {A = ℕ} 0 1 = cc in absurd (omega arith)
   by false r f g e = let z : _≡_ {A = ℕ} 0 1 = cc in absurd (omega arith)
@@ -137,31 +140,31 @@ closed-is n c c′ n′ (b ∷ s) e = by (eqb b 59) (legal c) refl refl e where
 record Numbered (h : Bool) (s : List ℕ) (n c′ n′ : ℕ) : Type 0 where
   pub figures : List ℕ
   pub after : List ℕ
-  pub digits-are : Digits h figures
+  pub digits-are : ReferenceDigits h figures
   pub split : s ≡ figures ++ 59 ∷ after
-  pub value : c′ ≡ numberOf h 0 figures
-  pub good : legal c′ ≡ true
+  pub value : c′ ≡ referenceNumber h 0 figures
+  pub good : legalCharacter c′ ≡ true
   pub next : n′ ≡ n + length figures + 1
 
 numbered-sound : (h : Bool) (n c′ n′ : ℕ) (s : List ℕ) → numberedOf h n s ≡ Is c′ n′ → Numbered h s n c′ n′
-unfolding numberedOf numberOf
+unfolding numberedOf referenceNumber
 numbered-sound h n c′ n′ s e =
     let f = ofKind (digitKind h) in
-    let k = closed-is (runOf f n s) (capped (numberOf h 0 (bytesOf f s))) c′ n′ (restOf f s) e in
-    let v = legal-held (numberOf h 0 (bytesOf f s)) (k .good) in
+    let k = closed-is (runOf f n s) (heldBelow (referenceNumber h 0 (bytesWhile f s))) c′ n′ (restOf f s) e in
+    let v = legal-held (referenceNumber h 0 (bytesWhile f s)) (k .good) in
     let l = run-long f n s in
     let x = k .same in
     let y = k .next in
     record {
-      figures = bytesOf f s;
+      figures = bytesWhile f s;
       after = k .after;
-      digits-are = some (bytesOf f s) (each-bytes f s) (k .good);
-      split = run-splits f s ∙ ap (λ (t : List ℕ). bytesOf f s ++ t) (k .semicolon);
+      digits-are = some (bytesWhile f s) (each-bytes f s) (k .good);
+      split = run-splits f s ∙ ap (λ (t : List ℕ). bytesWhile f s ++ t) (k .semicolon);
       value = x ∙ v;
       good = rw x (k .good);
       next = omega arith;
     } where
-      some : (l : List ℕ) → Each (ofKind (digitKind h)) l → legal (capped (numberOf h 0 l)) ≡ true → Digits h l
+      some : (l : List ℕ) → Each (ofKind (digitKind h)) l → legalCharacter (heldBelow (referenceNumber h 0 l)) ≡ true → ReferenceDigits h l
       some [] a g = no-zero (rw (small 0 (omega arith)) at g)
       some (b ∷ l) a g = digits a
 
@@ -176,11 +179,11 @@ record Which (s : List ℕ) : Type 0 where
   pub after : List ℕ
   pub ref : Ref name code
   pub split : s ≡ name ++ after
-  pub says : namedOf s ≡ code
+  pub says : namedCharacter s ≡ code
   pub long : length name ≡ longOf code
 
-named-which : (s : List ℕ) → (namedOf s ≡ 0 → ⊥) → Which s
-unfolding namedOf
+named-which : (s : List ℕ) → (namedCharacter s ≡ 0 → ⊥) → Which s
+unfolding namedCharacter
 named-which s h =
     by (stands lt-is s) (stands gt-is s) (stands amp-is s) (stands apos-is s) (stands quot-is s) refl refl refl refl refl refl
   where
@@ -199,12 +202,12 @@ named-which s h =
     quot-is : List ℕ
     quot-is = 113 ∷ 117 ∷ 111 ∷ 116 ∷ 59 ∷ []
 
-    found : (w : List ℕ) (c : ℕ) → Ref w c → stands w s ≡ true → namedOf s ≡ c → length w ≡ longOf c → Which s
+    found : (w : List ℕ) (c : ℕ) → Ref w c → stands w s ≡ true → namedCharacter s ≡ c → length w ≡ longOf c → Which s
     found w c r f g l = let x = stands-split w s f in
         record { name = w; code = c; after = x .0; ref = r; split = x .1; says = g; long = l }
 
     by : (q r t u v : Bool) → stands lt-is s ≡ q → stands gt-is s ≡ r → stands amp-is s ≡ t → stands apos-is s ≡ u → stands quot-is s ≡ v
-        → namedOf s ≡ cond q 60 (cond r 62 (cond t 38 (cond u 39 (cond v 34 0)))) → Which s
+        → namedCharacter s ≡ cond q 60 (cond r 62 (cond t 38 (cond u 39 (cond v 34 0)))) → Which s
     by true r t u v a b c d e g = found lt-is 60 lt a g refl
     by false true t u v a b c d e g = found gt-is 62 gt b g refl
     by false false true u v a b c d e g = found amp-is 38 amp c g refl
@@ -213,11 +216,12 @@ named-which s h =
     by false false false false false a b c d e g = absurd (h g)
 
 -- which of them stands says the character and the place behind it
-pub name-reference : (p : ℕ) (s : List ℕ) → (namedOf s ≡ 0 → ⊥) → referenceOf p s ≡ Is (namedOf s) (p + 1 + longOf (namedOf s))
+pub name-reference : (p : ℕ) (s : List ℕ) → (namedCharacter s ≡ 0 → ⊥) → referenceOf p s
+    ≡ Is (namedCharacter s) (p + 1 + longOf (namedCharacter s))
 name-reference p s h = let w = named-which s h in
     ap (referenceOf p) (w .split) ∙ reference-complete p (w .ref) (w .after) ∙ rw (w .says, w .long)
 
-pub named-fits : (s : List ℕ) → (namedOf s ≡ 0 → ⊥) → longOf (namedOf s) ≤ length s
+pub named-fits : (s : List ℕ) → (namedCharacter s ≡ 0 → ⊥) → longOf (namedCharacter s) ≤ length s
 named-fits s h =
     let w = named-which s h in
     let a = ap length (w .split) in
@@ -227,15 +231,15 @@ named-fits s h =
     rw (w .says) e
 
 -- any other name says no character, whatever ends it
-no-code : (n : ℕ) (s : List ℕ) → closedOf n 0 s ≡ Bad
-unfolding closedOf legal
+no-code : (n : ℕ) (s : List ℕ) → closedReference n 0 s ≡ Bad
+unfolding closedReference legalCharacter
 no-code n [] = refl
 no-code n (b ∷ s) = by (eqb b 59) where
-  by : (q : Bool) → cond q (cond (legal 0) (Is 0 (n + 1)) Bad) Bad ≡ Bad
+  by : (q : Bool) → cond q (cond (legalCharacter 0) (Is 0 (n + 1)) Bad) Bad ≡ Bad
   by true = refl
   by false = refl
 
-pub name-bad : (p : ℕ) (s : List ℕ) → stands (35 ∷ 120 ∷ []) s ≡ false → stands (35 ∷ []) s ≡ false → namedOf s ≡ 0 → referenceOf p s
+pub name-bad : (p : ℕ) (s : List ℕ) → stands (35 ∷ 120 ∷ []) s ≡ false → stands (35 ∷ []) s ≡ false → namedCharacter s ≡ 0 → referenceOf p s
     ≡ Bad
 unfolding referenceOf
 name-bad p s f g h = rw (f, g, h) (no-code (runOf (ofKind 1) (p + 1) s) (restOf (ofKind 1) s))
@@ -274,7 +278,8 @@ reference-sound p c n s e = by (stands (35 ∷ 120 ∷ []) s) (stands (35 ∷ []
 
   by : (q r : Bool) → stands (35 ∷ 120 ∷ []) s ≡ q → stands (35 ∷ []) s ≡ r
       → cond q (numberedOf true (p + 3) (drop 2 s))
-      (cond r (numberedOf false (p + 2) (drop 1 s)) (closedOf (runOf (ofKind 1) (p + 1) s) (namedOf s) (restOf (ofKind 1) s))) ≡ Is c n
+      (cond r (numberedOf false (p + 2) (drop 1 s)) (closedReference (runOf (ofKind 1) (p + 1) s) (namedCharacter s) (restOf (ofKind 1) s)))
+      ≡ Is c n
       → Referred s p c n
   by true r f g e = let x = stands-split (35 ∷ 120 ∷ []) s f in
       with-hex (drop 2 s) (x .1 ∙ ap (λ (t : List ℕ). 35 ∷ 120 ∷ t) (sym (ap (drop 2) (x .1))))
@@ -282,7 +287,7 @@ reference-sound p c n s e = by (stands (35 ∷ 120 ∷ []) s) (stands (35 ∷ []
   by false true f g e = let x = stands-split (35 ∷ []) s g in
       with-digits (drop 1 s) (x .1 ∙ ap (λ (t : List ℕ). 35 ∷ t) (sym (ap (drop 1) (x .1)))) (numbered-sound false (p + 2) c n (drop 1 s) e)
   by false false f g d =
-      let g = closed-is (runOf (ofKind 1) (p + 1) s) (namedOf s) c n (restOf (ofKind 1) s) d .good in
+      let g = closed-is (runOf (ofKind 1) (p + 1) s) (namedCharacter s) c n (restOf (ofKind 1) s) d .good in
       name-sound p c n s e (named-which s λ z. no-zero (rw z at g))
 
 -- REFERENCE: it says c up to n exactly when what follows the & up to n is one of the five names, or a number of a legal character

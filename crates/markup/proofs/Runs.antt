@@ -10,9 +10,9 @@ use lib.ListN.{length, drop, getD, drop-of-length-le, length-drop}
 use lib.Seq.{drop-drop, drop-at, getD-drop}
 use borrow.Author.Tests.{eq-eqb, ne-eqb, ltb-true, ltb-false, lt-ltb, le-ltb}
 use Rattle.utf.proofs.Strides.{drop-1}
-use Rattle.markup.specs.rule.Bytes.{ofKind, runOf, bytesOf, restOf, stands}
+use Rattle.markup.specs.rule.Bytes.{ofKind, runOf, bytesWhile, restOf, stands}
 use Rattle.markup.specs.rule.Grammar.{Each, no-more, each}
-use Rattle.markup.specs.rule.Reference.{pushOf, numberOf, capped, digitKind, figureOf}
+use Rattle.markup.specs.rule.Reference.{pushOf, referenceNumber, heldBelow, digitKind, referenceFigure}
 use Rattle.markup.specs.declared.Figure.{Figure}
 
 -- ---- bytes that stand at a place: the first of them, and what follows them
@@ -57,28 +57,28 @@ pub rest-at : (f : ℕ → Bool) (d : List ℕ) (p : ℕ) → drop (runOf f p (d
 rest-at f d p = rest-on f d (drop p d) p refl
 
 -- a run and what follows it, and how far it goes
-pub run-splits : (f : ℕ → Bool) (s : List ℕ) → s ≡ bytesOf f s ++ restOf f s
-unfolding bytesOf restOf
+pub run-splits : (f : ℕ → Bool) (s : List ℕ) → s ≡ bytesWhile f s ++ restOf f s
+unfolding bytesWhile restOf
 run-splits f [] = refl
 run-splits f (b ∷ s) = by (f b) (run-splits f s) where
-  by : (q : Bool) → s ≡ bytesOf f s ++ restOf f s → b ∷ s ≡ cond q (b ∷ bytesOf f s) [] ++ cond q (restOf f s) (b ∷ s)
+  by : (q : Bool) → s ≡ bytesWhile f s ++ restOf f s → b ∷ s ≡ cond q (b ∷ bytesWhile f s) [] ++ cond q (restOf f s) (b ∷ s)
   by true i = ap (λ (t : List ℕ). b ∷ t) i
   by false i = refl
 
-pub each-bytes : (f : ℕ → Bool) (s : List ℕ) → Each f (bytesOf f s)
-unfolding bytesOf
+pub each-bytes : (f : ℕ → Bool) (s : List ℕ) → Each f (bytesWhile f s)
+unfolding bytesWhile
 each-bytes f [] = no-more
 each-bytes f (b ∷ s) = by (f b) refl (each-bytes f s) where
-  by : (q : Bool) → f b ≡ q → Each f (bytesOf f s) → Each f (cond q (b ∷ bytesOf f s) [])
+  by : (q : Bool) → f b ≡ q → Each f (bytesWhile f s) → Each f (cond q (b ∷ bytesWhile f s) [])
   by true e r = each e r
   by false e r = no-more
 
-pub run-long : (f : ℕ → Bool) (p : ℕ) (s : List ℕ) → runOf f p s ≡ p + length (bytesOf f s)
-unfolding runOf bytesOf
+pub run-long : (f : ℕ → Bool) (p : ℕ) (s : List ℕ) → runOf f p s ≡ p + length (bytesWhile f s)
+unfolding runOf bytesWhile
 run-long f p [] = omega arith
 run-long f p (b ∷ s) = by (f b) (run-long f (p + 1) s) where
-  by : (q : Bool) → runOf f (p + 1) s ≡ p + 1 + length (bytesOf f s) → cond q (runOf f (p + 1) s) p ≡ p
-      + length (cond q (b ∷ bytesOf f s) [])
+  by : (q : Bool) → runOf f (p + 1) s ≡ p + 1 + length (bytesWhile f s) → cond q (runOf f (p + 1) s) p ≡ p
+      + length (cond q (b ∷ bytesWhile f s) [])
   by true i = i ∙ omega arith
   by false i = omega arith
 
@@ -105,43 +105,44 @@ unfolding pushOf
 grows true v b = omega arith
 grows false v b = omega arith
 
-number-grows : (hex : Bool) (v : ℕ) (s : List ℕ) → v ≤ numberOf hex v s
-unfolding numberOf
+number-grows : (hex : Bool) (v : ℕ) (s : List ℕ) → v ≤ referenceNumber hex v s
+unfolding referenceNumber
 number-grows hex v [] = omega arith
 number-grows hex v (b ∷ s) = omega (arith, grows hex v b, number-grows hex (pushOf hex v b) s)
 
-full : (n : ℕ) → 2000000 ≤ n → capped n ≡ 2000000
-unfolding capped
+full : (n : ℕ) → 2000000 ≤ n → heldBelow n ≡ 2000000
+unfolding heldBelow
 full n h = by (ltb 2000000 n) refl where
   by : (q : Bool) → ltb 2000000 n ≡ q → cond q 2000000 n ≡ 2000000
   by true e = refl
   by false e = omega (arith, ltb-false 2000000 n e)
 
-pub small : (n : ℕ) → n ≤ 2000000 → capped n ≡ n
-unfolding capped
+pub small : (n : ℕ) → n ≤ 2000000 → heldBelow n ≡ n
+unfolding heldBelow
 small n h = rw (le-ltb 2000000 n h)
 
 -- a number that is held before its last digits is held after them
-pub held : (hex : Bool) (v : ℕ) (s : List ℕ) → capped (numberOf hex (capped v) s) ≡ capped (numberOf hex v s)
+pub held : (hex : Bool) (v : ℕ) (s : List ℕ) → heldBelow (referenceNumber hex (heldBelow v) s) ≡ heldBelow (referenceNumber hex v s)
 held hex v s = by (ltb 2000000 v) refl where
-  by : (q : Bool) → ltb 2000000 v ≡ q → capped (numberOf hex (capped v) s) ≡ capped (numberOf hex v s)
+  by : (q : Bool) → ltb 2000000 v ≡ q → heldBelow (referenceNumber hex (heldBelow v) s) ≡ heldBelow (referenceNumber hex v s)
   by false e = rw (small v (ltb-false 2000000 v e))
   by true e =
       let h = ltb-true 2000000 v e in
       rw (full v (omega arith))
-      (full (numberOf hex 2000000 s) (number-grows hex 2000000 s) ∙ sym (full (numberOf hex v s) (omega (arith, number-grows hex v s))))
+      (full (referenceNumber hex 2000000 s) (number-grows hex 2000000 s)
+      ∙ sym (full (referenceNumber hex v s) (omega (arith, number-grows hex v s))))
 
 module _ (hex : Bool) (v : ℕ) (d : List ℕ) (p : ℕ) where
   pub figure-next : p < length d → ofKind (digitKind hex) (getD d p 0) ≡ true
-      → figureOf hex v p (drop p d) ≡ figureOf hex (capped (pushOf hex v (getD d p 0))) (p + 1) (drop (p + 1) d)
-  unfolding figureOf runOf bytesOf numberOf
-  figure-next h e = rw (drop-1 d p h, e) (rw (held hex (pushOf hex v (getD d p 0)) (bytesOf (ofKind (digitKind hex)) (drop (p + 1) d))))
+      → referenceFigure hex v p (drop p d) ≡ referenceFigure hex (heldBelow (pushOf hex v (getD d p 0))) (p + 1) (drop (p + 1) d)
+  unfolding referenceFigure runOf bytesWhile referenceNumber
+  figure-next h e = rw (drop-1 d p h, e) (rw (held hex (pushOf hex v (getD d p 0)) (bytesWhile (ofKind (digitKind hex)) (drop (p + 1) d))))
 
-  pub figure-over : p < length d → ofKind (digitKind hex) (getD d p 0) ≡ false → v ≤ 2000000 → figureOf hex v p (drop p d)
+  pub figure-over : p < length d → ofKind (digitKind hex) (getD d p 0) ≡ false → v ≤ 2000000 → referenceFigure hex v p (drop p d)
       ≡ record { value = v; next = p }
-  unfolding figureOf runOf bytesOf numberOf
+  unfolding referenceFigure runOf bytesWhile referenceNumber
   figure-over h e k = rw (drop-1 d p h, e, small v k)
 
-  pub figure-end : length d ≤ p → v ≤ 2000000 → figureOf hex v p (drop p d) ≡ record { value = v; next = p }
-  unfolding figureOf runOf bytesOf numberOf
+  pub figure-end : length d ≤ p → v ≤ 2000000 → referenceFigure hex v p (drop p d) ≡ record { value = v; next = p }
+  unfolding referenceFigure runOf bytesWhile referenceNumber
   figure-end h k = rw (drop-of-length-le d h, small v k)

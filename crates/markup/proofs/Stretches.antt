@@ -5,7 +5,7 @@ use mathlib.Core.List.{List, [], _∷_, _++_}
 use Prim.Native.Nat.{ℕ, _+_, _<_}
 use native.Mathlib.Omega.{arith}
 use lib.ListN.{length, drop, getD}
-use Rattle.markup.specs.rule.Bytes.{runOf, bytesOf}
+use Rattle.markup.specs.rule.Bytes.{runOf, bytesWhile}
 use Rattle.markup.specs.rule.Grammar.{Each, no-more, each}
 use Rattle.markup.proofs.Runs.{first-at, onward, run-next, run-over, run-splits, run-long, rest-at, each-bytes}
 
@@ -18,9 +18,9 @@ pub record Stretch (f : ℕ → Bool) (d : List ℕ) (p q : ℕ) : Type 0 where
 
 pub run-stretch : (f : ℕ → Bool) (d : List ℕ) (p : ℕ) → Stretch f d p (runOf f p (drop p d))
 run-stretch f d p = record {
-  bytes = bytesOf f (drop p d);
+  bytes = bytesWhile f (drop p d);
   passes = each-bytes f (drop p d);
-  split = run-splits f (drop p d) ∙ ap (λ (t : List ℕ). bytesOf f (drop p d) ++ t) (sym (rest-at f d p));
+  split = run-splits f (drop p d) ∙ ap (λ (t : List ℕ). bytesWhile f (drop p d) ++ t) (sym (rest-at f d p));
   place = run-long f p (drop p d);
 }
 

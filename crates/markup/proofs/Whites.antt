@@ -11,7 +11,7 @@ use borrow.Author.Tests.{eqb-true, ne-eqb}
 use Rattle.below.specs.Below.{lt-or-le}
 use Rattle.utf.proofs.Strides.{drop-1, drop-3}
 use Rattle.markup.specs.rule.Bytes.{isWhite, stands}
-use Rattle.markup.specs.rule.Gap.{commentOf, onSkip, moveOf, gapOf}
+use Rattle.markup.specs.rule.Gap.{xmlComment, onSkip, moveOf, gapOf}
 use Rattle.markup.specs.rule.Grammar.{Each, no-more, each}
 use Rattle.markup.specs.White.{Whites, Passed}
 use Rattle.markup.specs.declared.Skip.{Skip}
@@ -94,18 +94,19 @@ module _ (bad : Bool) (d : List ℕ) (p i : ℕ) (x : Passed d p i) where
     pub note-fits : i + 4 ≤ length d
     note-fits = note-inside d i (x .whites .within) e
 
-    noted : (r : Skip) → commentOf bad i (i + 4) (drop (i + 4) d) ≡ r → moveOf bad i (drop i d) ≡ onSkip r
+    noted : (r : Skip) → xmlComment bad i (i + 4) (drop (i + 4) d) ≡ r → moveOf bad i (drop i d) ≡ onSkip r
     noted r f =
         let n = note-fits in
         let h : i < length d = omega arith in
         move-note bad d i h (x .over h) e ∙ ap onSkip f
 
-    pub gap-noted : (m : ℕ) → commentOf bad i (i + 4) (drop (i + 4) d) ≡ Past m → (gapOf bad d p ≡ gapOf bad d m) × (i < m) × (m ≤ length d)
+    pub gap-noted : (m : ℕ) → xmlComment bad i (i + 4) (drop (i + 4) d) ≡ Past m → (gapOf bad d p ≡ gapOf bad d m) × (i < m)
+        × (m ≤ length d)
     gap-noted m f =
         let l = move-less bad d i m (noted (Past m) f) in
         (x .whites .again bad ∙ gap-next bad d i m (noted (Past m) f), l .0, l .1)
 
-    pub gap-broken : (q : ℕ) → commentOf bad i (i + 4) (drop (i + 4) d) ≡ Broken q → gapOf bad d p ≡ Broken q
+    pub gap-broken : (q : ℕ) → xmlComment bad i (i + 4) (drop (i + 4) d) ≡ Broken q → gapOf bad d p ≡ Broken q
     gap-broken q f = x .whites .again bad ∙ gap-stop bad d i (Broken q) (noted (Broken q) f)
 
 -- ---- given bytes

@@ -7,9 +7,10 @@ ghost use Prim.Native.Nat.{_+_, _-_, _≤_, _<_};
 ghost use lib.Dec.{leb, eqb};
 ghost use lib.ListN.{length, drop};
 ghost use Rattle.markup.specs.rule.Bytes.{isWhite, isDigit, isHex, startsName, isName, ofKind, runOf, stands, endFault};
-ghost use Rattle.markup.specs.rule.Reference.{digitOf, pushOf, capped, figureOf, closedOf, namedOf, numberedOf, referenceOf};
+ghost use Rattle.markup.specs.rule.Reference.{digitOf, pushOf, heldBelow, referenceFigure, closedReference, namedCharacter};
+ghost use Rattle.markup.specs.rule.Reference.{numberedOf, referenceOf};
 ghost use Rattle.markup.specs.rule.Reference.{digitKind};
-ghost use Rattle.markup.specs.rule.Gap.{commentOf, gapOf};
+ghost use Rattle.markup.specs.rule.Gap.{xmlComment, gapOf};
 ghost use Rattle.markup.specs.White.{Whites, Passed};
 
 pub fn is_white(b: u8) -> bool
@@ -141,7 +142,7 @@ fn push(hex: bool, v: u64, b: u8) -> u64
 }
 
 fn hold(v: u64) -> u64
-    ensures { λ r. ⌜ (r ≡ capped v) × (r ≤ 2000000) ⌝ }
+    ensures { λ r. ⌜ (r ≡ heldBelow v) × (r ≤ 2000000) ⌝ }
 {
     if CAP < v { CAP } else { v }
 }
@@ -154,7 +155,7 @@ fn digit_kind(hex: bool) -> usize
 
 pub fn number(hex: bool, d: &[u8], at: usize) -> Figure
     requires { ⌜ at ≤ length (now d) ⌝ }
-    ensures { λ r. ⌜ (r ≡ figureOf hex 0 at (drop at (now (d .entry)))) × (r .next ≤ length (now (d .entry))) ⌝ }
+    ensures { λ r. ⌜ (r ≡ referenceFigure hex 0 at (drop at (now (d .entry)))) × (r .next ≤ length (now (d .entry))) ⌝ }
 {
     let kind = digit_kind(hex);
     let mut v = 0;
@@ -179,7 +180,7 @@ pub enum Char {
 
 fn closed(d: &[u8], n: usize, code: u64) -> Char
     requires { ⌜ n ≤ length (now d) ⌝ }
-    ensures { λ r. ⌜ r ≡ closedOf n code (drop n (now (d .entry))) ⌝ }
+    ensures { λ r. ⌜ r ≡ closedReference n code (drop n (now (d .entry))) ⌝ }
 {
     if d.len() <= n {
         return Char::Bad;
@@ -208,7 +209,7 @@ fn with_a(d: &[u8], at: usize) -> u64
 // The character whose name stands at a place with its semicolon; 0 where none of the five does. The first byte tells which it may be.
 fn named(d: &[u8], at: usize) -> u64
     requires { ⌜ at ≤ length (now d) ⌝ }
-    ensures { λ r. ⌜ r ≡ namedOf (drop at (now (d .entry))) ⌝ }
+    ensures { λ r. ⌜ r ≡ namedCharacter (drop at (now (d .entry))) ⌝ }
 {
     if d.len() <= at {
         return 0;
@@ -284,7 +285,7 @@ pub enum Skip {
 // A comment whose <!-- stands at `opened`, from a place behind that on.
 pub fn comment(bad: bool, d: &[u8], opened: usize, at: usize) -> Skip
     requires { ⌜ at ≤ length (now d) ⌝ }
-    ensures { λ r. ⌜ r ≡ commentOf bad opened at (drop at (now (d .entry))) ⌝ }
+    ensures { λ r. ⌜ r ≡ xmlComment bad opened at (drop at (now (d .entry))) ⌝ }
 {
     let mut i = at;
     while i < d.len() {

@@ -24,7 +24,7 @@ use Rattle.columns.specs.rule.Columns.{Column, rowColumns, columnsFrom, entries
 use Rattle.columns.specs.Columns.{entries-append, length-entries, columns-on, columns-none, left-count}
 use Rattle.columns.specs.Room.{Room}
 use Rattle.columns.specs.Reach.{Readable}
-use Rattle.matrices.specs.rule.Matrix.{allEntries}
+use Rattle.matrices.specs.rule.Matrix.{matrixEntries}
 use Rattle.matrices.specs.Records.{length-all}
 use Rattle.matrices.specs.Entries.{recordAt}
 
@@ -117,16 +117,16 @@ module _ (t : List ℤ) (v step : ℕ) where
 
   -- ALL COLUMNS are all records
   pub columns-whole : (cs : List Column) (rs : List (List ℕ)) (o : List ℕ) (f w : ℕ) → length cs ≡ step → f + length rs * step ≤ w
-      → putColumns t v step cs o f w rs ≡ putEntries o f w (allEntries t v cs rs)
-  unfolding putColumns allEntries
+      → putColumns t v step cs o f w rs ≡ putEntries o f w (matrixEntries t v cs rs)
+  unfolding putColumns matrixEntries
   columns-whole cs [] o f w h i = sym (entries-none o f w)
   columns-whole cs (r ∷ rs) o f w h i =
       let e = entriesOf t v r cs in
       let n : length e ≡ step = length-entries t v r cs ∙ h in
       let m = suc-mul (length rs) step in
       columns-whole cs rs (putEntries o f w e) (f + step) (w + 8 * step) h (omega arith)
-      ∙ ap (λ (k : ℕ). putEntries (putEntries o f w e) (f + k) (w + 8 * k) (allEntries t v cs rs)) (sym n)
-      ∙ entries-then o f w e (allEntries t v cs rs) (omega (arith, n, m, length-all t v cs rs, ap (λ (x : ℕ). length rs * x) h))
+      ∙ ap (λ (k : ℕ). putEntries (putEntries o f w e) (f + k) (w + 8 * k) (matrixEntries t v cs rs)) (sym n)
+      ∙ entries-then o f w e (matrixEntries t v cs rs) (omega (arith, n, m, length-all t v cs rs, ap (λ (x : ℕ). length rs * x) h))
 
   -- no column is nothing put, and a record more
   pub columns-nothing : {cs : List Column} → cs ≡ [] → (rs : List (List ℕ)) (o : List ℕ) (f w : ℕ) → putColumns t v step cs o f w rs ≡ o

@@ -14,7 +14,7 @@ use Rattle.matrix.specs.declared.Entry.the-variants.{Absent}
 use Rattle.matrix.specs.Stride.{picked, InStride}
 use Rattle.columns.specs.rule.Columns.{Column, ofRow, entryOf, entriesOf}
 use Rattle.columns.specs.Columns.{length-entries}
-use Rattle.matrices.specs.rule.Matrix.{allEntries, columnEntries}
+use Rattle.matrices.specs.rule.Matrix.{matrixEntries, columnEntries}
 use Rattle.matrices.specs.Records.{length-all}
 
 -- the k-th column, and the n-th record
@@ -34,19 +34,19 @@ module _ (t : List ℤ) (v : ℕ) (cs : List Column) where
 
   -- THE ENTRY of record n, column k
   pub all-at : (rs : List (List ℕ)) (n k : ℕ) → n < length rs → k < length cs
-      → getD (allEntries t v cs rs) (n * length cs + k) Absent ≡ entryOf t v (recordAt rs n) (columnAt cs k)
-  unfolding allEntries
+      → getD (matrixEntries t v cs rs) (n * length cs + k) Absent ≡ entryOf t v (recordAt rs n) (columnAt cs k)
+  unfolding matrixEntries
   all-at [] n k h l = absurd (omega arith)
   all-at (r ∷ rs) zero k h l =
       let e : 0 * length cs + k ≡ k = omega arith in
-      ap (λ (i : ℕ). getD (entriesOf t v r cs ++ allEntries t v cs rs) i Absent) e
-      ∙ List·getD-append (entriesOf t v r cs) (allEntries t v cs rs) Absent k (rw (length-entries t v r cs) l)
+      ap (λ (i : ℕ). getD (entriesOf t v r cs ++ matrixEntries t v cs rs) i Absent) e
+      ∙ List·getD-append (entriesOf t v r cs) (matrixEntries t v cs rs) Absent k (rw (length-entries t v r cs) l)
       ∙ entry-at r cs k l
   all-at (r ∷ rs) (suc n) k h l =
       let m = length-entries t v r cs in
       let e : suc n * length cs + k ≡ length (entriesOf t v r cs) + (n * length cs + k) = omega (arith, m, suc-mul n (length cs)) in
-      ap (λ (i : ℕ). getD (entriesOf t v r cs ++ allEntries t v cs rs) i Absent) e
-      ∙ getD-append-add (entriesOf t v r cs) (allEntries t v cs rs) (n * length cs + k) Absent
+      ap (λ (i : ℕ). getD (entriesOf t v r cs ++ matrixEntries t v cs rs) i Absent) e
+      ∙ getD-append-add (entriesOf t v r cs) (matrixEntries t v cs rs) (n * length cs + k) Absent
       ∙ all-at rs n k (omega arith) l
 
   -- the places of a column lie among the entries

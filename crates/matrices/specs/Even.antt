@@ -16,7 +16,7 @@ use Rattle.cuts.specs.declared.Terminator.{Terminator}
 use Rattle.cuts.specs.declared.Next.{Next}
 use Rattle.cuts.specs.declared.Next.the-variants.{Ended, Unended, Nothing}
 use Rattle.cuts.specs.rule.Cut.{nextFrom, terminatorOf}
-use Rattle.cuts.specs.rule.Records.{Records, over, unended, record-and, recordsFrom, recordsOf, terminatorBytes, laid}
+use Rattle.cuts.specs.rule.Records.{Records, over, unended, record-and, recordsFrom, recordsOf, terminatorBytes, laid, lengthOfFirst}
 use Rattle.cuts.specs.Records.{part, laid-again, next-ended, next-unended, next-nothing, over-past}
 use Rattle.sound.specs.rule.Sound.{wellFormed}
 use Rattle.sound.specs.rule.Rows.{rowsOf, lengthOf}
@@ -31,12 +31,6 @@ unfoldable pub AllOf : ℕ → Records → Type 0
 AllOf n over = Unit {0}
 AllOf n (unended r) = ⊥
 AllOf n (record-and r rs) = (length r ≡ n) × AllOf n rs
-
--- how many bytes the first record has
-unfoldable pub firstOf : Records → ℕ
-firstOf over = 0
-firstOf (unended r) = 0
-firstOf (record-and r rs) = length r
 
 -- record n starts at n steps, and has `first` bytes
 pub record Even (d : List ℕ) (first step : ℕ) : Type 0 where
@@ -64,18 +58,18 @@ records-even t (record-and r rs) n first m h e =
     (rw f at e) in
     (record-same t first r (w .0), records-even t rs (n + 1) first m (omega arith) (w .1))
 
-pub file-even : (t : List ℤ) (d : List ℕ) (m : ℕ) → fileVerdict t d ≡ soundWith m → AllOf (firstOf (recordsOf d)) (recordsOf d)
-unfolding fileVerdict recordsVerdict firstLength AllOf firstOf
+pub file-even : (t : List ℤ) (d : List ℕ) (m : ℕ) → fileVerdict t d ≡ soundWith m → AllOf (lengthOfFirst (recordsOf d)) (recordsOf d)
+unfolding fileVerdict recordsVerdict firstLength AllOf lengthOfFirst
 file-even t d m = go (wellFormed t)
   where
-    all : (rs : Records) → recordsVerdict t 0 0 rs ≡ soundWith m → AllOf (firstOf rs) rs
+    all : (rs : Records) → recordsVerdict t 0 0 rs ≡ soundWith m → AllOf (lengthOfFirst rs) rs
     all over e = tt
     all (unended r) e = let z : _≡_ {A = ℕ} 0 1 = cc in absurd (omega arith)
     all (record-and r rs) e =
         let w = went-on (recordVerdict t (length r) r) 0 m (recordsVerdict t 1 (length r) rs) e in
         (refl, records-even t rs 1 (length r) m (omega arith) (w .1))
 
-    go : (b : Bool) → cond b (recordsVerdict t 0 0 (recordsOf d)) badTable ≡ soundWith m → AllOf (firstOf (recordsOf d)) (recordsOf d)
+    go : (b : Bool) → cond b (recordsVerdict t 0 0 (recordsOf d)) badTable ≡ soundWith m → AllOf (lengthOfFirst (recordsOf d)) (recordsOf d)
     go true e = all (recordsOf d) e
     go false e = let z : _≡_ {A = ℕ} 0 1 = cc in absurd (omega arith)
 
@@ -169,12 +163,12 @@ module _ (d : List ℕ) {w : Terminator} (is : w ≡ terminatorOf d) where
   unfolding recordsOf
   same-records = ap (λ (x : Terminator). recordsFrom x d) is
 
-  pub first-ended : w .size ≤ 2 → AllOf (firstOf (recordsOf d)) (recordsOf d) → {a e n : ℕ} → nextFrom w 0 (drop 0 d) ≡ Ended a e n
+  pub first-ended : w .size ≤ 2 → AllOf (lengthOfFirst (recordsOf d)) (recordsOf d) → {a e n : ℕ} → nextFrom w 0 (drop 0 d) ≡ Ended a e n
       → Even d e n
-  unfolding firstOf
+  unfolding lengthOfFirst
   first-ended few all {a} {e} {n} q =
       let x = next-ended d w 0 q in
-      let f : firstOf (recordsOf d) ≡ length (part d 0 e) = ap firstOf (sym same-records ∙ x .records) in
+      let f : lengthOfFirst (recordsOf d) ≡ length (part d 0 e) = ap lengthOfFirst (sym same-records ∙ x .records) in
       let l : length (part d 0 e) ≡ e = rw (length-take, length-drop) (omega (arith, x .inside)) in
       let s = ap (λ (y : Terminator). y .size) is in
       steps-even d e (subst (λ (k : ℕ). AllOf k (recordsOf d)) (f ∙ l) all) (omega (arith, s, x .sized)) (omega (arith, s, few))

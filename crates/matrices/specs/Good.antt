@@ -19,12 +19,13 @@ use Rattle.matrix.specs.declared.Entry.{Entry}
 use Rattle.matrix.specs.declared.Entry.the-variants.{Scaled}
 use Rattle.matrix.specs.Entry.{EntryGood}
 use Rattle.matrix.specs.Stride.{AllGood}
-use Rattle.columns.specs.rule.Columns.{Column, ofRow, ofCategory, ofCategories, columnsBy, rowColumns, columnsFrom, decimalsBy, numberEntry}
+use Rattle.columns.specs.rule.Columns.{Column, ofRow, ofCategory, ofCategories, columnsBy, rowColumns, columnsFrom, numberEntry}
+use Rattle.widths.specs.rule.Width.{decimalsOf}
 use Rattle.columns.specs.rule.Columns.{memberEntry}
 use Rattle.columns.specs.rule.Columns.{entryOf, entriesOf}
 use Rattle.columns.specs.Reach.{row-readable, entry-good, power-good}
 use Rattle.columns.specs.Columns.{entries-append}
-use Rattle.matrices.specs.rule.Matrix.{allEntries}
+use Rattle.matrices.specs.rule.Matrix.{matrixEntries}
 use Rattle.matrices.specs.Records.{AllLong}
 
 good-append : (xs ys : List Entry) → AllGood xs → AllGood ys → AllGood (xs ++ ys)
@@ -54,9 +55,9 @@ module _ {t : List ℤ} {h : Header} (g : Tested t h) (r : List ℕ) (long : h .
   pub row-good : (i : ℕ) → i < h .rows → AllGood (entriesOf t (h .rows) r (rowColumns t (h .rows) i))
   unfolding AllGood entriesOf columnsBy entryOf
   row-good i l = let q = row-readable g l (length r) long in
-      go (rowAt t i .kind) (entry-good q r (10 ^ decimalsBy (rowAt t i .kind)) (power-good q .1))
+      go (rowAt t i .kind) (entry-good q r (10 ^ decimalsOf (rowAt t i .kind)) (power-good q .1))
     where
-      go : (k : Kind) → EntryGood (numberEntry (10 ^ decimalsBy (rowAt t i .kind)) (readingOf t (h .rows) (rowAt t i) r))
+      go : (k : Kind) → EntryGood (numberEntry (10 ^ decimalsOf (rowAt t i .kind)) (readingOf t (h .rows) (rowAt t i) r))
           → AllGood (entriesOf t (h .rows) r (columnsBy k t (h .rows) i))
       go Single e = (e, tt)
       go (Multiple s) e = members-good t (h .rows) r i (defined (legal t (h .rows) (rowAt t i)) 1 9999)
@@ -73,10 +74,10 @@ module _ {t : List ℤ} {h : Header} (g : Tested t h) (r : List ℕ) (long : h .
       (row-good i (omega arith)) (record-good n (suc i) (omega arith)))
 
 pub all-good : {t : List ℤ} {h : Header} → Tested t h → (rs : List (List ℕ)) → AllLong (h .length) rs
-    → AllGood (allEntries t (h .rows) (columnsFrom t (h .rows) 0 (h .rows)) rs)
-unfolding AllGood AllLong allEntries
+    → AllGood (matrixEntries t (h .rows) (columnsFrom t (h .rows) 0 (h .rows)) rs)
+unfolding AllGood AllLong matrixEntries
 all-good g [] l = tt
 all-good {t} {h} g (r ∷ rs) l =
     let cs = columnsFrom t (h .rows) 0 (h .rows) in
-    good-append (entriesOf t (h .rows) r cs) (allEntries t (h .rows) cs rs) (record-good g r (l .0) (h .rows) 0 (omega arith))
+    good-append (entriesOf t (h .rows) r cs) (matrixEntries t (h .rows) cs rs) (record-good g r (l .0) (h .rows) 0 (omega arith))
     (all-good g rs (l .1))

@@ -20,7 +20,7 @@ use Rattle.files.specs.rule.File.{isSound}
 use Rattle.files.specs.File.{soundSoFar}
 use Rattle.columns.specs.rule.Columns.{Column, entriesOf}
 use Rattle.columns.specs.Columns.{length-entries}
-use Rattle.matrices.specs.rule.Matrix.{endedOf, allEntries}
+use Rattle.matrices.specs.rule.Matrix.{endedOf, matrixEntries}
 
 -- every record has n bytes or more
 unfoldable pub AllLong : ℕ → List (List ℕ) → Type 0
@@ -79,8 +79,8 @@ so-far-sound (soundWith n) e = refl
 so-far-sound badTable e = holds-not e refl
 so-far-sound (faultIn n v) e = holds-not e refl
 
-pub length-all : (t : List ℤ) (v : ℕ) (cs : List Column) (rs : List (List ℕ)) → length (allEntries t v cs rs) ≡ length rs * length cs
-unfolding allEntries
+pub length-all : (t : List ℤ) (v : ℕ) (cs : List Column) (rs : List (List ℕ)) → length (matrixEntries t v cs rs) ≡ length rs * length cs
+unfolding matrixEntries
 length-all t v cs [] = z (length cs)
   where
     z : (n : ℕ) → 0 ≡ 0 * n
@@ -88,7 +88,7 @@ length-all t v cs [] = z (length cs)
 length-all t v cs (r ∷ rs) =
     omega (
       arith,
-      length-append (entriesOf t v r cs) (allEntries t v cs rs),
+      length-append (entriesOf t v r cs) (matrixEntries t v cs rs),
       length-entries t v r cs,
       length-all t v cs rs,
       suc-mul (length rs) (length cs),

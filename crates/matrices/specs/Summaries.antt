@@ -13,11 +13,11 @@ use lib.Seq.{getD-drop, drop-drop, drop-set-lt}
 use lib.Ieee.{Float, binary64, isNan, nanBits, ofBits}
 use lib.Ieee.Bits.{nanBits-is}
 use Rattle.places.specs.rule.Places.{put, run}
-use Rattle.little.specs.rule.Bytes.{putAt}
-use Rattle.little.specs.Bytes.{numberOf, numberAt}
+use Rattle.little.specs.rule.Bytes.{putAt, littleNumber}
+use Rattle.little.specs.Bytes.{numberAt}
 use Rattle.little.specs.Runs.{put-next}
 use Rattle.summary.specs.declared.Summary.{Summary}
-use Rattle.summary.specs.rule.Summary.{nought, none, extendOf, extendedBy, summaryOf}
+use Rattle.summary.specs.rule.Summary.{nought, noneSummed, extendOf, extendedBy, summaryOf}
 use Rattle.summary.specs.Laws.{extend-keeps}
 use Rattle.matrix.specs.rule.Bytes.{summaryBytes}
 use Rattle.matrix.specs.Bytes.{length-summary}
@@ -58,7 +58,7 @@ module _ {a : ℕ} {s s′ : List ℕ} (q : Same a s s′) where
   unfolding numberAt
   number-same v h =
       let e : a + (v - a) ≡ v = omega arith in
-      ap (λ (l : List ℕ). numberOf (take 8 l))
+      ap (λ (l : List ℕ). littleNumber (take 8 l))
       (ap (λ (i : ℕ). drop i s) (sym e) ∙ sym (drop-drop (v - a) a s) ∙ ap (drop (v - a)) (q .from) ∙ drop-drop (v - a) a s′
       ∙ ap (λ (i : ℕ). drop i s′) e)
 
@@ -258,15 +258,15 @@ extended-real (x ∷ xs) s a b e =
 
 pub summary-plain : (s : List ℕ) (step f v n : ℕ) → ColumnThere s step f v n
     → Real (summaryOf (columnIn s step f v n) .least) × Real (summaryOf (columnIn s step f v n) .most)
-unfolding summaryOf none isNan
-summary-plain s step f v n c = extended-real (columnIn s step f v n) none tt tt (column-real s step n f v c)
+unfolding summaryOf noneSummed isNan
+summary-plain s step f v n c = extended-real (columnIn s step f v n) noneSummed tt tt (column-real s step n f v c)
 
 pub told-plain : (n o : ℕ) → Real (toldOf n o .least) × Real (toldOf n o .most)
-unfolding toldOf none isNan ofBits
+unfolding toldOf noneSummed isNan ofBits
 told-plain n o = go (eqb n 0) (eqb o n) (eqb o 0)
   where
     told : Bool → Bool → Bool → Summary
-    told a b c = cond a none (record { count = n; least = cond b unit nought; most = cond c nought unit })
+    told a b c = cond a noneSummed (record { count = n; least = cond b unit nought; most = cond c nought unit })
 
     go : (a b c : Bool) → Real (told a b c .least) × Real (told a b c .most)
     go true b c = (tt, tt)

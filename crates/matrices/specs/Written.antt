@@ -32,9 +32,9 @@ use Rattle.matrix.specs.rule.Bytes.{presenceAt, valuesAt, totalOf, headerBytes,
 use Rattle.matrix.specs.Entry.{EntryGood, length-flags, length-values}
 use Rattle.matrix.specs.Bytes.{length-header, length-summary}
 use Rattle.columns.specs.rule.Columns.{Column, ofRow, columnsFrom}
-use Rattle.matrices.specs.rule.Matrix.{endedOf, tableColumns, allEntries, columnEntries, summariesOf, matrixOf}
+use Rattle.matrices.specs.rule.Matrix.{endedOf, tableColumns, matrixEntries, columnEntries, summariesOf, matrixOf}
 use Rattle.matrices.specs.rule.Matrix.{MatrixVerdict, refusedAs, refused, written, sizeVerdict, verdictAfter, matrixVerdict}
-use Rattle.matrices.specs.rule.Matrix.{outputAfter, MatrixWritten}
+use Rattle.matrices.specs.rule.Matrix.{matrixAfter, MatrixWritten}
 use Rattle.matrices.specs.Records.{AllLong, length-all, file-sound}
 use Rattle.matrices.specs.Stand.{length-summaries}
 
@@ -44,13 +44,13 @@ SoundFile t d n = fileVerdict t d ≡ soundWith n
 
 -- ---- header, entries, summaries: one behind the other they are the matrix
 pub whole-put : (t : List ℤ) (rs : List (List ℕ)) (out : List ℕ) (n c : ℕ) → n ≡ length rs → c ≡ length (tableColumns t)
-    → putAt (putEntries (putAt out 0 (headerBytes n c)) (presenceAt c) (valuesAt n c) (allEntries t (rowsOf t) (tableColumns t) rs)) 24
+    → putAt (putEntries (putAt out 0 (headerBytes n c)) (presenceAt c) (valuesAt n c) (matrixEntries t (rowsOf t) (tableColumns t) rs)) 24
     (summariesOf t (rowsOf t) rs (tableColumns t))
     ≡ putAt out 0 (matrixOf t rs)
 unfolding matrixOf
 whole-put t rs out n c en ec =
     let cs = tableColumns t in
-    let es = allEntries t (rowsOf t) cs rs in
+    let es = matrixEntries t (rowsOf t) cs rs in
     let h = headerBytes n c in
     let s = summariesOf t (rowsOf t) rs cs in
     let f = flagsOf es in
@@ -71,14 +71,14 @@ whole-put t rs out n c en ec =
 pub filled : {t : List ℤ} {h : Header} → Tested t h → (d out : List ℕ) (n c : ℕ) {out1 out2 : List ℕ} → SoundFile t d n
     → c ≡ length (tableColumns t) → out1 ≡ putAt out 0 (headerBytes n c)
     → out2 ≡ putAt (putEntries out1 (presenceAt c) (valuesAt n c)
-    (allEntries t (h .rows) (columnsFrom t (h .rows) 0 (h .rows)) (endedOf (recordsOf d)))) 24
+    (matrixEntries t (h .rows) (columnsFrom t (h .rows) 0 (h .rows)) (endedOf (recordsOf d)))) 24
     (summariesOf t (h .rows) (endedOf (recordsOf d)) (columnsFrom t (h .rows) 0 (h .rows)))
     → out2 ≡ putAt out 0 (matrixOf t (endedOf (recordsOf d)))
 filled {t} {h} g d out n c {out1} {out2} sound ec e1 e2 =
     let rs = endedOf (recordsOf d) in
-    let two : out2 ≡ putAt (putEntries out1 (presenceAt c) (valuesAt n c) (allEntries t (rowsOf t) (tableColumns t) rs)) 24
+    let two : out2 ≡ putAt (putEntries out1 (presenceAt c) (valuesAt n c) (matrixEntries t (rowsOf t) (tableColumns t) rs)) 24
     (summariesOf t (rowsOf t) rs (tableColumns t)) = rw (tested-rows g) at e2 in
-    two ∙ ap (λ (x : List ℕ). putAt (putEntries x (presenceAt c) (valuesAt n c) (allEntries t (rowsOf t) (tableColumns t) rs)) 24
+    two ∙ ap (λ (x : List ℕ). putAt (putEntries x (presenceAt c) (valuesAt n c) (matrixEntries t (rowsOf t) (tableColumns t) rs)) 24
     (summariesOf t (rowsOf t) rs (tableColumns t))) e1
     ∙ whole-put t rs out n c (file-sound t d n sound .2) ec
 
@@ -107,11 +107,11 @@ large-records n c some few b e = e ∙ go (ltb ((16777216 - 24 - 24 * c) / (9 * 
 -- ---- what is answered
 module _ (t : List ℤ) (d out : List ℕ) where
   pub refused-file : {v : FileVerdict} → v ≡ fileVerdict t d → soundSoFar v ≡ false → MatrixWritten t d out out (refusedAs v)
-  unfolding matrixVerdict verdictAfter outputAfter soundSoFar
+  unfolding matrixVerdict verdictAfter matrixAfter soundSoFar
   refused-file {v} e s = record {
     says = go v s ∙ ap (verdictAfter t (length out)) e;
     leaves = gone v s
-        ∙ ap (λ (x : FileVerdict). outputAfter (verdictAfter t (length out) x) (matrixOf t (endedOf (recordsOf d))) out) e;
+        ∙ ap (λ (x : FileVerdict). matrixAfter (verdictAfter t (length out) x) (matrixOf t (endedOf (recordsOf d))) out) e;
   }
     where
       go : (w : FileVerdict) → soundSoFar w ≡ false → refusedAs w ≡ verdictAfter t (length out) w
@@ -120,7 +120,7 @@ module _ (t : List ℤ) (d out : List ℕ) where
       go (faultIn n x) q = refl
 
       gone : (w : FileVerdict) → soundSoFar w ≡ false → out
-          ≡ outputAfter (verdictAfter t (length out) w) (matrixOf t (endedOf (recordsOf d))) out
+          ≡ matrixAfter (verdictAfter t (length out) w) (matrixOf t (endedOf (recordsOf d))) out
       gone (soundWith n) q = holds-not refl q
       gone badTable q = refl
       gone (faultIn n x) q = refl
@@ -131,29 +131,29 @@ module _ (t : List ℤ) (d out : List ℕ) where
     sized = ap (verdictAfter t (length out)) sound
 
     as-sized : {w : MatrixVerdict} {out′ : List ℕ} → sizeVerdict n (length (tableColumns t)) (length out) ≡ w
-        → out′ ≡ outputAfter w (matrixOf t (endedOf (recordsOf d))) out → MatrixWritten t d out out′ w
+        → out′ ≡ matrixAfter w (matrixOf t (endedOf (recordsOf d))) out → MatrixWritten t d out out′ w
     as-sized e o = record {
       says = sym (sized ∙ e);
       leaves = o
-          ∙ ap (λ (x : MatrixVerdict). outputAfter x (matrixOf t (endedOf (recordsOf d))) out) (sym (sized ∙ e));
+          ∙ ap (λ (x : MatrixVerdict). matrixAfter x (matrixOf t (endedOf (recordsOf d))) out) (sym (sized ∙ e));
     }
 
     pub no-column : {c : ℕ} → c ≡ length (tableColumns t) → c ≡ 0 → MatrixWritten t d out out (refused 80)
-    unfolding sizeVerdict outputAfter
+    unfolding sizeVerdict matrixAfter
     no-column e z = as-sized (rw (eq-eqb (length (tableColumns t)) 0 (sym e ∙ z))) refl
 
     pub too-large : {c : ℕ} → c ≡ length (tableColumns t) → (c ≡ 0 → ⊥) → ltb 16777216 (totalOf n c) ≡ true
         → MatrixWritten t d out out (refused 81)
-    unfolding sizeVerdict outputAfter
+    unfolding sizeVerdict matrixAfter
     too-large {c} e z l = as-sized (rw (← e, ne-eqb c 0 z, l)) refl
 
     pub short-room : {c : ℕ} → c ≡ length (tableColumns t) → (c ≡ 0 → ⊥) → ltb 16777216 (totalOf n c) ≡ false → length out < totalOf n c
         → MatrixWritten t d out out (refused 82)
-    unfolding sizeVerdict outputAfter
+    unfolding sizeVerdict matrixAfter
     short-room {c} e z l s = as-sized (rw (← e, ne-eqb c 0 z, l, lt-ltb (length out) (totalOf n c) s)) refl
 
     pub all-written : {c : ℕ} {out′ : List ℕ} → c ≡ length (tableColumns t) → (c ≡ 0 → ⊥) → ltb 16777216 (totalOf n c) ≡ false → totalOf n c
         ≤ length out
         → out′ ≡ putAt out 0 (matrixOf t (endedOf (recordsOf d))) → MatrixWritten t d out out′ (written (totalOf n c) n c)
-    unfolding sizeVerdict outputAfter
+    unfolding sizeVerdict matrixAfter
     all-written {c} e z l s o = as-sized (rw (← e, ne-eqb c 0 z, l, le-ltb (length out) (totalOf n c) s)) o

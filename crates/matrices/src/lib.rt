@@ -6,7 +6,7 @@ ghost use Prim.Native.Nat.{ℕ, _+_, _*_, _≤_, _<_};
 ghost use lib.Dec.{ltb};
 ghost use lib.ListN.{length, getD};
 ghost use Rattle.little.specs.rule.Bytes.{putAt};
-ghost use Rattle.cuts.specs.rule.Records.{recordsOf};
+ghost use Rattle.cuts.specs.rule.Records.{recordsOf, lengthOfFirst};
 ghost use Rattle.files.specs.rule.File.{fileSaid};
 ghost use Rattle.files.specs.rule.Tested.{Tested};
 ghost use Rattle.summary.specs.rule.Summary.{summaryOf};
@@ -19,13 +19,13 @@ ghost use Rattle.columns.specs.Room.{Room, Ready};
 ghost use Rattle.columns.specs.Reach.{shapeOf, Covered};
 ghost use Rattle.columns.specs.Rows.{entriesBy, countBy, MarkedRow};
 ghost use Rattle.fields.specs.Facts.{LineFacts};
-ghost use Rattle.matrices.specs.rule.Matrix.{endedOf, allEntries, summariesOf, tableColumns, matrixSaid, matrixOf, MatrixWritten};
+ghost use Rattle.matrices.specs.rule.Matrix.{endedOf, matrixEntries, summariesOf, tableColumns, matrixSaid, matrixOf, MatrixWritten};
 ghost use Rattle.matrices.specs.Records.{AllLong, countIn};
 ghost use Rattle.matrices.specs.Blocks.{putColumns, putEach, EachRoom, EachReadable};
 ghost use Rattle.matrices.specs.Met.{MetColumn, RowMet, markAt};
 ghost use Rattle.matrices.specs.Stand.{EachGood};
 ghost use Rattle.matrices.specs.Legal.{AllLegal};
-ghost use Rattle.matrices.specs.Even.{AllOf, firstOf, Even};
+ghost use Rattle.matrices.specs.Even.{AllOf, Even};
 ghost use Rattle.matrices.specs.Summaries.{ColumnsThere, summariesIn, toldFrom};
 ghost use Rattle.matrices.specs.Written.{SoundFile};
 use columns::Marking;
@@ -58,7 +58,7 @@ struct Step {
 }
 
 fn step_of(d: &[u8]) -> Step
-    requires { ⌜ AllOf (firstOf (recordsOf (now d))) (recordsOf (now d)) ⌝ }
+    requires { ⌜ AllOf (lengthOfFirst (recordsOf (now d))) (recordsOf (now d)) ⌝ }
     ensures { λ r. ⌜ Even (now (d .entry)) (r .first) (r .step) ⌝ }
 {
     let w = cuts::find_terminator(d);
@@ -397,12 +397,12 @@ fn put_records(
 )
     requires { ⌜ Ready (now powers) (now t) h (length (now list)) (length (now allowed)) (length (now present)) ⌝ }
     requires { ⌜ columns ≡ length (columnsFrom (now t) (h .rows) 0 (h .rows)) ⌝ }
-    requires { ⌜ AllOf (firstOf (recordsOf (now d))) (recordsOf (now d)) × (records ≡ length (endedOf (recordsOf (now d))))
+    requires { ⌜ AllOf (lengthOfFirst (recordsOf (now d))) (recordsOf (now d)) × (records ≡ length (endedOf (recordsOf (now d))))
         × AllLong (h .length) (endedOf (recordsOf (now d))) × AllLegal (now t) (h .rows) (endedOf (recordsOf (now d))) ⌝ }
     requires { ⌜ (records * columns ≤ 16777216) × (columns ≤ 16777216) × (values ≤ 16777216) × (24 + 24 * columns ≤ flags)
         × Room flags values (length (now out)) (records * columns) ⌝ }
     ensures { λ _. ⌜ now (out .exit) ≡ putAt (putEntries (now (out .entry)) flags values
-        (allEntries (now (t .entry)) (h .rows) (columnsFrom (now (t .entry)) (h .rows) 0 (h .rows))
+        (matrixEntries (now (t .entry)) (h .rows) (columnsFrom (now (t .entry)) (h .rows) 0 (h .rows))
         (endedOf (recordsOf (now (d .entry)))))) 24
         (summariesOf (now (t .entry)) (h .rows) (endedOf (recordsOf (now (d .entry))))
         (columnsFrom (now (t .entry)) (h .rows) 0 (h .rows))) ⌝ }

@@ -11,7 +11,7 @@ use lib.Ieee.{binary64, isNan, toBits, fits}
 use Rattle.quotient.specs.rule.Value.{valueOf}
 use Rattle.quotient.specs.Limits as limits
 use Rattle.quotient.specs.Order.{value-real, value-fits}
-use Rattle.little.specs.rule.Bytes.{bytesOf, putAt}
+use Rattle.little.specs.rule.Bytes.{littleBytes, putAt}
 use Rattle.little.specs.Bytes.{bytes-count}
 use Rattle.little.specs.Runs.{put-next, put-either, put-more, length-putAt}
 use Rattle.summary.specs.rule.Summary.{nought}
@@ -52,7 +52,7 @@ length-values [] = refl
 length-values (e ∷ es) =
     omega (
       arith,
-      length-append (bytesOf 8 (toBits binary64 (floatOf e))) (valueBytes es),
+      length-append (littleBytes 8 (toBits binary64 (floatOf e))) (valueBytes es),
       bytes-count 8 (toBits binary64 (floatOf e)),
       length-values es,
     )
@@ -66,7 +66,7 @@ pub values-append : (xs ys : List Entry) → valueBytes (xs ++ ys) ≡ valueByte
 unfolding valueBytes
 values-append [] ys = refl
 values-append (x ∷ xs) ys =
-    let b = bytesOf 8 (toBits binary64 (floatOf x)) in
+    let b = littleBytes 8 (toBits binary64 (floatOf x)) in
     ap (λ (l : List ℕ). b ++ l) (values-append xs ys) ∙ sym (append-assoc b (valueBytes xs) (valueBytes ys))
 
 -- entries put, and then those behind them, are all of them put
@@ -98,8 +98,8 @@ unfolding putAt
 byte-put r f b = refl
 
 pub entry-put : (r : List ℕ) (f v : ℕ) (e : Entry)
-    → putAt (set r f (presenceOf e)) v (bytesOf 8 (toBits binary64 (floatOf e))) ≡ putEntries r f v (e ∷ [])
+    → putAt (set r f (presenceOf e)) v (littleBytes 8 (toBits binary64 (floatOf e))) ≡ putEntries r f v (e ∷ [])
 unfolding flagsOf valueBytes
 entry-put r f v e =
-    rw (append-nil (bytesOf 8 (toBits binary64 (floatOf e))))
-    (ap (λ (l : List ℕ). putAt l v (bytesOf 8 (toBits binary64 (floatOf e)))) (byte-put r f (presenceOf e)))
+    rw (append-nil (littleBytes 8 (toBits binary64 (floatOf e))))
+    (ap (λ (l : List ℕ). putAt l v (littleBytes 8 (toBits binary64 (floatOf e)))) (byte-put r f (presenceOf e)))

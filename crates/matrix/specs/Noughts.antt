@@ -13,7 +13,7 @@ use lib.Ieee.{binary64, div, ofInt, toBits}
 use Rattle.below.specs.rule.Below.{allBelow}
 use Rattle.below.specs.Below.{all-none, all-next, all-at}
 use Rattle.quotient.specs.rule.Value.{valueOf}
-use Rattle.little.specs.rule.Bytes.{bytesOf, putAt}
+use Rattle.little.specs.rule.Bytes.{littleBytes, putAt}
 use Rattle.little.specs.Bytes.{bytes-count}
 use Rattle.little.specs.Runs.{put-next, put-more}
 use Rattle.matrix.specs.declared.Entry.{Entry}
@@ -56,23 +56,23 @@ unfolding noughts
 length-noughts there zero = refl
 length-noughts there (suc n) = ap suc (length-noughts there n)
 
-flags-are : (there : Bool) → bytesOf 8 (presences there) ++ bytesOf 8 (presences there) ≡ flagsOf (noughts there 16)
-unfolding bytesOf presences flagsOf noughts presenceOf
+flags-are : (there : Bool) → littleBytes 8 (presences there) ++ littleBytes 8 (presences there) ≡ flagsOf (noughts there 16)
+unfolding littleBytes presences flagsOf noughts presenceOf
 flags-are true = refl
 flags-are false = refl
 
-values-are : (there : Bool) → bytesOf 128 0 ≡ valueBytes (noughts there 16)
-unfolding bytesOf valueBytes noughts floatOf valueOf div ofInt toBits
+values-are : (there : Bool) → littleBytes 128 0 ≡ valueBytes (noughts there 16)
+unfolding littleBytes valueBytes noughts floatOf valueOf div ofInt toBits
 values-are true = refl
 values-are false = refl
 
 pub noughts-put : (r : List ℕ) (f v : ℕ) (there : Bool)
-    → putAt (putAt (putAt r f (bytesOf 8 (presences there))) (f + 8) (bytesOf 8 (presences there))) v (bytesOf 128 0)
+    → putAt (putAt (putAt r f (littleBytes 8 (presences there))) (f + 8) (littleBytes 8 (presences there))) v (littleBytes 128 0)
     ≡ putEntries r f v (noughts there 16)
 noughts-put r f v there =
-    let p = bytesOf 8 (presences there) in
-    ap (λ (x : List ℕ). putAt x v (bytesOf 128 0)) (put-next r f p (f + 8) p (ap (λ (n : ℕ). f + n) (bytes-count 8 (presences there))))
-    ∙ ap (λ (x : List ℕ). putAt (putAt r f x) v (bytesOf 128 0)) (flags-are there)
+    let p = littleBytes 8 (presences there) in
+    ap (λ (x : List ℕ). putAt x v (littleBytes 128 0)) (put-next r f p (f + 8) p (ap (λ (n : ℕ). f + n) (bytes-count 8 (presences there))))
+    ∙ ap (λ (x : List ℕ). putAt (putAt r f x) v (littleBytes 128 0)) (flags-are there)
     ∙ ap (λ (x : List ℕ). putAt (putAt r f (flagsOf (noughts there 16))) v x) (values-are there)
 
 -- ---- n of them, byte by byte
@@ -93,18 +93,18 @@ pub flags-end : (r : List ℕ) (f i n : ℕ) (there : Bool) → n ≤ i → putA
 unfolding flagsOf noughts putAt
 flags-end r f i n there h = let d : n - i ≡ 0 = omega arith in rw d
 
-pub zeros-are : (there : Bool) (n : ℕ) → bytesOf (8 * n) 0 ≡ valueBytes (noughts there n)
-unfolding bytesOf valueBytes noughts floatOf valueOf div ofInt toBits
+pub zeros-are : (there : Bool) (n : ℕ) → littleBytes (8 * n) 0 ≡ valueBytes (noughts there n)
+unfolding littleBytes valueBytes noughts floatOf valueOf div ofInt toBits
 zeros-are there zero = refl
 zeros-are there (suc n) =
     let d : 8 * suc n ≡ suc (suc (suc (suc (suc (suc (suc (suc (8 * n)))))))) = omega arith in
     rw d (go there (zeros-are there n))
   where
-    go : (b : Bool) → bytesOf (8 * n) 0 ≡ valueBytes (noughts b n)
-        → bytesOf (suc (suc (suc (suc (suc (suc (suc (suc (8 * n))))))))) 0 ≡ valueBytes (noughts b (suc n))
+    go : (b : Bool) → littleBytes (8 * n) 0 ≡ valueBytes (noughts b n)
+        → littleBytes (suc (suc (suc (suc (suc (suc (suc (suc (8 * n))))))))) 0 ≡ valueBytes (noughts b (suc n))
     go true e = ap (λ (l : List ℕ). 0 ∷ 0 ∷ 0 ∷ 0 ∷ 0 ∷ 0 ∷ 0 ∷ 0 ∷ l) e
     go false e = ap (λ (l : List ℕ). 0 ∷ 0 ∷ 0 ∷ 0 ∷ 0 ∷ 0 ∷ 0 ∷ 0 ∷ l) e
 
 pub many-put : (r : List ℕ) (f v n : ℕ) (there : Bool)
-    → putAt (putAt r f (flagsOf (noughts there n))) v (bytesOf (8 * n) 0) ≡ putEntries r f v (noughts there n)
+    → putAt (putAt r f (flagsOf (noughts there n))) v (littleBytes (8 * n) 0) ≡ putEntries r f v (noughts there n)
 many-put r f v n there = ap (λ (x : List ℕ). putAt (putAt r f (flagsOf (noughts there n))) v x) (zeros-are there n)

@@ -11,9 +11,10 @@ use lib.Dec.{eqb}
 use lib.ListN.{length, getD, take, drop}
 use lib.Seq.{getD-drop}
 use lib.Ieee.{Float, binary64, ofBits, lt}
-use Rattle.little.specs.Bytes.{numberOf, numberAt}
+use Rattle.little.specs.Bytes.{numberAt}
+use Rattle.little.specs.rule.Bytes.{littleNumber}
 use Rattle.summary.specs.declared.Summary.{Summary}
-use Rattle.summary.specs.rule.Summary.{nought, none, lowerOf, higherOf, extendOf, extendedBy, summaryOf}
+use Rattle.summary.specs.rule.Summary.{nought, noneSummed, lowerOf, higherOf, extendOf, extendedBy, summaryOf}
 use Rattle.matrix.specs.Column.{ColumnThere, columnIn, there-on, column-on, column-off, column-none}
 use Rattle.matrix.specs.Noughts.{allAre, are-at}
 
@@ -39,7 +40,8 @@ pub record AllCounted (s : List ℕ) (value : ℕ) (before after : List ℕ) (r 
 
 -- the summary of n values, of which so many are 1
 unfoldable pub toldOf : ℕ → ℕ → Summary
-toldOf n ones = cond (eqb n 0) none (record { count = n; least = cond (eqb ones n) unit nought; most = cond (eqb ones 0) nought unit })
+toldOf n ones = cond (eqb n 0) noneSummed (record
+    { count = n; least = cond (eqb ones n) unit nought; most = cond (eqb ones 0) nought unit })
 
 pub record AllTold (s : List ℕ) (step flags values records : ℕ) (full : Bool) (n : ℕ) (ones : List ℕ) : Type 0 where
   pub at : full ≡ true → (j : ℕ) → j < 16 → toldOf n (getD ones j 0) ≡ summaryOf (columnIn s step (flags + j) (values + 8 * j) records)
@@ -86,7 +88,7 @@ parts-same n {a} {b} {c} {d} e f = ap (λ (x : Float). parts n x b) e ∙ ap (pa
 told-some : (n o : ℕ) → 0 < n → toldOf n o ≡ parts n (cond (eqb o n) unit nought) (cond (eqb o 0) nought unit)
 unfolding toldOf
 told-some n o h =
-    ap (λ (b : Bool). cond b none (parts n (cond (eqb o n) unit nought) (cond (eqb o 0) nought unit)))
+    ap (λ (b : Bool). cond b noneSummed (parts n (cond (eqb o n) unit nought) (cond (eqb o 0) nought unit)))
     (ne-eqb n 0 (λ z. absurd (omega arith)))
 
 extend-some : (n : ℕ) (a b x : Float) → 0 < n → extendOf (parts n a b) x ≡ parts (n + 1) (lowerOf a x) (higherOf b x)
@@ -96,7 +98,7 @@ extend-some n a b x h = ap (λ (t : Bool). cond t (parts 1 x x) (parts (n + 1) (
 
 -- one value more
 pub told-nought : (n o : ℕ) → o ≤ n → extendOf (toldOf n o) nought ≡ toldOf (n + 1) o
-unfolding toldOf extendOf none
+unfolding toldOf extendOf noneSummed
 told-nought zero o h = let z : o ≡ 0 = omega arith in rw z
 told-nought (suc n) o h =
     ap (λ (s : Summary). extendOf s nought) (told-some (suc n) o (omega arith))
@@ -106,7 +108,7 @@ told-nought (suc n) o h =
     ∙ sym (told-some (suc n + 1) o (omega arith))
 
 pub told-unit : (n o : ℕ) → o ≤ n → extendOf (toldOf n o) unit ≡ toldOf (n + 1) (o + 1)
-unfolding toldOf extendOf none
+unfolding toldOf extendOf noneSummed
 told-unit zero o h = let z : o ≡ 0 = omega arith in rw z
 told-unit (suc n) o h =
     ap (λ (s : Summary). extendOf s unit) (told-some (suc n) o (omega arith))
@@ -115,19 +117,19 @@ told-unit (suc n) o h =
     (high-unit (eqb o 0) ∙ sym (ap (λ (b : Bool). cond b nought unit) (ne-eqb (o + 1) 0 (λ z. absurd (omega arith)))))
     ∙ sym (told-some (suc n + 1) (o + 1) (omega arith))
 
-pub told-none : toldOf 0 0 ≡ none
+pub told-none : toldOf 0 0 ≡ noneSummed
 unfolding toldOf
 told-none = refl
 
 -- ---- the summary case by case
-pub told-empty : (n o : ℕ) → n ≡ 0 → toldOf n o ≡ none
+pub told-empty : (n o : ℕ) → n ≡ 0 → toldOf n o ≡ noneSummed
 unfolding toldOf
 told-empty n o e = rw e
 
 module _ (n o : ℕ) (some : n ≡ 0 → ⊥) where
   told-here : toldOf n o ≡ parts n (cond (eqb o n) unit nought) (cond (eqb o 0) nought unit)
   unfolding toldOf
-  told-here = ap (λ (b : Bool). cond b none (parts n (cond (eqb o n) unit nought) (cond (eqb o 0) nought unit))) (ne-eqb n 0 some)
+  told-here = ap (λ (b : Bool). cond b noneSummed (parts n (cond (eqb o n) unit nought) (cond (eqb o 0) nought unit))) (ne-eqb n 0 some)
 
   pub told-zeros : o ≡ 0 → toldOf n o ≡ parts n (ofBits binary64 0) (ofBits binary64 0)
   told-zeros e =
@@ -197,8 +199,8 @@ unfolding extendedBy
 held-done {s} {step} {flag = flag} {value} {left} {n} {ones} z h = rw (column-none s step flag value left z) at (h .whole)
 
 -- ---- bytes that are all zero say the number 0
-number-zero : (k : ℕ) (s : List ℕ) → ((i : ℕ) → i < k → getD s i 0 ≡ 0) → numberOf (take k s) ≡ 0
-unfolding numberOf
+number-zero : (k : ℕ) (s : List ℕ) → ((i : ℕ) → i < k → getD s i 0 ≡ 0) → littleNumber (take k s) ≡ 0
+unfolding littleNumber
 number-zero zero s h = refl
 number-zero (suc k) [] h = refl
 number-zero (suc k) (b ∷ s) h =

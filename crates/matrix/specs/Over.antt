@@ -8,7 +8,7 @@ use lib.ListN.{length, length-append}
 use lib.Ieee.{binary64, toBits}
 use Rattle.places.specs.rule.Places.{run}
 use Rattle.places.specs.Laws.{last, once-run, length-run}
-use Rattle.little.specs.rule.Bytes.{bytesOf, putAt}
+use Rattle.little.specs.rule.Bytes.{littleBytes, putAt}
 use Rattle.little.specs.Bytes.{bytes-count}
 use Rattle.little.specs.Runs.{put-next, put-either}
 use Rattle.matrix.specs.declared.Entry.{Entry}
@@ -33,8 +33,8 @@ first-over : (r : List ℕ) (f v : ℕ) (d e : Entry) (zs : List Entry) → f + 
     → putEntries (putEntries r f v (d ∷ zs)) f v (e ∷ []) ≡ putEntries r f v (e ∷ zs)
 unfolding flagsOf valueBytes
 first-over r f v d e zs h =
-    let x = bytesOf 8 (toBits binary64 (floatOf d)) in
-    let y = bytesOf 8 (toBits binary64 (floatOf e)) in
+    let x = littleBytes 8 (toBits binary64 (floatOf d)) in
+    let y = littleBytes 8 (toBits binary64 (floatOf e)) in
     let n : length (y ++ []) ≡ length x = omega
     (arith, length-append y [], bytes-count 8 (toBits binary64 (floatOf d)), bytes-count 8 (toBits binary64 (floatOf e))) in
     ap (λ (l : List ℕ). putAt l v (y ++ []))

@@ -14,8 +14,8 @@ use lib.Ieee.{Float, binary64, nanBits, ofBits, toBits}
 use lib.Ieee.Bits.{ofBits-toBits, toBits-lt}
 use Rattle.places.specs.rule.Places.{put, run}
 use Rattle.places.specs.Laws.{keeps, out-run}
-use Rattle.little.specs.rule.Bytes.{bytesOf, putAt}
-use Rattle.little.specs.Bytes.{numberOf, numberAt, bytes-count, bytes-back}
+use Rattle.little.specs.rule.Bytes.{littleBytes, putAt, littleNumber}
+use Rattle.little.specs.Bytes.{numberAt, bytes-count, bytes-back}
 use Rattle.little.specs.Runs.{put-back, length-putAt}
 use Rattle.little.specs.Back.{bits-real}
 use Rattle.matrix.specs.declared.Entry.{Entry}
@@ -53,14 +53,14 @@ flag-at (e ∷ es) zero = refl
 flag-at (e ∷ es) (suc j) = flag-at es j
 
 value-at : (es : List Entry) (j : ℕ) (rest : List ℕ) → j < length es
-    → take 8 (drop (8 * j) (valueBytes es ++ rest)) ≡ bytesOf 8 (toBits binary64 (floatOf (getD es j Absent)))
+    → take 8 (drop (8 * j) (valueBytes es ++ rest)) ≡ littleBytes 8 (toBits binary64 (floatOf (getD es j Absent)))
 unfolding valueBytes
 value-at [] j rest h = absurd (omega arith)
 value-at (e ∷ es) zero rest h =
-    let b = bytesOf 8 (toBits binary64 (floatOf e)) in
+    let b = littleBytes 8 (toBits binary64 (floatOf e)) in
     ap (take 8) (append-assoc b (valueBytes es) rest) ∙ take-at b (valueBytes es ++ rest) 8 (bytes-count 8 (toBits binary64 (floatOf e)))
 value-at (e ∷ es) (suc j) rest h =
-    let b = bytesOf 8 (toBits binary64 (floatOf e)) in
+    let b = littleBytes 8 (toBits binary64 (floatOf e)) in
     let d : 8 * suc j ≡ length b + 8 * j = omega (arith, bytes-count 8 (toBits binary64 (floatOf e))) in
     ap (λ (k : ℕ). take 8 (drop k ((b ++ valueBytes es) ++ rest))) d
     ∙ ap (λ (l : List ℕ). take 8 (drop (length b + 8 * j) l)) (append-assoc b (valueBytes es) rest)
@@ -93,7 +93,8 @@ module _ (r : List ℕ) (fl vl : ℕ) (es : List Entry) (behind : fl + length es
       ∙ ap (λ (x : List ℕ). x ++ drop (length (valueBytes es)) (drop vl whole)) (put-back (putAt r fl (flagsOf es)) vl (valueBytes es) i)
 
   -- THE EIGHT BYTES of an entry
-  pub bytes-there : (j : ℕ) → j < length es → take 8 (drop (vl + 8 * j) whole) ≡ bytesOf 8 (toBits binary64 (floatOf (getD es j Absent)))
+  pub bytes-there : (j : ℕ) → j < length es → take 8 (drop (vl + 8 * j) whole)
+      ≡ littleBytes 8 (toBits binary64 (floatOf (getD es j Absent)))
   bytes-there j h =
       ap (take 8) (sym (drop-drop (8 * j) vl whole) ∙ ap (drop (8 * j)) values-there)
       ∙ value-at es j (drop (length (valueBytes es)) (drop vl whole)) h
@@ -101,7 +102,7 @@ module _ (r : List ℕ) (fl vl : ℕ) (es : List Entry) (behind : fl + length es
   pub bits-there : (j : ℕ) → j < length es → numberAt 8 (vl + 8 * j) whole ≡ toBits binary64 (floatOf (getD es j Absent))
   unfolding numberAt
   bits-there j h =
-      ap numberOf (bytes-there j h)
+      ap littleNumber (bytes-there j h)
       ∙ bytes-back 8 (toBits binary64 (floatOf (getD es j Absent)))
       (toBits-lt binary64 (floatOf (getD es j Absent)) (entry-fits (getD es j Absent)))
 

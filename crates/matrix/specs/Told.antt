@@ -13,7 +13,7 @@ use lib.ListN.{length}
 use lib.Ieee.{Float, binary64, ofBits, lt}
 use Rattle.below.specs.Below.{holds-not}
 use Rattle.summary.specs.declared.Summary.{Summary}
-use Rattle.summary.specs.rule.Summary.{nought, none, extendOf, extendedBy, summaryOf}
+use Rattle.summary.specs.rule.Summary.{nought, noneSummed, extendOf, extendedBy, summaryOf}
 use Rattle.matrix.specs.Ones.{unit, toldOf, told-nought, told-unit, told-none, told-zeros, told-both}
 
 -- a value is below 1

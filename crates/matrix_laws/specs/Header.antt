@@ -8,27 +8,22 @@ use native.Mathlib.Omega.{arith}
 use lib.IntN.{ℤ}
 use lib.ListN.{length, take, drop, take-append-drop}
 use Rattle.sound.specs.rule.Rows.{rowsOf}
-use Rattle.little.specs.rule.Bytes.{bytesOf, putAt}
-use Rattle.little.specs.Bytes.{numberOf, bytes-back}
+use Rattle.little.specs.rule.Bytes.{littleBytes, putAt, littleNumber}
+use Rattle.little.specs.Bytes.{bytes-back}
 use Rattle.little.specs.Runs.{put-back}
 use Rattle.matrix.specs.rule.Entry.{flagsOf, valueBytes}
 use Rattle.matrix.specs.rule.Bytes.{presenceAt, valuesAt, totalOf, headerBytes}
-use Rattle.matrices.specs.rule.Matrix.{tableColumns, allEntries, summariesOf, matrixOf}
-use Rattle.matrix_laws.specs.rule.Header.{little, at32, Headed}
+use Rattle.matrices.specs.rule.Matrix.{tableColumns, matrixEntries, summariesOf, matrixOf}
+use Rattle.matrix_laws.specs.rule.Header.{at32, Headed}
 use Rattle.matrix_laws.specs.Matrix.{matrix-length}
 
-same-number : (bs : List ℕ) → little bs ≡ numberOf bs
-unfolding little numberOf
-same-number [] = refl
-same-number (b ∷ bs) = ap (λ (n : ℕ). b + 256 * n) (same-number bs)
-
 -- a number of 32 bits from its four bytes
-back : (n : ℕ) → n < 4294967296 → little (bytesOf 4 n) ≡ n
-back n h = same-number (bytesOf 4 n) ∙ bytes-back 4 n h
+back : (n : ℕ) → n < 4294967296 → littleNumber (littleBytes 4 n) ≡ n
+back n h = bytes-back 4 n h
 
 -- the six numbers at the start of whatever follows them
 parts : (r c : ℕ) (rest : List ℕ) → totalOf r c < 4294967296 → r < 4294967296 → c < 4294967296 → Headed r c (headerBytes r c ++ rest)
-unfolding headerBytes bytesOf
+unfolding headerBytes littleBytes
 parts r c rest h g f = record {
   first = back r g;
   second = back c f;
@@ -51,7 +46,7 @@ module _ (t : List ℤ) (rs : List (List ℕ)) (out : List ℕ) (inside : totalO
 
   abbrev behind : List ℕ
   behind =
-      let es = allEntries t (rowsOf t) (tableColumns t) rs in
+      let es = matrixEntries t (rowsOf t) (tableColumns t) rs in
       summariesOf t (rowsOf t) rs (tableColumns t) ++ (flagsOf es ++ valueBytes es)
 
   made : m ≡ headerBytes r c ++ behind

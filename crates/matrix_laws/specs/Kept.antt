@@ -11,7 +11,7 @@ use Rattle.files.specs.rule.File.{FileVerdict, soundWith, badTable, faultIn, fi
 use Rattle.little.specs.rule.Bytes.{putAt}
 use Rattle.matrix.specs.rule.Bytes.{totalOf}
 use Rattle.matrices.specs.rule.Matrix.{endedOf, tableColumns, matrixOf, MatrixVerdict, refusedAs, refused, written}
-use Rattle.matrices.specs.rule.Matrix.{sizeVerdict, verdictAfter, matrixVerdict, outputAfter, MatrixWritten}
+use Rattle.matrices.specs.rule.Matrix.{sizeVerdict, verdictAfter, matrixVerdict, matrixAfter, MatrixWritten}
 use Rattle.matrices.specs.Records.{file-sound}
 use Rattle.matrices.specs.Summaries.{same-put}
 use Rattle.matrix_laws.specs.rule.Exactly.{SizeOutcome, no-column, too-large, short-room, all-written}
@@ -21,12 +21,12 @@ use Rattle.matrix_laws.specs.Matrix.{matrix-length}
 module _ {t : List ℤ} {d out out′ : List ℕ} where
   -- a refusal of the file's own
   pub own-kept : {v : FileVerdict} → MatrixWritten t d out out′ (refusedAs v) → out′ ≡ out
-  unfolding outputAfter
+  unfolding matrixAfter
   own-kept m = m .leaves ∙ rw (← m .says)
 
   -- 80, 81, 82
   pub refused-kept : {k : ℕ} → MatrixWritten t d out out′ (refused k) → out′ ≡ out
-  unfolding outputAfter
+  unfolding matrixAfter
   refused-kept m = m .leaves ∙ rw (← m .says)
 
 -- the length that is told is the total
@@ -55,7 +55,7 @@ module _ (t : List ℤ) (d : List ℕ) (room : ℕ) {k r q : ℕ} where
       go (faultIn n x) f e = let z : _≡_ {A = ℕ} 0 1 = cc in absurd (omega arith)
 
 pub beyond-kept : {t : List ℤ} {d out out′ : List ℕ} {k r q : ℕ} → MatrixWritten t d out out′ (written k r q) → drop k out′ ≡ drop k out
-unfolding outputAfter
+unfolding matrixAfter
 beyond-kept {t} {d} {out} {out′} {k} {r} {q} m =
     let x = matrixOf t (endedOf (recordsOf d)) in
     let l = matrix-told t d (length out) (sym (m .says)) in

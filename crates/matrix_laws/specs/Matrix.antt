@@ -17,7 +17,7 @@ use Rattle.sound.specs.rule.Rows.{rowsOf}
 use Rattle.records.specs.rule.Verdict.{Verdict}
 use Rattle.files.specs.rule.File.{FileVerdict, soundWith, badTable, faultIn, fileVerdict}
 use Rattle.fields.specs.rule.Field.{missing, members, holds, isMember}
-use Rattle.little.specs.rule.Bytes.{bytesOf, putAt}
+use Rattle.little.specs.rule.Bytes.{littleBytes, putAt}
 use Rattle.little.specs.Runs.{length-putAt, put-back}
 use Rattle.summary.specs.rule.Summary.{summaryOf}
 use Rattle.matrix.specs.declared.Entry.{Entry}
@@ -29,9 +29,9 @@ use Rattle.matrix.specs.Entry.{length-flags, length-values, length-entries}
 use Rattle.matrix.specs.Bytes.{length-header, length-summary}
 use Rattle.matrix.specs.Stride.{presence-there, bytes-there}
 use Rattle.columns.specs.rule.Columns.{Column, entryOf, memberEntry, numberEntry}
-use Rattle.matrices.specs.rule.Matrix.{endedOf, tableColumns, allEntries, columnEntries, summariesOf, matrixOf, MatrixVerdict, refusedAs}
+use Rattle.matrices.specs.rule.Matrix.{endedOf, tableColumns, matrixEntries, columnEntries, summariesOf, matrixOf, MatrixVerdict, refusedAs}
 use Rattle.matrices.specs.rule.Matrix.{refused, written}
-use Rattle.matrices.specs.rule.Matrix.{sizeVerdict, verdictAfter, matrixVerdict, outputAfter, MatrixWritten}
+use Rattle.matrices.specs.rule.Matrix.{sizeVerdict, verdictAfter, matrixVerdict, matrixAfter, MatrixWritten}
 use Rattle.matrices.specs.Records.{length-all, file-sound}
 use Rattle.matrices.specs.Entries.{columnAt, recordAt, all-at}
 use Rattle.matrices.specs.Summaries.{same-put}
@@ -48,7 +48,7 @@ pub matrix-length : (t : List ℤ) (rs : List (List ℕ)) → length (matrixOf t
 unfolding matrixOf
 matrix-length t rs =
     let cs = tableColumns t in
-    let es = allEntries t (rowsOf t) cs rs in
+    let es = matrixEntries t (rowsOf t) cs rs in
     let h = headerBytes (length rs) (length cs) in
     let s = summariesOf t (rowsOf t) rs cs in
     omega (
@@ -87,7 +87,7 @@ module _ (t : List ℤ) (rs : List (List ℕ)) (out : List ℕ) (inside : totalO
   cs = tableColumns t
 
   abbrev es : List Entry
-  es = allEntries t (rowsOf t) cs rs
+  es = matrixEntries t (rowsOf t) cs rs
 
   abbrev first : List ℕ
   first = putAt out 0 (headerBytes (length rs) (length cs))
@@ -150,7 +150,7 @@ module _ (t : List ℤ) (rs : List (List ℕ)) (out : List ℕ) (inside : totalO
 
     -- THE EIGHT BYTES of record n, column k
     pub value-is : take 8 (drop (valuesAt (length rs) (length cs) + 8 * (n * length cs + k)) (putAt out 0 (matrixOf t rs)))
-        ≡ bytesOf 8 (toBits binary64 (floatOf (entryOf t (rowsOf t) (recordAt rs n) (columnAt cs k))))
+        ≡ littleBytes 8 (toBits binary64 (floatOf (entryOf t (rowsOf t) (recordAt rs n) (columnAt cs k))))
     value-is =
         let p = presenceAt (length cs) in
         let j = n * length cs + k in
@@ -162,15 +162,15 @@ module _ (t : List ℤ) (rs : List (List ℕ)) (out : List ℕ) (inside : totalO
         ∙ ap (take 8) (sym (drop-drop m p (putAt out 0 (matrixOf t rs))) ∙ ap (drop m) kept ∙ drop-drop m p s)
         ∙ ap (λ (i : ℕ). take 8 (drop i s)) e
         ∙ bytes-there first p v es behind within j cell-low
-        ∙ ap (λ (x : Entry). bytesOf 8 (toBits binary64 (floatOf x))) (all-at t (rowsOf t) cs rs n k low col)
+        ∙ ap (λ (x : Entry). littleBytes 8 (toBits binary64 (floatOf x))) (all-at t (rowsOf t) cs rs n k low col)
 
 -- MISSING has presence 0 and value zero, eight bytes of it
 pub missing-zero : (c : ℕ) (p : ℕ) → (memberEntry c (holds missing) ≡ Absent) × (numberEntry p (holds missing) ≡ Absent)
 unfolding memberEntry numberEntry
 missing-zero c p = (refl, refl)
 
-pub absent-zero : (presenceOf Absent ≡ 0) × (bytesOf 8 (toBits binary64 (floatOf Absent)) ≡ 0 ∷ 0 ∷ 0 ∷ 0 ∷ 0 ∷ 0 ∷ 0 ∷ 0 ∷ [])
-unfolding presenceOf floatOf bytesOf toBits
+pub absent-zero : (presenceOf Absent ≡ 0) × (littleBytes 8 (toBits binary64 (floatOf Absent)) ≡ 0 ∷ 0 ∷ 0 ∷ 0 ∷ 0 ∷ 0 ∷ 0 ∷ 0 ∷ [])
+unfolding presenceOf floatOf littleBytes toBits
 absent-zero = (refl, refl)
 
 -- THE EMPTY SET is present, with zeros

@@ -17,7 +17,7 @@ use Rattle.files.specs.rule.Tested.{Tested}
 use Rattle.quotient.specs.rule.Value.{valueOf}
 use Rattle.quotient.specs.Limits as limits
 use Rattle.summary.specs.declared.Summary.{Summary}
-use Rattle.summary.specs.rule.Summary.{none, summaryOf}
+use Rattle.summary.specs.rule.Summary.{noneSummed, summaryOf}
 use Rattle.summary.specs.Laws.{valuesOf, Among, Each, Says, summary-says, summary-none}
 use Rattle.matrix.specs.declared.Entry.{Entry}
 use Rattle.matrix.specs.declared.Entry.the-variants.{Absent, Scaled}
@@ -25,7 +25,7 @@ use Rattle.matrix.specs.rule.Entry.{presentOf}
 use Rattle.matrix.specs.Entry.{EntryGood}
 use Rattle.matrix.specs.Stride.{AllGood, good-at}
 use Rattle.columns.specs.rule.Columns.{Column, ofRow, entryOf, entriesOf}
-use Rattle.matrices.specs.rule.Matrix.{endedOf, tableColumns, allEntries, columnEntries}
+use Rattle.matrices.specs.rule.Matrix.{endedOf, tableColumns, matrixEntries, columnEntries}
 use Rattle.matrices.specs.Records.{file-sound}
 use Rattle.matrices.specs.Entries.{columnAt, all-at}
 use Rattle.matrices.specs.Good.{all-good}
@@ -73,13 +73,13 @@ unfolding AllGood
 good-tail [] ys g = g
 good-tail (x ∷ xs) ys g = good-tail xs ys (g .1)
 
-column-good : (t : List ℤ) (v : ℕ) (cs : List Column) (rs : List (List ℕ)) (k : ℕ) → k < length cs → AllGood (allEntries t v cs rs)
+column-good : (t : List ℤ) (v : ℕ) (cs : List Column) (rs : List (List ℕ)) (k : ℕ) → k < length cs → AllGood (matrixEntries t v cs rs)
     → AllGood (columnEntries t v (columnAt cs k) rs)
-unfolding AllGood columnEntries allEntries
+unfolding AllGood columnEntries matrixEntries
 column-good t v cs [] k h g = tt
 column-good t v cs (r ∷ rs) k h g = (
-  subst EntryGood (all-at t v cs (r ∷ rs) 0 k (omega arith) h) (good-at (allEntries t v cs (r ∷ rs)) (0 * length cs + k) g),
-  column-good t v cs rs k h (good-tail (entriesOf t v r cs) (allEntries t v cs rs) g),
+  subst EntryGood (all-at t v cs (r ∷ rs) 0 k (omega arith) h) (good-at (matrixEntries t v cs (r ∷ rs)) (0 * length cs + k) g),
+  column-good t v cs rs k h (good-tail (entriesOf t v r cs) (matrixEntries t v cs rs) g),
 )
 
 each-scaled : (es : List Entry) → AllGood es → Each (numbersOf es)

@@ -13,13 +13,14 @@ use Rattle.fields.specs.rule.Row.{readingOf}
 use Rattle.quotient.specs.rule.Value.{valueOf}
 use Rattle.quotient.specs.Limits as limits
 use Rattle.summary.specs.declared.Summary.{Summary}
-use Rattle.summary.specs.rule.Summary.{none, summaryOf}
+use Rattle.summary.specs.rule.Summary.{noneSummed, summaryOf}
 use Rattle.summary.specs.Laws.{valuesOf, Each, Says, summary-says, summary-none}
 use Rattle.matrix.specs.declared.Entry.{Entry}
 use Rattle.matrix.specs.declared.Entry.the-variants.{Absent, Scaled}
 use Rattle.matrix.specs.rule.Entry.{presentOf}
 use Rattle.matrix.specs.Entry.{EntryGood}
-use Rattle.columns.specs.rule.Columns.{Column, ofRow, ofCategory, decimalsBy, numberEntry, memberEntry, entryOf}
+use Rattle.columns.specs.rule.Columns.{Column, ofRow, ofCategory, numberEntry, memberEntry, entryOf}
+use Rattle.widths.specs.rule.Width.{decimalsOf}
 use Rattle.matrices.specs.rule.Matrix.{columnEntries}
 use Rattle.matrix_laws.specs.Numbers.{numbersOf, powerOf}
 
@@ -49,7 +50,7 @@ member-over c illegal = tt
 -- a column has one power of ten
 pub entry-over : (t : List ℤ) (v : ℕ) (r : List ℕ) (c : Column) → Over (powerOf t c) (entryOf t v r c)
 unfolding entryOf powerOf
-entry-over t v r (ofRow i) = number-over (10 ^ decimalsBy (rowAt t i .kind)) (readingOf t v (rowAt t i) r)
+entry-over t v r (ofRow i) = number-over (10 ^ decimalsOf (rowAt t i .kind)) (readingOf t v (rowAt t i) r)
 entry-over t v r (ofCategory i c) = member-over c (readingOf t v (rowAt t i) r)
 
 one-more : (p : ℕ) (e : Entry) (es : List Entry) → Over p e → presentOf es ≡ valuesOf p (numbersOf es) → presentOf (e ∷ es)
@@ -74,6 +75,6 @@ summary-column t v c rs n ns p e g = rw (column-values t v c rs, e) (summary-say
 
 -- none present: count 0, both zero
 pub summary-empty : (t : List ℤ) (v : ℕ) (c : Column) (rs : List (List ℕ)) → numbersOf (columnEntries t v c rs) ≡ []
-    → summaryOf (presentOf (columnEntries t v c rs)) ≡ none
+    → summaryOf (presentOf (columnEntries t v c rs)) ≡ noneSummed
 unfolding valuesOf
 summary-empty t v c rs e = rw (column-values t v c rs, e) summary-none

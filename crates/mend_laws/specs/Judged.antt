@@ -11,7 +11,7 @@ use lib.Dec.{eqb, leb, ltb}
 use lib.IntN.{ℤ}
 use lib.ListN.{length, getD}
 use Rattle.lows.specs.rule.Lows.{lowAt}
-use Rattle.cuts.specs.rule.Records.{Records, over, record-and, recordsOf}
+use Rattle.cuts.specs.rule.Records.{Records, over, record-and, recordsOf, lengthOfFirst}
 use Rattle.sound.specs.rule.Sound.{wellFormed}
 use Rattle.sound.specs.rule.Rows.{lengthOf, rowsOf}
 use Rattle.faults.specs.declared.Fault.{Fault}
@@ -20,13 +20,12 @@ use Rattle.records.specs.rule.Verdict.{Verdict, sound, refused, badField, rowVe
 use Rattle.records.specs.declared.Found.{Found}
 use Rattle.records.specs.declared.Found.the-variants.{At, Nothing}
 use Rattle.files.specs.rule.File.{FileVerdict, badTable, recordVerdict, goOn, firstLength, recordsVerdict, fileVerdict}
-use Rattle.file_laws.specs.rule.Files.{firstOf}
 use Rattle.mends.specs.rule.Mend.{bytesIn}
-use Rattle.mend_laws.specs.rule.Mended.{Plain, nothing, plain, Shaped, all-ended, ended, SoundLines, noneOfThree, NoneOfFour}
+use Rattle.mend_laws.specs.rule.Mended.{NoneLow, nothing, plain, Shaped, all-ended, ended, SoundLines, noneOfThree, NoneOfFour}
 use Rattle.mend_laws.specs.rule.Mended.{no-more-records, judged-by-fields, ByFields, sound-with, by-no-table, in-a-field}
 use Rattle.mend_laws.specs.Sound.{mended-sound}
 
-plain-at : {r : List ℕ} → Plain r → (j : ℕ) → j < length r → lowAt r j ≡ false
+plain-at : {r : List ℕ} → NoneLow r → (j : ℕ) → j < length r → lowAt r j ≡ false
 plain-at nothing j h = absurd (omega arith)
 plain-at (plain {b} {r} m p) zero h = le-ltb b 32 m
 plain-at (plain m p) (suc j) h = plain-at p j (omega arith)
@@ -46,7 +45,7 @@ unfolding rowVerdict
 by-rows fault (At i) = is-field
 by-rows fault Nothing = is-sound
 
-fielded : (t : List ℤ) (n : ℕ) {r : List ℕ} → length r ≡ n → lengthOf t ≤ n → Plain r → Fielded (recordVerdict t n r)
+fielded : (t : List ℤ) (n : ℕ) {r : List ℕ} → length r ≡ n → lengthOf t ≤ n → NoneLow r → Fielded (recordVerdict t n r)
 unfolding recordVerdict rowsVerdict byteVerdict
 fielded t n {r} l h p =
     rw (
@@ -82,7 +81,7 @@ unfolding fileVerdict
 sound-judged t d s = go (wellFormed t)
   where
     go : (q : Bool) → ByFields (cond q (recordsVerdict t 0 0 (recordsOf d)) badTable)
-    go true = shaped-fields t (s .shaped) 0 0 (at-first (firstOf (recordsOf d)))
+    go true = shaped-fields t (s .shaped) 0 0 (at-first (lengthOfFirst (recordsOf d)))
     go false = by-no-table
 
 -- THE MENDED FILE IS JUDGED WITH NO 30, 31, 22, 23
@@ -122,16 +121,17 @@ none-at f (suc n) i e j a b = go (f i) refl e (λ z g. none-at f n (suc i) z j g
     go true h z rest = holds-not {b = true} refl (ap isAt z)
     go false h z rest = ⊎-elim (λ g. ap f (sym g) ∙ h) (rest z) (from-on i j a)
 
-plain-of : (r : List ℕ) → ((j : ℕ) → j < length r → lowAt r j ≡ false) → Plain r
+plain-of : (r : List ℕ) → ((j : ℕ) → j < length r → lowAt r j ≡ false) → NoneLow r
 plain-of [] f = nothing
 plain-of (b ∷ r) f = plain (ltb-false b 32 (f 0 (omega arith))) (plain-of r (λ j h. f (suc j) (omega arith)))
 
-bytes-plain : (r : List ℕ) (x : Found) (v : Verdict) → firstFrom (lowAt r) 0 (length r) ≡ x → noneOfThree (byteVerdict x v) ≡ true → Plain r
+bytes-plain : (r : List ℕ) (x : Found) (v : Verdict) → firstFrom (lowAt r) 0 (length r) ≡ x → noneOfThree (byteVerdict x v) ≡ true
+    → NoneLow r
 unfolding byteVerdict noneOfThree
 bytes-plain r (At p) v e h = holds-not h refl
 bytes-plain r Nothing v e h = plain-of r (λ j l. none-at (lowAt r) (length r) 0 e j (omega arith) (omega arith))
 
-rows-plain : (t : List ℤ) (v : ℕ) (r : List ℕ) → noneOfThree (rowsVerdict t v r) ≡ true → Plain r
+rows-plain : (t : List ℤ) (v : ℕ) (r : List ℕ) → noneOfThree (rowsVerdict t v r) ≡ true → NoneLow r
 unfolding rowsVerdict
 rows-plain t v r h =
     bytes-plain r (firstFrom (lowAt r) 0 (length r)) (rowVerdict (rowFault t v r) (firstFrom (badRow t v r) 0 v)) refl h
@@ -151,5 +151,5 @@ none-shaped t {n} (judged-by-fields {r} {rs} f s) =
     go true e false l f s = holds-not f refl
     go false e q l f s = holds-not f refl
 
-pub sound-exactly : (t : List ℤ) (d : List ℕ) → SoundLines t d ↔ NoneOfFour t (firstOf (recordsOf d)) (recordsOf d)
+pub sound-exactly : (t : List ℤ) (d : List ℕ) → SoundLines t d ↔ NoneOfFour t (lengthOfFirst (recordsOf d)) (recordsOf d)
 sound-exactly t d = (λ s. shaped-none t (s .shaped), λ n. record { shaped = none-shaped t n })

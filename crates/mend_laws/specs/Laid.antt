@@ -11,25 +11,25 @@ use lib.Dec.{eqb, ltb}
 use lib.IntN.{ℤ}
 use lib.ListN.{length, drop}
 use Rattle.cuts.specs.declared.Terminator.{Terminator}
-use Rattle.cuts.specs.rule.Cut.{single, pair, none, beginsWith, terminatorAt, terminatorOf, wholeAt, beginsAt}
+use Rattle.cuts.specs.rule.Cut.{oneByte, twoBytes, noEnding, beginsWith, terminatorAt, terminatorOf, wholeAt, beginsAt}
 use Rattle.cuts.specs.rule.Records.{Records, over, record-and, atEnd, cut, recordsOf, terminatorBytes, laid}
 use Rattle.file_laws.specs.rule.Only.{NoneInside, Clean, none-left, next}
-use Rattle.file_laws.specs.rule.Files.{before}
+use Rattle.file_laws.specs.rule.Files.{recordsBefore}
 use Rattle.file_laws.specs.Only.{cut-only}
 use Rattle.sound.specs.rule.Rows.{lengthOf}
-use Rattle.pieces.specs.rule.Pieces.{boundaryAt, Piece, piece, firstOf, behind, onto, cutFrom, piecesOf}
+use Rattle.pieces.specs.rule.Pieces.{boundaryAt, Piece, piece, firstPiece, piecesBehind, onto, cutFrom, piecesOf}
 use Rattle.pieces.specs.Pieces.{lowCount}
-use Rattle.mends.specs.rule.Mend.{endingOf, widthOf, sameBoundary, Entry, entriesOf, widthIn, listIn}
+use Rattle.mends.specs.rule.Mend.{endingOf, widthOf, sameBoundary, MendEntry, mendEntries, widthOfRecords, listIn}
 use Rattle.mends.specs.Sizes.{Sized, othersIn, shortIn, length-entries}
 use Rattle.mends.specs.Mend.{ending-none, ending-some}
-use Rattle.mend_laws.specs.rule.Mended.{Plain, nothing, plain}
+use Rattle.mend_laws.specs.rule.Mended.{NoneLow, nothing, plain}
 
 -- ---- CR LF, LF CR, CR, LF
 pub data Four : Terminator → Type 0 where
-  cr-lf : Four (pair 13 10)
-  lf-cr : Four (pair 10 13)
-  cr : Four (single 13 10)
-  lf : Four (single 10 13)
+  cr-lf : Four (twoBytes 13 10)
+  lf-cr : Four (twoBytes 10 13)
+  cr : Four (oneByte 13 10)
+  lf : Four (oneByte 10 13)
 
 pub four-sized : {e : Terminator} → Four e → Sized e
 four-sized cr-lf = record { some = omega arith; few = omega arith }
@@ -47,7 +47,7 @@ at-cr : (s : List ℕ) → Four (terminatorAt 13 10 s)
 unfolding terminatorAt
 at-cr s = go (beginsWith 10 s)
   where
-    go : (q : Bool) → Four (cond q (pair 13 10) (single 13 10))
+    go : (q : Bool) → Four (cond q (twoBytes 13 10) (oneByte 13 10))
     go true = cr-lf
     go false = cr
 
@@ -55,13 +55,13 @@ at-lf : (s : List ℕ) → Four (terminatorAt 10 13 s)
 unfolding terminatorAt
 at-lf s = go (beginsWith 13 s)
   where
-    go : (q : Bool) → Four (cond q (pair 10 13) (single 10 13))
+    go : (q : Bool) → Four (cond q (twoBytes 10 13) (oneByte 10 13))
     go true = lf-cr
     go false = lf
 
 -- the first terminator met is one of them, if there is one
 pub data Met : Terminator → Type 0 where
-  not-met : Met none
+  not-met : Met noEnding
   one-met : {e : Terminator} → Four e → Met e
 
 pub met : (d : List ℕ) → Met (terminatorOf d)
@@ -78,7 +78,7 @@ pub four-met : {e : Terminator} → Met e → 1 ≤ e .size → Four e
 four-met not-met h = absurd (omega arith)
 four-met (one-met f) h = f
 
-by-default : {e : Terminator} → Met e → Four (cond (eqb (e .size) 0) (pair 13 10) e)
+by-default : {e : Terminator} → Met e → Four (cond (eqb (e .size) 0) (twoBytes 13 10) e)
 by-default not-met = cr-lf
 by-default (one-met cr-lf) = cr-lf
 by-default (one-met lf-cr) = lf-cr
@@ -90,16 +90,16 @@ unfolding endingOf
 four-ending d = by-default (met d)
 
 -- ---- plain bytes
-pub plain-append : {a b : List ℕ} → Plain a → Plain b → Plain (a ++ b)
+pub plain-append : {a b : List ℕ} → NoneLow a → NoneLow b → NoneLow (a ++ b)
 plain-append nothing q = q
 plain-append (plain h p) q = plain h (plain-append p q)
 
-pub plain-count : {r : List ℕ} → Plain r → lowCount r ≡ 0
+pub plain-count : {r : List ℕ} → NoneLow r → lowCount r ≡ 0
 unfolding lowCount
 plain-count nothing = refl
 plain-count (plain {b} {r} h p) = rw (le-ltb b 32 h) (omega (arith, plain-count p))
 
-plain-drop : {r : List ℕ} → Plain r → (k : ℕ) → Plain (drop k r)
+plain-drop : {r : List ℕ} → NoneLow r → (k : ℕ) → NoneLow (drop k r)
 plain-drop p zero = p
 plain-drop nothing (suc k) = nothing
 plain-drop (plain h p) (suc k) = plain-drop p k
@@ -121,7 +121,7 @@ withEnd e (r ∷ rs) = piece r e ∷ withEnd e rs
 -- each has w bytes, none below 32
 pub data AllWhole (w : ℕ) : List (List ℕ) → Type 0 where
   no-records : AllWhole w []
-  whole : {r : List ℕ} {rs : List (List ℕ)} → length r ≡ w → Plain r → AllWhole w rs → AllWhole w (r ∷ rs)
+  whole : {r : List ℕ} {rs : List (List ℕ)} → length r ≡ w → NoneLow r → AllWhole w rs → AllWhole w (r ∷ rs)
 
 apart-laid : {w : ℕ} (e : Terminator) {rs : List (List ℕ)} → AllWhole w rs → 1 ≤ w → Apart (laidAll e rs)
 unfolding laidAll beginsWith
@@ -130,13 +130,13 @@ apart-laid e (whole l nothing a) h = absurd (omega arith)
 apart-laid e (whole l (plain {b} {r} m p) a) h = record { no-cr = ne-eqb b 13 (λ q. omega arith); no-lf = ne-eqb b 10 (λ q. omega arith) }
 
 -- ---- the cut
-plain-none : (b : ℕ) (s : List ℕ) → 32 ≤ b → boundaryAt (b ∷ s) ≡ none
+plain-none : (b : ℕ) (s : List ℕ) → 32 ≤ b → boundaryAt (b ∷ s) ≡ noEnding
 unfolding boundaryAt
 plain-none b s h = rw (ne-eqb b 13 (λ q. omega arith), ne-eqb b 10 (λ q. omega arith))
 
-onto-run : {r : List ℕ} → Plain r → (x : List ℕ) (e : Terminator) (qs : List Piece) → cutFrom 0 x ≡ piece [] e ∷ qs
+onto-run : {r : List ℕ} → NoneLow r → (x : List ℕ) (e : Terminator) (qs : List Piece) → cutFrom 0 x ≡ piece [] e ∷ qs
     → cutFrom 0 (r ++ x) ≡ piece r e ∷ qs
-unfolding cutFrom onto firstOf behind
+unfolding cutFrom onto firstPiece piecesBehind
 onto-run nothing x e qs h = h
 onto-run (plain {b} {r} m p) x e qs h = rw (plain-none b (r ++ x) m, onto-run p x e qs h)
 
@@ -156,7 +156,7 @@ pieces-of-laid {e} f (whole {r} {rs} l p a) h =
     ∙ ap (λ (q : List Piece). piece r e ∷ q) (pieces-of-laid f a h)
 
 -- ---- its terminator
-first-run : {r : List ℕ} → Plain r → (x : List ℕ) → terminatorOf (r ++ x) ≡ terminatorOf x
+first-run : {r : List ℕ} → NoneLow r → (x : List ℕ) → terminatorOf (r ++ x) ≡ terminatorOf x
 unfolding terminatorOf
 first-run nothing x = refl
 first-run (plain {b} {r} h p) x = rw (ne-eqb b 13 (λ q. omega arith), ne-eqb b 10 (λ q. omega arith)) (first-run p x)
@@ -227,45 +227,46 @@ none-left-of [] z = refl
 none-left-of (x ∷ l) z = absurd (omega arith)
 
 nothing-listed : (e : Terminator) (t : List ℤ) → listIn t (laidAll e []) ≡ []
-unfolding listIn widthIn piecesOf laidAll cutFrom entriesOf
+unfolding listIn widthOfRecords piecesOf laidAll cutFrom mendEntries
 nothing-listed e t = refl
 
 pub whole-unlisted : {e : Terminator} → Four e → {w : ℕ} {rs : List (List ℕ)} → AllWhole w rs → 1 ≤ w → (t : List ℤ) → lengthOf t ≤ w
     → listIn t (laidAll e rs) ≡ []
-unfolding listIn widthIn piecesOf
+unfolding listIn widthOfRecords piecesOf
 whole-unlisted {e} f {w} no-records h t g = nothing-listed e t
 whole-unlisted {e} f {w} (whole {r} {rs} l p a) h t g =
     let b : AllWhole w (r ∷ rs) = whole l p a in
     rw (pieces-of-laid f b h, ending-of-laid f b h, width-of-laid e b (lengthOf t) g)
-    (none-left-of (entriesOf w e 1 0 (withEnd e (r ∷ rs)))
+    (none-left-of (mendEntries w e 1 0 (withEnd e (r ∷ rs)))
     (length-entries w e 1 0 (withEnd e (r ∷ rs)) ∙ rw (others-none e b h, short-none e b)))
 
 -- ---- its records
-begins-plain : {e : Terminator} → Four e → {r : List ℕ} → Plain r → beginsAt e r ≡ false
+begins-plain : {e : Terminator} → Four e → {r : List ℕ} → NoneLow r → beginsAt e r ≡ false
 unfolding beginsAt
 begins-plain f nothing = refl
 begins-plain {e} f (plain {b} {r} h p) = rw (ne-eqb b (e .first) (λ q. omega (arith, first-low f)))
 
-clean-whole : {e : Terminator} → Four e → {w : ℕ} {rs : List (List ℕ)} → AllWhole w rs → Clean e (before rs over)
-unfolding before
+clean-whole : {e : Terminator} → Four e → {w : ℕ} {rs : List (List ℕ)} → AllWhole w rs → Clean e (recordsBefore rs over)
+unfolding recordsBefore
 clean-whole f no-records = none-left
 clean-whole f (whole l p a) = next (four-sized f .some) (record { nowhere = λ k. begins-plain f (plain-drop p k) }) (clean-whole f a)
 
-laid-before : (e : Terminator) (rs : List (List ℕ)) → laid e (before rs over) ≡ laidAll e rs
-unfolding laid before laidAll
+laid-before : (e : Terminator) (rs : List (List ℕ)) → laid e (recordsBefore rs over) ≡ laidAll e rs
+unfolding laid recordsBefore laidAll
 laid-before e [] = refl
 laid-before e (r ∷ rs) =
-    append-assoc r (terminatorBytes e) (laid e (before rs over)) ∙ ap (λ (x : List ℕ). r ++ (terminatorBytes e ++ x)) (laid-before e rs)
+    append-assoc r (terminatorBytes e) (laid e (recordsBefore rs over))
+    ∙ ap (λ (x : List ℕ). r ++ (terminatorBytes e ++ x)) (laid-before e rs)
 
-no-records-of : (e : Terminator) → recordsOf (laidAll e []) ≡ before [] over
-unfolding recordsOf laidAll before terminatorOf cut atEnd
+no-records-of : (e : Terminator) → recordsOf (laidAll e []) ≡ recordsBefore [] over
+unfolding recordsOf laidAll recordsBefore terminatorOf cut atEnd
 no-records-of e = refl
 
 pub records-of-laid : {e : Terminator} → Four e → {w : ℕ} {rs : List (List ℕ)} → AllWhole w rs → 1 ≤ w
-    → recordsOf (laidAll e rs) ≡ before rs over
+    → recordsOf (laidAll e rs) ≡ recordsBefore rs over
 records-of-laid {e} f no-records h = no-records-of e
 records-of-laid {e} f {w} (whole {r} {rs} l p a) h =
     let b : AllWhole w (r ∷ rs) = whole l p a in
     let q = first-of-laid f b h in
-    sym (cut-only (laidAll e (r ∷ rs)) (before (r ∷ rs) over) (rw q (clean-whole f b))
-    (ap (λ (x : Terminator). laid x (before (r ∷ rs) over)) q ∙ laid-before e (r ∷ rs)))
+    sym (cut-only (laidAll e (r ∷ rs)) (recordsBefore (r ∷ rs) over) (rw q (clean-whole f b))
+    (ap (λ (x : Terminator). laid x (recordsBefore (r ∷ rs) over)) q ∙ laid-before e (r ∷ rs)))

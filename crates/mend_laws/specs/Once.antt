@@ -18,8 +18,9 @@ use Rattle.sound.specs.rule.Sound.{wellFormed}
 use Rattle.sound.specs.rule.Rows.{lengthOf}
 use Rattle.pieces.specs.rule.Pieces.{Piece, cutFrom, piecesOf}
 use Rattle.mends.specs.declared.Mended.{Mended}
-use Rattle.mends.specs.rule.Mend.{endingOf, plainByte, widthOf, isEmpty, widthIn, bytesIn, listIn, numbersOf, Outcome, done, refused, said}
-use Rattle.mends.specs.rule.Mend.{mendedAs, after, Mends}
+use Rattle.mends.specs.rule.Mend.{endingOf, plainByte, widthOf, isEmpty, widthOfRecords, bytesIn, listIn, entryNumbers, MendAnswer, done}
+use Rattle.mends.specs.rule.Mend.{refused, mendSaid}
+use Rattle.mends.specs.rule.Mend.{mendedAs, keptOrNew, Mends}
 use Rattle.mends.specs.Sizes.{Sized, length-ending, length-plain, width-rest}
 use Rattle.mend_laws.specs.rule.Mended.{keptOf, MendOutcome, bad-table, no-room, is-mended}
 use Rattle.mend_laws.specs.Laid.{four-sized, four-ending, laidAll}
@@ -27,7 +28,7 @@ use Rattle.mend_laws.specs.Sound.{padded, paddedAll, length-padded, mend
 
 -- ---- ONE OUTCOME
 pub record Same (r r′ : Mended) (out out′ : List ℕ) (list list′ : List ℤ) : Type 0 where
-  pub says : said r ≡ said r′
+  pub says : mendSaid r ≡ mendSaid r′
   pub bytes : out ≡ out′
   pub listed : list ≡ list′
 
@@ -55,7 +56,7 @@ mend-named t d room cells =
     go true e false h false k =
         is-mended e (ltb-false room (length (bytesIn t d)) h) (ltb-false cells (3 * length (listIn t d)) k)
 
-pub mend-only : {t : List ℤ} {d : List ℕ} {room cells : ℕ} {o : Outcome} → MendOutcome t d room cells o → mendedAs t d room cells ≡ o
+pub mend-only : {t : List ℤ} {d : List ℕ} {room cells : ℕ} {o : MendAnswer} → MendOutcome t d room cells o → mendedAs t d room cells ≡ o
 unfolding mendedAs
 mend-only (bad-table e) = rw e
 mend-only {t} {d} {room} {cells} (no-room e (inl h)) = rw (e, lt-ltb room (length (bytesIn t d)) h)
@@ -69,22 +70,23 @@ mend-only {t} {d} {room} {cells} (is-mended e h k) =
     rw (e, le-ltb room (length (bytesIn t d)) h, le-ltb cells (3 * length (listIn t d)) k)
 
 -- ---- BEYOND the written part, and on a refusal everywhere
-beyond : {A : Type 0} (o : Outcome) (new old : List A) → drop (length new) (after o new old) ≡ drop (length new) old
-unfolding after
+beyond : {A : Type 0} (o : MendAnswer) (new old : List A) → drop (length new) (keptOrNew o new old) ≡ drop (length new) old
+unfolding keptOrNew
 beyond (done b n) new old = drop-append-seam new (drop (length new) old)
 beyond (refused k) new old = refl
 
 pub kept-beyond : {t : List ℤ} {d out out′ : List ℕ} {list list′ : List ℤ} {r : Mended} → Mends t d out out′ list list′ r
     → (drop (length (bytesIn t d)) out′ ≡ drop (length (bytesIn t d)) out)
-    × (drop (length (numbersOf (listIn t d))) list′ ≡ drop (length (numbersOf (listIn t d))) list)
+    × (drop (length (entryNumbers (listIn t d))) list′ ≡ drop (length (entryNumbers (listIn t d))) list)
 kept-beyond {t} {d} {out} {out′} {list} {list′} m = (
   ap (drop (length (bytesIn t d))) (m .mended) ∙ beyond (mendedAs t d (length out) (length list)) (bytesIn t d) out,
-  ap (drop (length (numbersOf (listIn t d)))) (m .listed) ∙ beyond (mendedAs t d (length out) (length list)) (numbersOf (listIn t d)) list,
+  ap (drop (length (entryNumbers (listIn t d)))) (m .listed)
+      ∙ beyond (mendedAs t d (length out) (length list)) (entryNumbers (listIn t d)) list,
 )
 
 pub kept-refused : {t : List ℤ} {d out out′ : List ℕ} {list list′ : List ℤ} {r : Mended} {k : ℕ} → Mends t d out out′ list list′ r
-    → said r ≡ refused k → (out′ ≡ out) × (list′ ≡ list)
-unfolding after
+    → mendSaid r ≡ refused k → (out′ ≡ out) × (list′ ≡ list)
+unfolding keptOrNew
 kept-refused m e = let q = sym (m .says) ∙ e in (m .mended ∙ rw q, m .listed ∙ rw q)
 
 -- ---- NO OTHER BYTE DIFFERS
@@ -142,9 +144,9 @@ stands {w} e s (one-in {r} {rs} l a) (suc k) h =
     (stands e s a k (omega arith))
 
 pub record-stands : (t : List ℤ) (d : List ℕ) (k : ℕ) → k < length (keptOf (piecesOf d))
-    → take (widthIn t d) (drop (k * (widthIn t d + endingOf d .size)) (bytesIn t d))
-    ≡ padded (widthIn t d) (getD (keptOf (piecesOf d)) k [])
-unfolding bytesIn widthIn piecesOf
+    → take (widthOfRecords t d) (drop (k * (widthOfRecords t d + endingOf d .size)) (bytesIn t d))
+    ≡ padded (widthOfRecords t d) (getD (keptOf (piecesOf d)) k [])
+unfolding bytesIn widthOfRecords piecesOf
 record-stands t d k h =
     let w : ℕ = widthOf (lengthOf t) (cutFrom 0 d) in
     rw (mended-laid w (endingOf d) (cutFrom 0 d))
@@ -161,13 +163,14 @@ mapped [] j h = absurd (omega arith)
 mapped (b ∷ r) zero h = refl
 mapped (b ∷ r) (suc j) h = mapped r j (omega arith)
 
-kept-within : (t : List ℤ) (d : List ℕ) (k : ℕ) → k < length (keptOf (piecesOf d)) → length (getD (keptOf (piecesOf d)) k []) ≤ widthIn t d
-unfolding widthIn piecesOf
+kept-within : (t : List ℤ) (d : List ℕ) (k : ℕ) → k < length (keptOf (piecesOf d)) → length (getD (keptOf (piecesOf d)) k [])
+    ≤ widthOfRecords t d
+unfolding widthOfRecords piecesOf
 kept-within t d k h = in-at (kept-in (widthOf (lengthOf t) (cutFrom 0 d)) (lengthOf t) (cutFrom 0 d) (omega arith)) k h
 
 -- "to the longest and at least to L": no width below this one holds L and every record that is kept
-pub width-fewest : (t : List ℤ) (d : List ℕ) (w : ℕ) → lengthOf t ≤ w → AllIn w (keptOf (piecesOf d)) → widthIn t d ≤ w
-unfolding widthIn
+pub width-fewest : (t : List ℤ) (d : List ℕ) (w : ℕ) → lengthOf t ≤ w → AllIn w (keptOf (piecesOf d)) → widthOfRecords t d ≤ w
+unfolding widthOfRecords
 width-fewest t d w h a = width-least w (lengthOf t) (piecesOf d) h a
 
 module _ (t : List ℤ) (d : List ℕ) (k j : ℕ) where
@@ -176,16 +179,16 @@ module _ (t : List ℤ) (d : List ℕ) (k j : ℕ) where
   keptAt = getD (keptOf (piecesOf d)) k []
 
   abbrev pub placeAt : ℕ
-  placeAt = k * (widthIn t d + endingOf d .size) + j
+  placeAt = k * (widthOfRecords t d + endingOf d .size) + j
 
   pub byte-stands : k < length (keptOf (piecesOf d)) → j < length keptAt → getD (bytesIn t d) placeAt 0 ≡ plainByte (getD keptAt j 0)
   byte-stands h l =
       let n = kept-within t d k h in
-      let at : ℕ = k * (widthIn t d + endingOf d .size) in
+      let at : ℕ = k * (widthOfRecords t d + endingOf d .size) in
       sym (getD-drop at (bytesIn t d) j 0)
-      ∙ sym (getD-take (widthIn t d) (drop at (bytesIn t d)) j 0 (omega arith))
+      ∙ sym (getD-take (widthOfRecords t d) (drop at (bytesIn t d)) j 0 (omega arith))
       ∙ ap (λ (x : List ℕ). getD x j 0) (record-stands t d k h)
-      ∙ List·getD-append (map plainByte keptAt) (spaces (widthIn t d - length keptAt)) 0 j (rw (length-plain keptAt) l)
+      ∙ List·getD-append (map plainByte keptAt) (spaces (widthOfRecords t d - length keptAt)) 0 j (rw (length-plain keptAt) l)
       ∙ mapped keptAt j l
 
   pub others-kept : k < length (keptOf (piecesOf d)) → j < length keptAt → 32 ≤ getD keptAt j 0

@@ -7,12 +7,12 @@ use native.Mathlib.Omega.{arith}
 use borrow.Author.Tests.{eq-eqb, eqb-true}
 use lib.Dec.{eqb}
 use Rattle.below.specs.Below.{holds-not}
-use Rattle.cuts.specs.rule.Cut.{single, pair, none, beginsWith, terminatorAt}
-use Rattle.pieces.specs.rule.Pieces.{boundaryAt, Piece, piece, firstOf, behind, onto, cutFrom, piecesOf}
+use Rattle.cuts.specs.rule.Cut.{oneByte, twoBytes, noEnding, beginsWith, terminatorAt}
+use Rattle.pieces.specs.rule.Pieces.{boundaryAt, Piece, piece, firstPiece, piecesBehind, onto, cutFrom, piecesOf}
 use Rattle.mend_laws.specs.rule.Mended.{Unbroken, no-bytes, other-byte, AllUnbroken, no-pieces, one-piece}
 
 unbroken-onto : (b : ℕ) {ps : List Piece} → (b ≡ 13 → ⊥) → (b ≡ 10 → ⊥) → AllUnbroken ps → AllUnbroken (onto b ps)
-unfolding onto firstOf behind
+unfolding onto firstPiece piecesBehind
 unbroken-onto b m n no-pieces = one-piece (other-byte m n no-bytes) no-pieces
 unbroken-onto b m n (one-piece u a) = one-piece (other-byte m n u) a
 
@@ -20,7 +20,7 @@ at-some : (a b : ℕ) (s : List ℕ) → 1 ≤ terminatorAt a b s .size
 unfolding terminatorAt
 at-some a b s = go (beginsWith b s)
   where
-    go : (q : Bool) → 1 ≤ cond q (pair a b) (single a b) .size
+    go : (q : Bool) → 1 ≤ cond q (twoBytes a b) (oneByte a b) .size
     go true = omega arith
     go false = omega arith
 
@@ -33,7 +33,7 @@ not-lf : (b : ℕ) (s : List ℕ) → boundaryAt (b ∷ s) .size ≡ 0 → b ≡
 unfolding boundaryAt
 not-lf b s z e = go (eqb b 13) z
   where
-    go : (q : Bool) → cond q (terminatorAt 13 10 s) (cond (eqb b 10) (terminatorAt 10 13 s) none) .size ≡ 0 → ⊥
+    go : (q : Bool) → cond q (terminatorAt 13 10 s) (cond (eqb b 10) (terminatorAt 10 13 s) noEnding) .size ≡ 0 → ⊥
     go true y = omega (arith, at-some 13 10 s)
     go false y = let h = rw (eq-eqb b 10 e) at y in omega (arith, at-some 10 13 s)
 

@@ -8,18 +8,18 @@ use lib.ListN.{length}
 use Rattle.cuts.specs.rule.Cut.{beginsWith, terminatorAt, terminatorOf}
 use Rattle.cuts.specs.rule.Records.{terminatorBytes}
 use Rattle.fields.specs.rule.Field.{spaces}
-use Rattle.pieces.specs.rule.Pieces.{boundaryAt, firstOf, behind, onto, cutFrom, piecesOf}
+use Rattle.pieces.specs.rule.Pieces.{boundaryAt, firstPiece, piecesBehind, onto, cutFrom, piecesOf}
 use Rattle.mends.specs.rule.Mend.{endingOf, plainByte, widthOf, mendedRecord, mendedOf}
-use Rattle.mends.specs.rule.Mend.{Entry, entry, listedIf, byteEntries, sameBoundary, pieceEntries, entriesOf}
+use Rattle.mends.specs.rule.Mend.{MendEntry, mendEntry, listedIf, byteEntries, sameBoundary, pieceEntries, mendEntries}
 
 abbrev mended : List ℕ → List ℕ
 mended d = mendedOf (widthOf 3 (piecesOf d)) (endingOf d) (piecesOf d)
 
-abbrev listed : List ℕ → List Entry
-listed d = entriesOf (widthOf 3 (piecesOf d)) (endingOf d) 1 0 (piecesOf d)
+abbrev listed : List ℕ → List MendEntry
+listed d = mendEntries (widthOf 3 (piecesOf d)) (endingOf d) 1 0 (piecesOf d)
 
 -- a file, what it is mended to, and the list
-pub record Mends (d out : List ℕ) (list : List Entry) : Type 0 where
+pub record Mends (d out : List ℕ) (list : List MendEntry) : Type 0 where
   pub bytes : mended d ≡ out
   pub entries : listed d ≡ list
 
@@ -27,25 +27,26 @@ pub record Cases : Type 0 where
   -- a sound file comes out as it is, with nothing listed
   pub sound-stays : Mends (97 ∷ 98 ∷ 99 ∷ 10 ∷ 97 ∷ 98 ∷ 100 ∷ 10 ∷ []) (97 ∷ 98 ∷ 99 ∷ 10 ∷ 97 ∷ 98 ∷ 100 ∷ 10 ∷ []) []
   -- "pairs first": LF CR LF is LF CR, then LF with an empty record between
-  pub pairs-first : Mends (97 ∷ 98 ∷ 99 ∷ 10 ∷ 13 ∷ 10 ∷ []) (97 ∷ 98 ∷ 99 ∷ 10 ∷ 13 ∷ []) (entry 1 2 5 ∷ [])
+  pub pairs-first : Mends (97 ∷ 98 ∷ 99 ∷ 10 ∷ 13 ∷ 10 ∷ []) (97 ∷ 98 ∷ 99 ∷ 10 ∷ 13 ∷ []) (mendEntry 1 2 5 ∷ [])
   -- LF LF is two boundaries
-  pub twice-lf : Mends (97 ∷ 98 ∷ 99 ∷ 10 ∷ 10 ∷ 97 ∷ 98 ∷ 99 ∷ 10 ∷ []) (97 ∷ 98 ∷ 99 ∷ 10 ∷ 97 ∷ 98 ∷ 99 ∷ 10 ∷ []) (entry 1 2 4 ∷ [])
+  pub twice-lf : Mends (97 ∷ 98 ∷ 99 ∷ 10 ∷ 10 ∷ 97 ∷ 98 ∷ 99 ∷ 10 ∷ []) (97 ∷ 98 ∷ 99 ∷ 10 ∷ 97 ∷ 98 ∷ 99 ∷ 10 ∷ []) (mendEntry 1 2 4 ∷ [])
   -- the first terminator, also where it ends a dropped record
-  pub first-of-dropped : Mends (13 ∷ 97 ∷ 98 ∷ 99 ∷ 10 ∷ []) (97 ∷ 98 ∷ 99 ∷ 13 ∷ []) (entry 1 1 0 ∷ entry 4 2 4 ∷ [])
+  pub first-of-dropped : Mends (13 ∷ 97 ∷ 98 ∷ 99 ∷ 10 ∷ []) (97 ∷ 98 ∷ 99 ∷ 13 ∷ []) (mendEntry 1 1 0 ∷ mendEntry 4 2 4 ∷ [])
   -- CR LF if there is none
-  pub default-ending : Mends (97 ∷ 98 ∷ 99 ∷ []) (97 ∷ 98 ∷ 99 ∷ 13 ∷ 10 ∷ []) (entry 4 1 3 ∷ [])
+  pub default-ending : Mends (97 ∷ 98 ∷ 99 ∷ []) (97 ∷ 98 ∷ 99 ∷ 13 ∷ 10 ∷ []) (mendEntry 4 1 3 ∷ [])
   -- order by place, then kind; one 2 a byte; dropped records are counted
   pub in-order : Mends (97 ∷ 9 ∷ 98 ∷ 0 ∷ 99 ∷ 10 ∷ 10 ∷ 100 ∷ []) (97 ∷ 32 ∷ 98 ∷ 32 ∷ 99 ∷ 10 ∷ 100 ∷ 32 ∷ 32 ∷ 32 ∷ 32 ∷ 10 ∷ [])
-      (entry 2 1 1 ∷ entry 2 1 3 ∷ entry 1 2 6 ∷ entry 3 3 8 ∷ entry 4 3 8 ∷ [])
+      (mendEntry 2 1 1 ∷ mendEntry 2 1 3 ∷ mendEntry 1 2 6 ∷ mendEntry 3 3 8 ∷ mendEntry 4 3 8 ∷ [])
   -- a record of spaces is not empty; at least L
-  pub spaces-kept : Mends (32 ∷ 10 ∷ []) (32 ∷ 32 ∷ 32 ∷ 10 ∷ []) (entry 3 1 1 ∷ [])
+  pub spaces-kept : Mends (32 ∷ 10 ∷ []) (32 ∷ 32 ∷ 32 ∷ 10 ∷ []) (mendEntry 3 1 1 ∷ [])
   -- a file of terminators only
-  pub ends-alone : Mends (13 ∷ 10 ∷ 13 ∷ 10 ∷ 13 ∷ []) [] (entry 1 1 0 ∷ entry 1 2 2 ∷ entry 1 3 4 ∷ [])
+  pub ends-alone : Mends (13 ∷ 10 ∷ 13 ∷ 10 ∷ 13 ∷ []) [] (mendEntry 1 1 0 ∷ mendEntry 1 2 2 ∷ mendEntry 1 3 4 ∷ [])
 
 pub cases : Cases
-unfolding mendedOf widthOf endingOf piecesOf cutFrom boundaryAt terminatorAt beginsWith onto firstOf behind terminatorOf mendedRecord
+unfolding mendedOf widthOf endingOf piecesOf cutFrom boundaryAt terminatorAt beginsWith onto firstPiece piecesBehind terminatorOf
+    mendedRecord
     plainByte
-    spaces terminatorBytes entriesOf pieceEntries byteEntries listedIf sameBoundary
+    spaces terminatorBytes mendEntries pieceEntries byteEntries listedIf sameBoundary
 cases = record {
   sound-stays = record { bytes = refl; entries = refl };
   pairs-first = record { bytes = refl; entries = refl };

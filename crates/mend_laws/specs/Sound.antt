@@ -11,10 +11,10 @@ use lib.IntN.{ℤ}
 use lib.ListN.{length, length-append}
 use Rattle.cuts.specs.declared.Terminator.{Terminator}
 use Rattle.cuts.specs.rule.Cut.{terminatorOf}
-use Rattle.cuts.specs.rule.Records.{Records, over, unended, record-and, recordsOf, terminatorBytes, laid}
+use Rattle.cuts.specs.rule.Records.{Records, over, unended, record-and, recordsOf, terminatorBytes, laid, lengthOfFirst}
 use Rattle.cuts.specs.Records.{laid-again}
 use Rattle.file_laws.specs.rule.Only.{Clean, next}
-use Rattle.file_laws.specs.rule.Files.{before, firstOf}
+use Rattle.file_laws.specs.rule.Files.{recordsBefore}
 use Rattle.file_laws.specs.Only.{no-terminator-inside}
 use Rattle.fields.specs.rule.Field.{spaces}
 use Rattle.sound.specs.rule.Sound.{wellFormed}
@@ -22,10 +22,11 @@ use Rattle.sound.specs.rule.Rows.{lengthOf, rowsOf}
 use Rattle.sound.specs.Rows.{parts, row-facts}
 use Rattle.pieces.specs.rule.Pieces.{Piece, cutFrom, piecesOf}
 use Rattle.pieces.specs.Laid.{pieces-laid}
-use Rattle.mends.specs.rule.Mend.{endingOf, plainByte, widthOf, isEmpty, mendedRecord, mendedOf, entriesOf, widthIn, bytesIn, listIn}
+use Rattle.mends.specs.rule.Mend.{endingOf, plainByte, widthOf, isEmpty, mendedRecord, mendedOf, mendEntries, widthOfRecords, bytesIn}
+use Rattle.mends.specs.rule.Mend.{listIn}
 use Rattle.mends.specs.Sizes.{width-rest, width-above, length-entries, length-plain, length-spaces}
 use Rattle.mends.specs.Whole.{unlisted}
-use Rattle.mend_laws.specs.rule.Mended.{Plain, nothing, plain, Shaped, all-ended, ended, SoundLines, keptOf}
+use Rattle.mend_laws.specs.rule.Mended.{NoneLow, nothing, plain, Shaped, all-ended, ended, SoundLines, keptOf}
 use Rattle.mend_laws.specs.Laid.{Four, four-sized, met, four-met, four-ending, plain-append, laidAll, AllWhole, no-records, whole}
 use Rattle.mend_laws.specs.Laid.{whole-unlisted, records-of-laid}
 
@@ -44,7 +45,7 @@ unfoldable pub paddedAll : ℕ → List (List ℕ) → List (List ℕ)
 paddedAll w [] = []
 paddedAll w (r ∷ rs) = padded w r ∷ paddedAll w rs
 
-plain-map : (r : List ℕ) → Plain (map plainByte r)
+plain-map : (r : List ℕ) → NoneLow (map plainByte r)
 unfolding plainByte
 plain-map [] = nothing
 plain-map (b ∷ r) = plain (go (ltb b 32) refl) (plain-map r)
@@ -53,7 +54,7 @@ plain-map (b ∷ r) = plain (go (ltb b 32) refl) (plain-map r)
     go true e = omega arith
     go false e = ltb-false b 32 e
 
-plain-spaces : (n : ℕ) → Plain (spaces n)
+plain-spaces : (n : ℕ) → NoneLow (spaces n)
 unfolding spaces
 plain-spaces zero = nothing
 plain-spaces (suc n) = let h : 32 ≤ 32 = omega arith in plain h (plain-spaces n)
@@ -87,14 +88,14 @@ padded-whole w v (p ∷ ps) h =
     go false l a = whole (length-padded w (p .bytes) l) (plain-append (plain-map (p .bytes)) (plain-spaces (w - length (p .bytes)))) a
 
 -- ---- a file of whole records is sound
-shaped-all : {w : ℕ} {rs : List (List ℕ)} → AllWhole w rs → (least : ℕ) → least ≤ w → Shaped least w (before rs over)
-unfolding before
+shaped-all : {w : ℕ} {rs : List (List ℕ)} → AllWhole w rs → (least : ℕ) → least ≤ w → Shaped least w (recordsBefore rs over)
+unfolding recordsBefore
 shaped-all no-records least h = all-ended
 shaped-all (whole l p a) least h = ended l h p (shaped-all a least h)
 
 shaped-before : {w : ℕ} {rs : List (List ℕ)} → AllWhole w rs → (least : ℕ) → least ≤ w
-    → Shaped least (firstOf (before rs over)) (before rs over)
-unfolding before firstOf
+    → Shaped least (lengthOfFirst (recordsBefore rs over)) (recordsBefore rs over)
+unfolding recordsBefore lengthOfFirst
 shaped-before no-records least h = all-ended
 shaped-before (whole l p a) least h = rw l (ended l h p (shaped-all a least h))
 
@@ -103,7 +104,7 @@ pub sound-whole : {e : Terminator} → Four e → {w : ℕ} {rs : List (List ℕ
 sound-whole f a h t g = record { shaped = rw (records-of-laid f a h) (shaped-before a (lengthOf t) g) }
 
 pub mended-sound : (t : List ℤ) (d : List ℕ) → wellFormed t ≡ true → SoundLines t (bytesIn t d)
-unfolding bytesIn widthIn piecesOf
+unfolding bytesIn widthOfRecords piecesOf
 mended-sound t d g =
     let w : ℕ = widthOf (lengthOf t) (cutFrom 0 d) in
     let l = width-above (lengthOf t) (cutFrom 0 d) in
@@ -131,7 +132,7 @@ clean-some : {w : Terminator} {r : List ℕ} {rs : Records} → Clean w (record-
 clean-some (next h n c) = h
 
 nothing-listed : (t : List ℤ) → listIn t [] ≡ []
-unfolding listIn widthIn piecesOf cutFrom entriesOf
+unfolding listIn widthOfRecords piecesOf cutFrom mendEntries
 nothing-listed t = refl
 
 over-none : (w : Terminator) → laid w over ≡ []
@@ -151,7 +152,7 @@ sound-unlisted t d g s = go (s .shaped) (no-terminator-inside d) (laid-again d)
         ∙ whole-unlisted f (shaped-whole y) (omega (arith, b, length-some t g)) t b
 
 pub unlisted-same : (t : List ℤ) (d : List ℕ) → listIn t d ≡ [] → bytesIn t d ≡ d
-unfolding bytesIn listIn widthIn piecesOf
+unfolding bytesIn listIn widthOfRecords piecesOf
 unlisted-same t d z =
     let w : ℕ = widthOf (lengthOf t) (cutFrom 0 d) in
     unlisted w (lengthOf t) (endingOf d) (cutFrom 0 d) (four-sized (four-ending d)) (omega arith)

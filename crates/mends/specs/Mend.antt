@@ -19,14 +19,14 @@ use Rattle.fields.specs.rule.Field.{spaces}
 use Rattle.cuts.specs.rule.Records.{terminatorBytes}
 use Rattle.below.specs.Below.{same-bool, lt-or-le}
 use Rattle.cuts.specs.declared.Terminator.{Terminator}
-use Rattle.cuts.specs.rule.Cut.{pair, terminatorOf}
+use Rattle.cuts.specs.rule.Cut.{twoBytes, terminatorOf}
 use Rattle.cuts.specs.Records.{part}
 use Rattle.pieces.specs.declared.Span.{Span}
 use Rattle.pieces.specs.rule.Pieces.{Piece, cutFrom}
 use Rattle.pieces.specs.Pieces.{Spans, lowCount, pieceAt}
 use Rattle.mends.specs.declared.Sizes.{Sizes}
-use Rattle.mends.specs.rule.Mend.{endingOf, sameBoundary, widthOf, recordOf, mendedOf, pieceEntries, entriesOf, numbersOf}
-use Rattle.mends.specs.rule.Mend.{plainByte, mendedRecord, Entry, entry, listedIf, byteEntries}
+use Rattle.mends.specs.rule.Mend.{endingOf, sameBoundary, widthOf, recordOf, mendedOf, pieceEntries, mendEntries, entryNumbers}
+use Rattle.mends.specs.rule.Mend.{plainByte, mendedRecord, MendEntry, mendEntry, listedIf, byteEntries}
 use Rattle.mends.specs.Stores.{sets-append, put-sets}
 use Rattle.mends.specs.Sizes.{tallied, sizesOf, Sized, numbers-append, width-rest, length-record, length-spaces}
 
@@ -67,7 +67,7 @@ module _ {A : Type 0} where
   stored-length {l} {l1} {k} {r} {a} x = ap length (x .stored) ∙ length-sets l k a
 
 -- the file's terminator
-pub ending-none : (d : List ℕ) → terminatorOf d .size ≡ 0 → endingOf d ≡ pair 13 10
+pub ending-none : (d : List ℕ) → terminatorOf d .size ≡ 0 → endingOf d ≡ twoBytes 13 10
 unfolding endingOf
 ending-none d e = rw (eq-eqb (terminatorOf d .size) 0 e)
 
@@ -176,22 +176,22 @@ module _ (d : List ℕ) (e : Terminator) (w i : ℕ) (p : Span) (u : Spans d i p
   mended-length = ap length mended-next ∙ length-append (recordOf w e (pieceAt d i p))
       (mendedOf w e (cutFrom 0 (drop (p .stop + p .boundary .size) d)))
 
-  pub entries-next : (n : ℕ) → numbersOf (entriesOf w e n i (cutFrom 0 (drop i d)))
-      ≡ numbersOf (pieceEntries w e n i (pieceAt d i p))
-      ++ numbersOf (entriesOf w e (n + 1) (p .stop + p .boundary .size) (cutFrom 0 (drop (p .stop + p .boundary .size) d)))
-  unfolding entriesOf
+  pub entries-next : (n : ℕ) → entryNumbers (mendEntries w e n i (cutFrom 0 (drop i d)))
+      ≡ entryNumbers (pieceEntries w e n i (pieceAt d i p))
+      ++ entryNumbers (mendEntries w e (n + 1) (p .stop + p .boundary .size) (cutFrom 0 (drop (p .stop + p .boundary .size) d)))
+  unfolding mendEntries
   entries-next n =
       let l = part-length d i (p .stop) (omega (arith, u .within)) in
       let q : i + length (part d i (p .stop)) + p .boundary .size ≡ p .stop + p .boundary .size = omega (arith, u .on) in
       rw (u .cuts, q) (numbers-append (pieceEntries w e n i (pieceAt d i p)) _)
 
-  pub entries-length : (n : ℕ) → length (numbersOf (entriesOf w e n i (cutFrom 0 (drop i d))))
-      ≡ length (numbersOf (pieceEntries w e n i (pieceAt d i p)))
-      + length (numbersOf (entriesOf w e (n + 1) (p .stop + p .boundary .size) (cutFrom 0 (drop (p .stop + p .boundary .size) d))))
+  pub entries-length : (n : ℕ) → length (entryNumbers (mendEntries w e n i (cutFrom 0 (drop i d))))
+      ≡ length (entryNumbers (pieceEntries w e n i (pieceAt d i p)))
+      + length (entryNumbers (mendEntries w e (n + 1) (p .stop + p .boundary .size) (cutFrom 0 (drop (p .stop + p .boundary .size) d))))
   entries-length n =
       ap length (entries-next n)
-      ∙ length-append (numbersOf (pieceEntries w e n i (pieceAt d i p)))
-      (numbersOf (entriesOf w e (n + 1) (p .stop + p .boundary .size) (cutFrom 0 (drop (p .stop + p .boundary .size) d))))
+      ∙ length-append (entryNumbers (pieceEntries w e n i (pieceAt d i p)))
+      (entryNumbers (mendEntries w e (n + 1) (p .stop + p .boundary .size) (cutFrom 0 (drop (p .stop + p .boundary .size) d))))
 
   pub width-next : widthOf 0 (cutFrom 0 (drop i d)) ≤ w
       → (p .stop - i ≤ w) × (widthOf 0 (cutFrom 0 (drop (p .stop + p .boundary .size) d)) ≤ w)
@@ -212,8 +212,8 @@ module _ (d : List ℕ) (e : Terminator) (i : ℕ) (h : length d ≤ i) where
   unfolding mendedOf cutFrom
   mended-over w = rw (drop-of-length-le d h)
 
-  pub entries-over : (w n at : ℕ) → numbersOf (entriesOf w e n at (cutFrom 0 (drop i d))) ≡ []
-  unfolding entriesOf cutFrom numbersOf
+  pub entries-over : (w n at : ℕ) → entryNumbers (mendEntries w e n at (cutFrom 0 (drop i d))) ≡ []
+  unfolding mendEntries cutFrom entryNumbers
   entries-over w n at = rw (drop-of-length-le d h)
 
 -- ---- a record byte by byte
@@ -233,24 +233,24 @@ module _ (d : List ℕ) (j stop : ℕ) where
   plain-over h = ap (map plainByte) (part-over h)
 
   module _ (n : ℕ) where
-    bytes-next : j < stop → stop ≤ length d → numbersOf (byteEntries n j (part d j stop))
-        ≡ numbersOf (listedIf (lowAt d j) (entry 2 n j)) ++ numbersOf (byteEntries n (j + 1) (part d (j + 1) stop))
+    bytes-next : j < stop → stop ≤ length d → entryNumbers (byteEntries n j (part d j stop))
+        ≡ entryNumbers (listedIf (lowAt d j) (mendEntry 2 n j)) ++ entryNumbers (byteEntries n (j + 1) (part d (j + 1) stop))
     unfolding byteEntries
     bytes-next h l =
-        ap (λ (x : List ℕ). numbersOf (byteEntries n j x)) (part-step h l)
-        ∙ numbers-append (listedIf (lowAt d j) (entry 2 n j)) (byteEntries n (j + 1) (part d (j + 1) stop))
+        ap (λ (x : List ℕ). entryNumbers (byteEntries n j x)) (part-step h l)
+        ∙ numbers-append (listedIf (lowAt d j) (mendEntry 2 n j)) (byteEntries n (j + 1) (part d (j + 1) stop))
 
-    pub bytes-over : stop ≤ j → numbersOf (byteEntries n j (part d j stop)) ≡ []
-    unfolding byteEntries numbersOf
-    bytes-over h = ap (λ (x : List ℕ). numbersOf (byteEntries n j x)) (part-over h)
+    pub bytes-over : stop ≤ j → entryNumbers (byteEntries n j (part d j stop)) ≡ []
+    unfolding byteEntries entryNumbers
+    bytes-over h = ap (λ (x : List ℕ). entryNumbers (byteEntries n j x)) (part-over h)
 
 -- ---- from one byte below 32 to the next: those between have no entry
 module _ (d : List ℕ) (stop n : ℕ) (l : stop ≤ length d) where
   abbrev rest : ℕ → List ℤ
-  rest j = numbersOf (byteEntries n j (part d j stop))
+  rest j = entryNumbers (byteEntries n j (part d j stop))
 
   bytes-on : (c j : ℕ) → ((i : ℕ) → j ≤ i → i < j + c → lowAt d i ≡ false) → rest j ≡ rest (j + c)
-  unfolding numbersOf listedIf
+  unfolding entryNumbers listedIf
   bytes-on zero j g = let e : j + 0 ≡ j = omega arith in rw e
   bytes-on (suc c) j g =
       let e : j + suc c ≡ j + 1 + c = omega arith in
@@ -265,12 +265,12 @@ module _ (d : List ℕ) (stop n : ℕ) (l : stop ≤ length d) where
       let e : j + (i - j) ≡ i = omega (arith, c .on) in
       rw e at (bytes-on (i - j) j (λ k a b. c .plain k a (rw e at b)))
 
-  pub bytes-low : (j : ℕ) → j < stop → lowAt d j ≡ true → rest j ≡ numbersOf (entry 2 n j ∷ []) ++ rest (j + 1)
+  pub bytes-low : (j : ℕ) → j < stop → lowAt d j ≡ true → rest j ≡ entryNumbers (mendEntry 2 n j ∷ []) ++ rest (j + 1)
   unfolding listedIf
   bytes-low j h e = rw e at (bytes-next d j stop n h l)
 
   pub bytes-low-length : (j : ℕ) → j < stop → lowAt d j ≡ true → length (rest j) ≡ 3 + length (rest (j + 1))
-  unfolding numbersOf
+  unfolding entryNumbers
   bytes-low-length j h e = let k = ap length (bytes-low j h e) in omega (arith, k)
 
 bytes-none : (n at : ℕ) (r : List ℕ) → lowCount r ≡ 0 → byteEntries n at r ≡ []
@@ -279,7 +279,7 @@ bytes-none n at [] h = refl
 bytes-none n at (b ∷ r) h = go (ltb b 32) h (λ z. bytes-none n (at + 1) r z)
   where
     go : (q : Bool) → cond q 1 0 + lowCount r ≡ 0 → (lowCount r ≡ 0 → byteEntries n (at + 1) r ≡ [])
-        → listedIf q (entry 2 n at) ++ byteEntries n (at + 1) r ≡ []
+        → listedIf q (mendEntry 2 n at) ++ byteEntries n (at + 1) r ≡ []
     go true z f = absurd (omega arith)
     go false z f = f (omega arith)
 
@@ -289,40 +289,42 @@ module _ (d : List ℕ) (e : Terminator) (w i : ℕ) (p : Span) (u : Spans d i p
   long = part-length d i (p .stop) (omega (arith, u .within))
 
   -- its end: padded, and another terminator
-  abbrev pub endEntries : ℕ → List Entry
-  endEntries n = listedIf (ltb (p .stop - i) w) (entry 3 n (p .stop)) ++ cond (sameBoundary e (p .boundary)) [] (entry 4 n (p .stop) ∷ [])
+  abbrev pub endEntries : ℕ → List MendEntry
+  endEntries n = listedIf (ltb (p .stop - i) w) (mendEntry 3 n (p .stop))
+      ++ cond (sameBoundary e (p .boundary)) [] (mendEntry 4 n (p .stop) ∷ [])
 
-  pub piece-empty : (n : ℕ) → p .stop ≡ i → pieceEntries w e n i (pieceAt d i p) ≡ entry 1 n i ∷ []
+  pub piece-empty : (n : ℕ) → p .stop ≡ i → pieceEntries w e n i (pieceAt d i p) ≡ mendEntry 1 n i ∷ []
   unfolding pieceEntries
   piece-empty n h = let z : length (part d i (p .stop)) ≡ 0 = long ∙ omega arith in rw (eq-eqb (length (part d i (p .stop))) 0 z)
 
-  pub piece-full : (n : ℕ) → (p .stop ≡ i → ⊥) → numbersOf (pieceEntries w e n i (pieceAt d i p))
-      ≡ numbersOf (byteEntries n i (part d i (p .stop))) ++ numbersOf (endEntries n)
+  pub piece-full : (n : ℕ) → (p .stop ≡ i → ⊥) → entryNumbers (pieceEntries w e n i (pieceAt d i p))
+      ≡ entryNumbers (byteEntries n i (part d i (p .stop))) ++ entryNumbers (endEntries n)
   unfolding pieceEntries
   piece-full n h =
-      let x : List Entry = byteEntries n i (part d i (p .stop)) in
+      let x : List MendEntry = byteEntries n i (part d i (p .stop)) in
       let k : i + length (part d i (p .stop)) ≡ p .stop = omega (arith, long, u .on) in
       let z : eqb (length (part d i (p .stop))) 0 ≡ false = ne-eqb (length (part d i (p .stop))) 0 (λ q. omega (arith, long, u .on)) in
-      ap (λ (b : Bool). numbersOf (cond b (entry 1 n i ∷ [])
-      (x ++ listedIf (ltb (length (part d i (p .stop))) w) (entry 3 n (i + length (part d i (p .stop))))
-      ++ cond (sameBoundary e (p .boundary)) [] (entry 4 n (i + length (part d i (p .stop))) ∷ [])))) z
-      ∙ ap (λ (a : ℕ). numbersOf (x ++ listedIf (ltb (length (part d i (p .stop))) w) (entry 3 n a)
-      ++ cond (sameBoundary e (p .boundary)) [] (entry 4 n a ∷ []))) k
-      ∙ ap (λ (a : ℕ). numbersOf (x ++ listedIf (ltb a w) (entry 3 n (p .stop))
-      ++ cond (sameBoundary e (p .boundary)) [] (entry 4 n (p .stop) ∷ []))) long
-      ∙ ap numbersOf (append-assoc x (listedIf (ltb (p .stop - i) w) (entry 3 n (p .stop)))
-      (cond (sameBoundary e (p .boundary)) [] (entry 4 n (p .stop) ∷ [])))
+      ap (λ (b : Bool). entryNumbers (cond b (mendEntry 1 n i ∷ [])
+      (x ++ listedIf (ltb (length (part d i (p .stop))) w) (mendEntry 3 n (i + length (part d i (p .stop))))
+      ++ cond (sameBoundary e (p .boundary)) [] (mendEntry 4 n (i + length (part d i (p .stop))) ∷ [])))) z
+      ∙ ap (λ (a : ℕ). entryNumbers (x ++ listedIf (ltb (length (part d i (p .stop))) w) (mendEntry 3 n a)
+      ++ cond (sameBoundary e (p .boundary)) [] (mendEntry 4 n a ∷ []))) k
+      ∙ ap (λ (a : ℕ). entryNumbers (x ++ listedIf (ltb a w) (mendEntry 3 n (p .stop))
+      ++ cond (sameBoundary e (p .boundary)) [] (mendEntry 4 n (p .stop) ∷ []))) long
+      ∙ ap entryNumbers (append-assoc x (listedIf (ltb (p .stop - i) w) (mendEntry 3 n (p .stop)))
+      (cond (sameBoundary e (p .boundary)) [] (mendEntry 4 n (p .stop) ∷ [])))
       ∙ numbers-append x (endEntries n)
 
-  pub piece-length : (n : ℕ) → (p .stop ≡ i → ⊥) → length (numbersOf (pieceEntries w e n i (pieceAt d i p)))
-      ≡ length (numbersOf (byteEntries n i (part d i (p .stop)))) + length (numbersOf (endEntries n))
-  piece-length n h = ap length (piece-full n h) ∙ length-append (numbersOf (byteEntries n i (part d i (p .stop))))
-      (numbersOf (endEntries n))
+  pub piece-length : (n : ℕ) → (p .stop ≡ i → ⊥) → length (entryNumbers (pieceEntries w e n i (pieceAt d i p)))
+      ≡ length (entryNumbers (byteEntries n i (part d i (p .stop)))) + length (entryNumbers (endEntries n))
+  piece-length n h = ap length (piece-full n h) ∙ length-append (entryNumbers (byteEntries n i (part d i (p .stop))))
+      (entryNumbers (endEntries n))
 
-  pub piece-plain : (n : ℕ) → (p .stop ≡ i → ⊥) → p .lows ≡ 0 → numbersOf (pieceEntries w e n i (pieceAt d i p)) ≡ numbersOf (endEntries n)
-  unfolding numbersOf
+  pub piece-plain : (n : ℕ) → (p .stop ≡ i → ⊥) → p .lows ≡ 0 → entryNumbers (pieceEntries w e n i (pieceAt d i p))
+      ≡ entryNumbers (endEntries n)
+  unfolding entryNumbers
   piece-plain n h z =
-      piece-full n h ∙ ap (λ (x : List Entry). numbersOf x ++ numbersOf (endEntries n))
+      piece-full n h ∙ ap (λ (x : List MendEntry). entryNumbers x ++ entryNumbers (endEntries n))
       (bytes-none n i (part d i (p .stop)) (sym (u .counted) ∙ z))
 
   pub record-empty : p .stop ≡ i → recordOf w e (pieceAt d i p) ≡ []

@@ -16,9 +16,9 @@ use Rattle.fields.specs.rule.Field.{spaces}
 use Rattle.pieces.specs.rule.Pieces.{Piece}
 use Rattle.pieces.specs.Pieces.{lowCount}
 use Rattle.mends.specs.declared.Sizes.{Sizes}
-use Rattle.mends.specs.rule.Mend.{plainByte, widthOf, isEmpty, mendedRecord, mendedOf, Entry, entry, listedIf, byteEntries}
+use Rattle.mends.specs.rule.Mend.{plainByte, widthOf, isEmpty, mendedRecord, mendedOf, MendEntry, mendEntry, listedIf, byteEntries}
 use Rattle.mends.specs.rule.Mend.{sameBoundary}
-use Rattle.mends.specs.rule.Mend.{pieceEntries, entriesOf, numbersOf}
+use Rattle.mends.specs.rule.Mend.{pieceEntries, mendEntries, entryNumbers}
 
 abbrev pub one : Bool → ℕ
 one b = cond b 1 0
@@ -169,7 +169,7 @@ module _ (e : Terminator) where
           (shortIn (widthOf (larger (z .width) (length (p .bytes))) ps) ps) (width-above (larger (z .width) (length (p .bytes))) ps))
 
 -- ---- how long the list is
-length-listed : (q : Bool) (x : Entry) → length (listedIf q x) ≡ one q
+length-listed : (q : Bool) (x : MendEntry) → length (listedIf q x) ≡ one q
 unfolding listedIf
 length-listed true x = refl
 length-listed false x = refl
@@ -177,10 +177,10 @@ length-listed false x = refl
 pub length-bytes : (n at : ℕ) (r : List ℕ) → length (byteEntries n at r) ≡ lowCount r
 unfolding byteEntries lowCount
 length-bytes n at [] = refl
-length-bytes n at (b ∷ r) = length-append (listedIf (ltb b 32) (entry 2 n at)) (byteEntries n (at + 1) r)
-    ∙ rw (length-listed (ltb b 32) (entry 2 n at), length-bytes n (at + 1) r)
+length-bytes n at (b ∷ r) = length-append (listedIf (ltb b 32) (mendEntry 2 n at)) (byteEntries n (at + 1) r)
+    ∙ rw (length-listed (ltb b 32) (mendEntry 2 n at), length-bytes n (at + 1) r)
 
-length-unended : (q : Bool) (x : Entry) → length (cond q [] (x ∷ [])) ≡ cond q 0 1
+length-unended : (q : Bool) (x : MendEntry) → length (cond q [] (x ∷ [])) ≡ cond q 0 1
 length-unended true x = refl
 length-unended false x = refl
 
@@ -189,23 +189,23 @@ pub length-piece : (w : ℕ) (e : Terminator) (n at : ℕ) (p : Piece) → lengt
 unfolding pieceEntries
 length-piece w e n at p = go (isEmpty p)
   where
-    x : Entry
-    x = entry 3 n (at + length (p .bytes))
+    x : MendEntry
+    x = mendEntry 3 n (at + length (p .bytes))
 
-    y : Entry
-    y = entry 4 n (at + length (p .bytes))
+    y : MendEntry
+    y = mendEntry 4 n (at + length (p .bytes))
 
-    go : (q : Bool) → length (cond q (entry 1 n at ∷ []) (byteEntries n at (p .bytes) ++ listedIf (ltb (length (p .bytes)) w) x
+    go : (q : Bool) → length (cond q (mendEntry 1 n at ∷ []) (byteEntries n at (p .bytes) ++ listedIf (ltb (length (p .bytes)) w) x
         ++ cond (sameBoundary e (p .boundary)) [] (y ∷ [])))
         ≡ cond q 1 (lowCount (p .bytes) + (one (ltb (length (p .bytes)) w) + cond (sameBoundary e (p .boundary)) 0 1))
     go true = refl
     go false = simp (length-append, length-bytes, length-listed, length-unended) (omega arith)
 
-pub length-entries : (w : ℕ) (e : Terminator) (n at : ℕ) (ps : List Piece) → length (entriesOf w e n at ps) ≡ othersIn e ps + shortIn w ps
-unfolding entriesOf othersIn shortIn
+pub length-entries : (w : ℕ) (e : Terminator) (n at : ℕ) (ps : List Piece) → length (mendEntries w e n at ps) ≡ othersIn e ps + shortIn w ps
+unfolding mendEntries othersIn shortIn
 length-entries w e n at [] = refl
 length-entries w e n at (p ∷ ps) =
-    length-append (pieceEntries w e n at p) (entriesOf w e (n + 1) (at + length (p .bytes) + p .boundary .size) ps)
+    length-append (pieceEntries w e n at p) (mendEntries w e (n + 1) (at + length (p .bytes) + p .boundary .size) ps)
     ∙ rw (length-piece w e n at p, length-entries w e (n + 1) (at + length (p .bytes) + p .boundary .size) ps) (go (isEmpty p))
   where
     go : (q : Bool) → cond q 1 (lowCount (p .bytes) + (one (ltb (length (p .bytes)) w) + cond (sameBoundary e (p .boundary)) 0 1))
@@ -215,13 +215,13 @@ length-entries w e n at (p ∷ ps) =
     go true = omega arith
     go false = omega arith
 
-pub length-numbers : (l : List Entry) → length (numbersOf l) ≡ 3 * length l
-unfolding numbersOf
+pub length-numbers : (l : List MendEntry) → length (entryNumbers l) ≡ 3 * length l
+unfolding entryNumbers
 length-numbers [] = refl
 length-numbers (x ∷ l) = let h = length-numbers l in omega arith
 
-pub numbers-append : (a b : List Entry) → numbersOf (a ++ b) ≡ numbersOf a ++ numbersOf b
-unfolding numbersOf
+pub numbers-append : (a b : List MendEntry) → entryNumbers (a ++ b) ≡ entryNumbers a ++ entryNumbers b
+unfolding entryNumbers
 numbers-append [] b = refl
 numbers-append (x ∷ a) b = rw (numbers-append a b)
 

@@ -22,9 +22,9 @@ use Rattle.pieces.specs.Laid.{pieces-laid}
 use Rattle.mends.specs.declared.Sizes.{Sizes}
 use Rattle.mends.specs.declared.Mended.{Mended}
 use Rattle.mends.specs.declared.Mended.the-variants as M
-use Rattle.mends.specs.rule.Mend.{endingOf, plainByte, widthOf, isEmpty, mendedRecord, recordOf, mendedOf, Entry, sameBoundary}
-use Rattle.mends.specs.rule.Mend.{entriesOf, numbersOf}
-use Rattle.mends.specs.rule.Mend.{widthIn, bytesIn, listIn, Outcome, done, refused, said, mendedAs, after, Mends}
+use Rattle.mends.specs.rule.Mend.{endingOf, plainByte, widthOf, isEmpty, mendedRecord, recordOf, mendedOf, MendEntry, sameBoundary}
+use Rattle.mends.specs.rule.Mend.{mendEntries, entryNumbers}
+use Rattle.mends.specs.rule.Mend.{widthOfRecords, bytesIn, listIn, MendAnswer, done, refused, mendSaid, mendedAs, keptOrNew, Mends}
 use Rattle.mends.specs.Stores.{sets-front, put-sets}
 use Rattle.mends.specs.Sizes.{one, larger, sizesOf, keptIn, shortIn, othersIn, sizes-width, sizes-kept, sizes-others, sizes-short}
 use Rattle.mends.specs.Sizes.{length-entries, length-numbers, length-mended, Sized, width-rest, width-least}
@@ -90,7 +90,7 @@ unlisted w v e (p ∷ ps) s h z =
 
 -- ---- the counts of a file say how long its output and its list are
 pub record Counts (t : List ℤ) (d : List ℕ) (e : Terminator) (z : Sizes) : Type 0 where
-  pub width : z .width ≡ widthIn t d
+  pub width : z .width ≡ widthOfRecords t d
   pub bytes : z .kept * (z .width + e .size) ≡ length (bytesIn t d)
   pub entries : z .others + z .short ≡ length (listIn t d)
 
@@ -101,12 +101,12 @@ unfolding bytesIn piecesOf
 said-bytes f c = rw (c .width, f .is)
 
 pub said-list : {t : List ℤ} {d : List ℕ} {e : Terminator} {z : Sizes} → Ends d e → Counts t d e z
-    → numbersOf (entriesOf (z .width) e 1 0 (cutFrom 0 d)) ≡ numbersOf (listIn t d)
+    → entryNumbers (mendEntries (z .width) e 1 0 (cutFrom 0 d)) ≡ entryNumbers (listIn t d)
 unfolding listIn piecesOf
 said-list f c = rw (c .width, f .is)
 
 pub wide-enough : {t : List ℤ} {d : List ℕ} {e : Terminator} {z : Sizes} → Counts t d e z → widthOf 0 (cutFrom 0 d) ≤ z .width
-unfolding widthIn piecesOf
+unfolding widthOfRecords piecesOf
 wide-enough {t} {d} c = rw (c .width) (width-least (lengthOf t) (cutFrom 0 d))
 
 neither : (q : Bool) → _≡_ {A = ℕ} (cond q 0 0) 0
@@ -114,7 +114,7 @@ neither true = refl
 neither false = refl
 
 pub counts : (t : List ℤ) (d : List ℕ) (e : Terminator) (z : Sizes) → Ends d e → Measured d e (lengthOf t) z → Counts t d e z
-unfolding widthIn bytesIn listIn piecesOf
+unfolding widthOfRecords bytesIn listIn piecesOf
 counts t d e z f m =
     let ps : List Piece = cutFrom 0 d in
     let w : z .width ≡ widthOf (lengthOf t) ps = ap (λ (x : Sizes). x .width) (m .is) ∙ sizes-width e (start (lengthOf t)) ps in
@@ -148,7 +148,7 @@ room-says room cells b n q h = go (leb n cells) refl (leb b room) refl q h
 
 module _ (t : List ℤ) (d out : List ℕ) (list : List ℤ) where
   pub mends-bad : wellFormed t ≡ false → Mends t d out out list list M.BadTable
-  unfolding said mendedAs after
+  unfolding mendSaid mendedAs keptOrNew
   mends-bad h = record { says = rw h; mended = rw h; listed = rw h }
 
   module _ (h : wellFormed t ≡ true) (e : Terminator) (z : Sizes) (c : Counts t d e z) where
@@ -166,24 +166,24 @@ module _ (t : List ℤ) (d out : List ℕ) (list : List ℤ) where
 
     pub mends-short : leb (3 * (z .others + z .short)) (length list) && leb (z .kept * (z .width + e .size)) (length out) ≡ false
         → Mends t d out out list list M.NoRoom
-    unfolding said after
+    unfolding mendSaid keptOrNew
     mends-short r = let m = rooms false r in record { says = sym m; mended = rw m; listed = rw m }
 
     module _ (r : leb (3 * (z .others + z .short)) (length list) && leb (z .kept * (z .width + e .size)) (length out) ≡ true) where
       pub room-out : length (bytesIn t d) ≤ length out
       room-out = rw (← (c .bytes)) (leb-true _ _ (and-right (leb (3 * (z .others + z .short)) (length list)) _ r))
 
-      pub room-list : length (numbersOf (listIn t d)) ≤ length list
+      pub room-list : length (entryNumbers (listIn t d)) ≤ length list
       room-list = rw (length-numbers (listIn t d), ← (c .entries))
           (leb-true _ _ (and-left (leb (3 * (z .others + z .short)) (length list)) _ r))
 
-      pub mends-done : (out′ : List ℕ) (list′ : List ℤ) → out′ ≡ sets out 0 (bytesIn t d) → list′ ≡ sets list 0 (numbersOf (listIn t d))
+      pub mends-done : (out′ : List ℕ) (list′ : List ℤ) → out′ ≡ sets out 0 (bytesIn t d) → list′ ≡ sets list 0 (entryNumbers (listIn t d))
           → Mends t d out out′ list list′ (M.Done (z .kept * (z .width + e .size)) (z .others + z .short))
-      unfolding said after
+      unfolding mendSaid keptOrNew
       mends-done out′ list′ a b = let m = rooms true r in record {
         says = rw (m, c .bytes, c .entries);
         mended = rw m (a ∙ sets-front out (bytesIn t d) room-out);
-        listed = rw m (b ∙ sets-front list (numbersOf (listIn t d)) room-list);
+        listed = rw m (b ∙ sets-front list (entryNumbers (listIn t d)) room-list);
       }
 
       none-left : {A : Type 0} (l : List A) → length l ≡ 0 → l ≡ []
@@ -192,7 +192,7 @@ module _ (t : List ℤ) (d out : List ℕ) (list : List ℤ) where
 
       -- nothing to list: the input is copied
       bytes-same : Ends d e → z .others + z .short ≡ 0 → bytesIn t d ≡ d
-      unfolding bytesIn widthIn listIn piecesOf
+      unfolding bytesIn widthOfRecords listIn piecesOf
       bytes-same f n =
           let k : othersIn (endingOf d) (cutFrom 0 d) + shortIn (widthOf (lengthOf t) (cutFrom 0 d)) (cutFrom 0 d) ≡ 0 =
           sym (length-entries (widthOf (lengthOf t) (cutFrom 0 d)) (endingOf d) 1 0 (cutFrom 0 d)) ∙ sym (c .entries) ∙ n in
@@ -204,7 +204,7 @@ module _ (t : List ℤ) (d out : List ℕ) (list : List ℤ) where
 
       pub mends-copied : Ends d e → z .others + z .short ≡ 0 → (out′ : List ℕ) → out′ ≡ put out (run 0 (length d)) (take (length d) d)
           → Mends t d out out′ list list (M.Done (z .kept * (z .width + e .size)) (z .others + z .short))
-      unfolding numbersOf
+      unfolding entryNumbers
       mends-copied f n out′ a =
           let s = bytes-same f n in
           let l : listIn t d ≡ [] = none-left (listIn t d) (sym (c .entries) ∙ n) in

@@ -12,7 +12,8 @@ ghost use Rattle.cuts.specs.Records.{part};
 ghost use Rattle.cuts.specs.rule.Records.{terminatorBytes};
 ghost use Rattle.pieces.specs.rule.Pieces.{cutFrom};
 ghost use Rattle.pieces.specs.Pieces.{Spans, pieceAt};
-ghost use Rattle.mends.specs.rule.Mend.{sameBoundary, entry, byteEntries, listedIf, pieceEntries, entriesOf, numbersOf, Mends};
+ghost use Rattle.mends.specs.rule.Mend.{sameBoundary, mendEntry, byteEntries, listedIf, pieceEntries, mendEntries, entryNumbers};
+ghost use Rattle.mends.specs.rule.Mend.{Mends};
 ghost use Rattle.mends.specs.rule.Mend.{plainByte, widthOf, recordOf, mendedOf};
 ghost use Rattle.mends.specs.Sizes.{tallied, Sized};
 ghost use Rattle.mends.specs.Mend.{Stored, Ends, Measured};
@@ -157,7 +158,7 @@ fn cell(n: usize) -> i64
 fn note(list: &mut [i64], k: usize, kind: usize, number: usize, place: usize)
     requires { ⌜ k + 3 ≤ length (now list) ⌝ }
     requires { ⌜ (kind < 5) × (number < 9223372036854775808) × (place < 9223372036854775808) ⌝ }
-    ensures { λ _. ⌜ Stored (now (list .entry)) (now (list .exit)) k (numbersOf (entry kind number place ∷ [])) (k + 3) ⌝ }
+    ensures { λ _. ⌜ Stored (now (list .entry)) (now (list .exit)) k (entryNumbers (mendEntry kind number place ∷ [])) (k + 3) ⌝ }
 {
     let a = cell(kind);
     let b = cell(number);
@@ -177,8 +178,9 @@ fn note_bytes(
     k: usize,
 ) -> usize
     requires { ⌜ (from ≤ stop) × (stop ≤ length (now d)) × (number < 9223372036854775808) ⌝ }
-    requires { ⌜ k + length (numbersOf (byteEntries number from (part (now d) from stop))) ≤ length (now list) ⌝ }
-    ensures { λ r. ⌜ Stored (now (list .entry)) (now (list .exit)) k (numbersOf (byteEntries number from (part (now (d .entry)) from stop)))
+    requires { ⌜ k + length (entryNumbers (byteEntries number from (part (now d) from stop))) ≤ length (now list) ⌝ }
+    ensures { λ r. ⌜ Stored (now (list .entry)) (now (list .exit)) k
+        (entryNumbers (byteEntries number from (part (now (d .entry)) from stop)))
         r ⌝ }
 {
     let mut j = pieces::low_from(d, from);
@@ -201,10 +203,10 @@ fn note_end(
     stop: usize,
 ) -> usize
     requires { ⌜ (number < 9223372036854775808) × (stop < 9223372036854775808) ⌝ }
-    requires { ⌜ k + length (numbersOf (listedIf padded (entry 3 number stop) ++ cond ended [] (entry 4 number stop ∷ [])))
+    requires { ⌜ k + length (entryNumbers (listedIf padded (mendEntry 3 number stop) ++ cond ended [] (mendEntry 4 number stop ∷ [])))
         ≤ length (now list) ⌝ }
     ensures { λ r. ⌜ Stored (now (list .entry)) (now (list .exit)) k
-        (numbersOf (listedIf padded (entry 3 number stop) ++ cond ended [] (entry 4 number stop ∷ []))) r ⌝ }
+        (entryNumbers (listedIf padded (mendEntry 3 number stop) ++ cond ended [] (mendEntry 4 number stop ∷ []))) r ⌝ }
 {
     if padded {
         note(list, k, 3, number, stop);
@@ -270,9 +272,9 @@ fn note_piece(
 ) -> usize
     requires { ⌜ Spans (now d) from p ⌝ }
     requires { ⌜ number < 9223372036854775808 ⌝ }
-    requires { ⌜ k + length (numbersOf (pieceEntries width e number from (pieceAt (now d) from p))) ≤ length (now list) ⌝ }
+    requires { ⌜ k + length (entryNumbers (pieceEntries width e number from (pieceAt (now d) from p))) ≤ length (now list) ⌝ }
     ensures { λ r. ⌜ Stored (now (list .entry)) (now (list .exit)) k
-        (numbersOf (pieceEntries width e number from (pieceAt (now (d .entry)) from p))) r ⌝ }
+        (entryNumbers (pieceEntries width e number from (pieceAt (now (d .entry)) from p))) r ⌝ }
 {
     let stop = p.stop;
     let boundary = p.boundary;
@@ -320,9 +322,9 @@ fn lay_piece(
 fn mend_into(d: &[u8], e: Terminator, width: usize, out: &mut [u8], list: &mut [i64])
     requires { ⌜ Sized e × (widthOf 0 (cutFrom 0 (now d)) ≤ width) ⌝ }
     requires { ⌜ length (mendedOf width e (cutFrom 0 (now d))) ≤ length (now out) ⌝ }
-    requires { ⌜ length (numbersOf (entriesOf width e 1 0 (cutFrom 0 (now d)))) ≤ length (now list) ⌝ }
+    requires { ⌜ length (entryNumbers (mendEntries width e 1 0 (cutFrom 0 (now d)))) ≤ length (now list) ⌝ }
     ensures { λ _. ⌜ now (out .exit) ≡ sets (now (out .entry)) 0 (mendedOf width e (cutFrom 0 (now (d .entry)))) ⌝ }
-    ensures { λ _. ⌜ now (list .exit) ≡ sets (now (list .entry)) 0 (numbersOf (entriesOf width e 1 0 (cutFrom 0 (now (d .entry))))) ⌝ }
+    ensures { λ _. ⌜ now (list .exit) ≡ sets (now (list .entry)) 0 (entryNumbers (mendEntries width e 1 0 (cutFrom 0 (now (d .entry))))) ⌝ }
 {
     let mut i: usize = 0;
     let mut number: usize = 0;

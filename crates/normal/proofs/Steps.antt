@@ -29,7 +29,7 @@ use Rattle.readings.specs.Answer.{answerOf, RowRead}
 use Rattle.readings.specs.declared.Answer.{Answer}
 use Rattle.writes.specs.declared.Value as given
 use Rattle.writes.specs.declared.Wrote.{Wrote}
-use Rattle.writes.specs.rule.Write.{valueOf}
+use Rattle.writes.specs.rule.Write.{lentValue}
 use Rattle.writes.specs.Write.{WrittenBy, leftBy}
 use Rattle.sound.specs.rule.Sound.{wellFormed}
 use Rattle.sound.specs.rule.Rows.{rowsOf, lengthOf}
@@ -39,7 +39,7 @@ use Rattle.records.specs.Tables.{TableReady, table-ready}
 use Rattle.sharing.specs.rule.Sharing.{sharesNone}
 use Rattle.records.specs.rule.Verdict.{Verdict, refused, rowsVerdict, verdictOf}
 use Rattle.files.specs.rule.File.{isSound}
-use Rattle.normal.specs.rule.Normal.{fieldBack, backOf, settled, normalForm, normalVerdict, normalAfter, Normalised}
+use Rattle.normal.specs.rule.Normal.{fieldBack, backOf, settledRow, normalForm, normalVerdict, normalAfter, Normalised}
 use Rattle.normal.specs.Settle.{stays, HeldAs, Settles}
 
 -- ---- rows that stand as they would be written
@@ -105,7 +105,7 @@ module _ (t : List ℤ) (v : ℕ) (r : Row) (s : List ℕ) where
 
   -- ---- and written back
   pub written-back : {new : List ℕ} {value : given.Value} {list : List ℤ} {x : List ℕ} {w : Wrote} (h : Value) → readingOf t v r s ≡ holds h
-      → valueOf value list x ≡ h → WrittenBy (r .kind) t v r value list x s new w → new ≡ backOf t v r s
+      → lentValue value list x ≡ h → WrittenBy (r .kind) t v r value list x s new w → new ≡ backOf t v r s
   unfolding fieldBack leftBy writtenOf
   written-back h q e w = w .leaves ∙ rw (e, read-fits t v r h s q, q)
 
@@ -133,20 +133,21 @@ pub held : (t : List ℤ) (v : ℕ) (r : Row) (s : List ℕ) (list : List ℤ) {
 held t v r s list e h = subst (λ (x : Answer). HeldAs t v r s list x) e h
 
 -- ---- rows one after the other
-pub settled-next : (t : List ℤ) (v n : ℕ) (s : List ℕ) → settled t v (n + 1) s ≡ backOf t v (rowAt t n) (settled t v n s)
-unfolding settled
+pub settled-next : (t : List ℤ) (v n : ℕ) (s : List ℕ) → settledRow t v (n + 1) s ≡ backOf t v (rowAt t n) (settledRow t v n s)
+unfolding settledRow
 settled-next t v n s = rw (add-one n)
 
 pub settled-step : (t : List ℤ) (v i : ℕ) (s : List ℕ) {row : Row} {bytes new : List ℕ} → new ≡ backOf t v row bytes → row ≡ rowAt t i
-    → bytes ≡ settled t v i s → new ≡ settled t v (i + 1) s
+    → bytes ≡ settledRow t v i s → new ≡ settledRow t v (i + 1) s
 settled-step t v i s {row} {bytes} {new} e q b =
     e ∙ ap (λ (r : Row). backOf t v r bytes) q ∙ ap (backOf t v (rowAt t i)) b ∙ sym (settled-next t v i s)
 
-pub settled-whole : (t : List ℤ) (v i : ℕ) (s : List ℕ) {bytes : List ℕ} → bytes ≡ settled t v i s → v ≤ i → i ≤ v → bytes ≡ settled t v v s
+pub settled-whole : (t : List ℤ) (v i : ℕ) (s : List ℕ) {bytes : List ℕ} → bytes ≡ settledRow t v i s → v ≤ i → i ≤ v → bytes
+    ≡ settledRow t v v s
 settled-whole t v i s e a b = let z : i ≡ v = omega arith in e ∙ rw z
 
-pub settled-none : (t : List ℤ) (v : ℕ) (s : List ℕ) → s ≡ settled t v 0 s
-unfolding settled
+pub settled-none : (t : List ℤ) (v : ℕ) (s : List ℕ) → s ≡ settledRow t v 0 s
+unfolding settledRow
 settled-none t v s = refl
 
 -- ---- the call
@@ -203,5 +204,5 @@ module _ (t : List ℤ) (old : List ℕ) (good : wellFormed t ≡ true) (h : Hea
         pub judged-not : c ≡ false → Normalised t old old v
         judged-not x = refused-as t old good (here y) judged (sym s ∙ x)
 
-        pub judged-done : c ≡ true → {new : List ℕ} → new ≡ settled t (h .rows) (h .rows) old → Normalised t old new v
+        pub judged-done : c ≡ true → {new : List ℕ} → new ≡ settledRow t (h .rows) (h .rows) old → Normalised t old new v
         judged-done x e = done-as t old good (here y) judged (sym s ∙ x) (rw head at e)

@@ -11,7 +11,7 @@ ghost use Rattle.records.specs.Tables.{TableReady};
 ghost use Rattle.files.specs.rule.File.{isSound};
 ghost use Rattle.writes.specs.Write.{Ready};
 ghost use Rattle.sharing.specs.Known.{TableKnown};
-ghost use Rattle.normal.specs.rule.Normal.{backOf, settled, normalSaid, Normalised};
+ghost use Rattle.normal.specs.rule.Normal.{backOf, settledRow, normalSaid, Normalised};
 ghost use Rattle.normal.specs.Settle as settle;
 ghost use Rattle.normal.specs.Settle.{HeldAs, Settles, TableSettles};
 use layout::Header;
@@ -142,7 +142,7 @@ fn settle_at(
 fn settle_rows(powers: &[u64; 16], t: &[i64], rows: usize, list: &mut [i64], bytes: &mut [u8])
     requires { ⌜ Tens (now powers) ⌝ }
     requires { ⌜ TableSettles (now t) rows (length (now bytes)) (length (now list)) ⌝ }
-    ensures { λ _. ⌜ now (bytes .exit) ≡ settled (now (t .entry)) rows rows (now (bytes .entry)) ⌝ }
+    ensures { λ _. ⌜ now (bytes .exit) ≡ settledRow (now (t .entry)) rows rows (now (bytes .entry)) ⌝ }
 {
     let mut i: usize = 0;
     while i < rows {
@@ -155,7 +155,7 @@ fn settle_rows(powers: &[u64; 16], t: &[i64], rows: usize, list: &mut [i64], byt
 fn settle_all(t: &[i64], rows: usize, len: usize, bytes: &mut [u8])
     requires { ⌜ TableKnown (now t) rows len ⌝ }
     requires { ⌜ len ≤ length (now bytes) ⌝ }
-    ensures { λ _. ⌜ now (bytes .exit) ≡ settled (now (t .entry)) rows rows (now (bytes .entry)) ⌝ }
+    ensures { λ _. ⌜ now (bytes .exit) ≡ settledRow (now (t .entry)) rows rows (now (bytes .entry)) ⌝ }
 {
     let powers = ascii::powers();
     if len <= SHORT {

@@ -31,7 +31,7 @@ use Rattle.laws.specs.Tops.{row-topped}
 use Rattle.sharing.specs.rule.Sharing.{isOut, areApart, placesAt, sharesNone}
 use Rattle.sharing.specs.Claims.{by-cases, none-out, out-cases}
 use Rattle.sharing.specs.Pairs.{apart-rows, apart-turn, apart-is, is-apart, out-is, is-out}
-use Rattle.normal.specs.rule.Normal.{fieldBack, backOf, settled, normalForm}
+use Rattle.normal.specs.rule.Normal.{fieldBack, backOf, settledRow, normalForm}
 use Rattle.normal_laws.specs.rule.Alike.{OutAll, AgreeOutside, ReadAlike, backAll, EveryRow}
 
 -- a field that is not illegal holds a value
@@ -134,8 +134,8 @@ module _ {t : List ℤ} {old : List ℕ} (g : Given t old) where
   turn n h d = held-value (readingAt t n old) (g .legal-rows n h) (λ x q. turn-written n h d x q)
 
   -- the first n rows, in their order
-  pub turned-rows : (n : ℕ) → n ≤ rowsOf t → Turned t old (settled t (rowsOf t) n old) (λ i. ltb i n)
-  unfolding settled
+  pub turned-rows : (n : ℕ) → n ≤ rowsOf t → Turned t old (settledRow t (rowsOf t) n old) (λ i. ltb i n)
+  unfolding settledRow
   turned-rows zero h = turned-as (λ i. ltb i 0) (λ i l e. absurd (omega (arith, ltb-true i 0 e))) (turned-none t old)
   turned-rows (suc n) h =
       turned-as (λ i. ltb i (suc n)) (λ i l e. below i (ltb-true i (suc n) e)) (turn n h (turned-rows n (omega arith)))

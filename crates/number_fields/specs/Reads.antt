@@ -14,7 +14,7 @@ use Rattle.widths.specs.rule.Width.{sizeOf}
 use Rattle.fields.specs.rule.Number.{padded}
 use Rattle.digits.specs.Right.{padded-right}
 use Rattle.lines.specs.rule.Text.{numeral}
-use Rattle.value_fields.specs.rule.Values.{amountText, numberText}
+use Rattle.value_fields.specs.rule.Values.{amountText, exportNumber}
 use Rattle.value_fields.specs.Values.{amount-none, amount-parts}
 use Rattle.value_fields.specs.Numeral.{numeral-one, numeral-more}
 
@@ -163,18 +163,18 @@ size-points {k} {d} {at} {m} {p} {n} {to} some w z h e g l =
 -- ---- a number with k decimals, or none
 pub record NumberAt (k : ℕ) (d : List ℕ) (at : ℕ) (z : ℤ) (to : ℕ) : Type 0 where
   pub few : sizeOf z ≤ 999999999999999
-  pub reads : (to ≡ at → ⊥) → Reads d at (numberText k z) to
+  pub reads : (to ≡ at → ⊥) → Reads d at (exportNumber k z) to
 
 pub number-none : (k : ℕ) (d : List ℕ) (at : ℕ) → NumberAt k d at (pos 0) at
 unfolding signedOf
 number-none k d at = record { few = omega arith; reads = λ z. absurd (z refl) }
 
 pub number-up : {k : ℕ} {d : List ℕ} {at n to : ℕ} → SizeAt k d at n to → NumberAt k d at (numberOf false n) to
-unfolding numberText signedOf numberOf
+unfolding exportNumber signedOf numberOf
 number-up s = record { few = omega (arith, s .few); reads = s .reads }
 
-text-down : (k n : ℕ) → (n ≡ 0 → ⊥) → numberText k (numberOf true n) ≡ 45 ∷ amountText k n
-unfolding numberText signedOf numberOf
+text-down : (k n : ℕ) → (n ≡ 0 → ⊥) → exportNumber k (numberOf true n) ≡ 45 ∷ amountText k n
+unfolding exportNumber signedOf numberOf
 text-down k zero h = absurd (h refl)
 text-down k (suc n) h = refl
 

@@ -13,7 +13,7 @@ use Rattle.marks.specs.declared.Inside.the-variants.{Plain}
 use Rattle.marks.proofs.Levels.{ahead, string-ahead}
 use Rattle.marks.proofs.Complete.{string-complete}
 use Rattle.statements.specs.rule.Words.{NOTE, TYPE, SINGLE, MULTIPLE, QUANTITY, CHARACTER, LOGICAL, POSITION, TO, END}
-use Rattle.survey.specs.rule.Survey.{Figure, Text}
+use Rattle.survey.specs.rule.Survey.{Figure, KeptText}
 use Rattle.reading.specs.rule.Variable.{Sort, Single, Multiple, Quantity, Character, Logical}
 use Rattle.grammar.specs.Token.{Gap, NoWord, Here, Keyword, keyword, Number, String, Statement, Phrase, End, Optional}
 use Rattle.grammar.specs.Token as token
@@ -21,7 +21,7 @@ use Rattle.grammar.specs.Grammar.{typeWord, Position, position}
 use Rattle.grammar_laws.specs.Places.{differ, other-word}
 use Rattle.grammar_laws.specs.Views.{word-at, word-not}
 use Rattle.clean_text.specs.rule.Span.{spanOf}
-use Rattle.clean_text.specs.rule.Clean.{lineOf, figure, quoted}
+use Rattle.clean_text.specs.rule.Clean.{lineOf, figureToken, quotedToken}
 use Rattle.steps.specs.declared.Span.{Span}
 use Rattle.steps.specs.Step.{span, numberSpan, wordFound, statementPast}
 use Rattle.steps.specs.Law.{statement-past, keyword-past, number-past, string-past, given-past, absent-past}
@@ -30,19 +30,21 @@ use Rattle.pages.specs.Page.{page, places, framed, numberPage, phrasePage, endP
 module _ (d : List ℕ) where
   -- ---- a word and a number, a word and a string, END and a word
   -- a string's last byte stands before its closing quote
-  pub string-end : {n m : ℕ} {t : Text} → String d n t m → m - 1 ≡ t .place + t .length
+  pub string-end : {n m : ℕ} {t : KeptText} → String d n t m → m - 1 ≡ t .place + t .length
   string-end (token.string {p = p} {m = m} g e s) =
       let b = ahead (string-ahead d (from-text d (p + 1)) Plain) (string-complete s) in
       omega (arith, b)
 
   module _ {w : List ℕ} (c : capitals w ≡ true) (o : differ w NOTE ≡ true) where
     pub number-page : {n k m : ℕ} {x : Figure} → Statement d w n k → Number d k x m
-        → numberPage d n w (w ++ 32 ∷ []) ≡ page (lineOf (w ∷ figure d x ∷ [])) m
+        → numberPage d n w (w ++ 32 ∷ []) ≡ page (lineOf (w ∷ figureToken d x ∷ [])) m
     unfolding numberPage framed lineOf
     number-page {m = m} {x = x} s y =
-        rw (statement-past d c o s, number-past d y) (ap (λ (l : List ℕ). page l m) (append-assoc w (32 ∷ []) (figure d x ++ 13 ∷ 10 ∷ [])))
+        rw (statement-past d c o s, number-past d y)
+        (ap (λ (l : List ℕ). page l m) (append-assoc w (32 ∷ []) (figureToken d x ++ 13 ∷ 10 ∷ [])))
 
-    pub phrase-page : {n m : ℕ} {t : Text} → Phrase d w n t m → phrasePage d n w (w ++ 32 ∷ 34 ∷ []) ≡ page (lineOf (w ∷ quoted d t ∷ [])) m
+    pub phrase-page : {n m : ℕ} {t : KeptText} → Phrase d w n t m → phrasePage d n w (w ++ 32 ∷ 34 ∷ [])
+        ≡ page (lineOf (w ∷ quotedToken d t ∷ [])) m
     unfolding phrasePage framed lineOf
     phrase-page {m = m} {t = t} (token.phrase s y) =
         rw (statement-past d c o s, string-past d y, string-end y)
@@ -114,7 +116,7 @@ module _ (d : List ℕ) where
 
   -- ---- POSITION
   pub record Placed (n : ℕ) (a b : Figure) (m : ℕ) : Type 0 where
-    pub line : positionText d (positionAt d n) ≡ lineOf (POSITION ∷ figure d a ∷ TO ∷ figure d b ∷ [])
+    pub line : positionText d (positionAt d n) ≡ lineOf (POSITION ∷ figureToken d a ∷ TO ∷ figureToken d b ∷ [])
     pub stands : positionAt d n .next ≡ m
     pub start : positionAt d n .start .size ≡ capped (a .value)
     pub finish : positionAt d n .finish .size ≡ capped (b .value)
@@ -141,7 +143,7 @@ module _ (d : List ℕ) where
   unfolding positionText framed
   position-page (position {a = a} s y (token.given {a = b} k z)) =
       let e = position-given s y k z in
-      record { line = rw e (two-numbers (figure d a) (figure d b)); stands = rw e; start = rw e; finish = rw e }
+      record { line = rw e (two-numbers (figureToken d a) (figureToken d b)); stands = rw e; start = rw e; finish = rw e }
   position-page (position {a = a} s y (token.absent g h)) =
       let e = position-absent s y g h in
-      record { line = rw e (two-numbers (figure d a) (figure d a)); stands = rw e; start = rw e; finish = rw e }
+      record { line = rw e (two-numbers (figureToken d a) (figureToken d a)); stands = rw e; start = rw e; finish = rw e }

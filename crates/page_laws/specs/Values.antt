@@ -10,14 +10,15 @@ use lib.ListN.{length}
 use Rattle.scan.specs.rule.Text.{text, sign}
 use Rattle.scan.specs.Word.{capitals}
 use Rattle.statements.specs.rule.Words.{NOTE, TO, WITH, VALUES, SPECIAL, END}
-use Rattle.survey.specs.rule.Survey.{Amount, Text, Range, Line, Block}
+use Rattle.survey.specs.rule.Survey.{Amount, KeptText, Range, Line, Block}
 use Rattle.grammar.specs.Token.{Gap, NoWord, Here, Keyword, keyword, Value, String, Notes, Statement, End, Whether, yes, no}
 use Rattle.grammar.specs.Token as token
 use Rattle.grammar.specs.Grammar as says
 use Rattle.grammar_laws.specs.Places.{differ, other-word}
 use Rattle.grammar_laws.specs.Lines.{value-no-word, quote-no-word}
 use Rattle.clean_text.specs.rule.Span.{spanOf}
-use Rattle.clean_text.specs.rule.Clean.{Token, lineOf, textOf, amount, quoted, valueLine, rangeLine, valuesLines, marked, someLine}
+use Rattle.clean_text.specs.rule.Clean.{Token, lineOf, cleanText, amountToken, quotedToken, valueLine, rangeLine, valuesLines, marked}
+use Rattle.clean_text.specs.rule.Clean.{someLine}
 use Rattle.steps.specs.declared.Span.{Span}
 use Rattle.steps.specs.Step.{span, valueSpan, stringSpan, wordFound, statementFound, statementPast, keywordPast, notesPast}
 use Rattle.steps.specs.Law.{notes-past, notes-before, gap-past, statement-past, keyword-past, statement-found, statement-missed}
@@ -27,10 +28,10 @@ use Rattle.pages.specs.Page.{Page, page, before, framed, lineAt, lineText, line
 use Rattle.page_laws.specs.Tokens.{string-end, end-page}
 
 -- lines one list behind the other
-pub text-append : (a b : List (List Token)) → textOf (a ++ b) ≡ textOf a ++ textOf b
-unfolding textOf
+pub text-append : (a b : List (List Token)) → cleanText (a ++ b) ≡ cleanText a ++ cleanText b
+unfolding cleanText
 text-append [] b = refl
-text-append (l ∷ a) b = ap (λ (s : List ℕ). lineOf l ++ s) (text-append a b) ∙ sym (append-assoc (lineOf l) (textOf a) (textOf b))
+text-append (l ∷ a) b = ap (λ (s : List ℕ). lineOf l ++ s) (text-append a b) ∙ sym (append-assoc (lineOf l) (cleanText a) (cleanText b))
 
 module _ (d : List ℕ) where
   value-not-note : {n m : ℕ} {a : Amount} → Value d n a m → NoWord d NOTE n
@@ -60,7 +61,7 @@ module _ (d : List ℕ) where
   line-page (says.line {a = a} {t = t} {s = s} r v x w) =
       record {
         line = rw (notes-past d r (value-not-note v), value-past d v, string-past d x, whether-past d {w = SPECIAL} refl w, string-end d x)
-            (line-words (amount d a) (spanOf d (t .place) (t .place + t .length)) s);
+            (line-words (amountToken d a) (spanOf d (t .place) (t .place + t .length)) s);
         stands = rw (notes-past d r (value-not-note v), value-past d v, string-past d x, whether-past d {w = SPECIAL} refl w);
       }
 
@@ -71,8 +72,8 @@ module _ (d : List ℕ) where
   more-found (says.more (says.line r v x w) y) = rw (statement-missed d {w = END} refl r (value-not-note v) (value-not-end v))
 
   pub lines-page : (k : ℕ) {n m : ℕ} {l : List Line} → says.Lines d n l m → length l ≤ k → linesPage k d n
-      ≡ page (textOf (map (valueLine d) l)) m
-  unfolding linesPage textOf capitals differ
+      ≡ page (cleanText (map (valueLine d) l)) m
+  unfolding linesPage cleanText capitals differ
   lines-page zero (says.last x e) h = absurd (not-suc-le-zero h)
   lines-page zero (says.more x y) h = absurd (not-suc-le-zero h)
   lines-page (suc k) (says.last x (token.end s y)) h =
@@ -97,7 +98,7 @@ module _ (d : List ℕ) where
     pub there : rangeAt d n .there ≡ true
     pub with : rangeAt d n .with ≡ w
     pub stands : rangeAt d n .next ≡ m
-    pub line : rangeText d (rangeAt d n) ≡ lineOf (amount d (r .from) ∷ TO ∷ amount d (r .to) ∷ marked d w WITH)
+    pub line : rangeText d (rangeAt d n) ≡ lineOf (amountToken d (r .from) ∷ TO ∷ amountToken d (r .to) ∷ marked d w WITH)
 
   range-there : {n k j i h g m : ℕ} {a b : Amount} {w : Bool} → Notes d n k → Value d k a j → Keyword d TO j i → Gap d i h → Value d h b g
       → Whether d WITH g w m → rangeAt d n ≡ rangeParts true (span (a .place) (a .end) j 0) (span (b .place) (b .end) g 0) w m
@@ -116,13 +117,13 @@ module _ (d : List ℕ) where
   unfolding rangeText framed
   range-page {w = q} (says.bounds {a = a} {b = b} r v t g u) w =
       let e = range-there r v t g u w in
-      record { there = rw e; with = rw e; stands = rw e; line = rw e (range-words (amount d a) (amount d b) q) }
+      record { there = rw e; with = rw e; stands = rw e; line = rw e (range-words (amountToken d a) (amountToken d b) q) }
 
   -- no range: the value of a line is followed by a quote
   abbrev Unbounded : ℕ → Type 0
   Unbounded n = (rangeAt d n .there ≡ false) × (rangeAt d n .next ≡ n) × (rangeText d (rangeAt d n) ≡ [])
 
-  range-by : {n k j i : ℕ} {a : Amount} {t : Text} → Notes d n k → Value d k a j → String d j t i → Unbounded n
+  range-by : {n k j i : ℕ} {a : Amount} {t : KeptText} → Notes d n k → Value d k a j → String d j t i → Unbounded n
   unfolding rangeAt rangeText capitals
   range-by r v (token.string g e s) =
       let z = notes-past d r (value-not-note v) in
@@ -136,14 +137,14 @@ module _ (d : List ℕ) where
 
   -- ---- VALUES to END VALUES
   block-text : (r : List (List Token)) (l : List (List Token))
-      → textOf ((VALUES ∷ []) ∷ r ++ l ++ (END ∷ VALUES ∷ []) ∷ [])
-      ≡ (VALUES ++ 13 ∷ 10 ∷ []) ++ (textOf r ++ (textOf l ++ (END ++ 32 ∷ VALUES ++ 13 ∷ 10 ∷ [])))
-  unfolding textOf lineOf
+      → cleanText ((VALUES ∷ []) ∷ r ++ l ++ (END ∷ VALUES ∷ []) ∷ [])
+      ≡ (VALUES ++ 13 ∷ 10 ∷ []) ++ (cleanText r ++ (cleanText l ++ (END ++ 32 ∷ VALUES ++ 13 ∷ 10 ∷ [])))
+  unfolding cleanText lineOf
   block-text r l =
       text-append (((VALUES ∷ []) ∷ r) ++ l) ((END ∷ VALUES ∷ []) ∷ [])
       ∙ ap (λ (s : List ℕ). s ++ last) (text-append ((VALUES ∷ []) ∷ r) l)
-      ∙ append-assoc (first ++ textOf r) (textOf l) last
-      ∙ append-assoc first (textOf r) (textOf l ++ last)
+      ∙ append-assoc (first ++ cleanText r) (cleanText l) last
+      ∙ append-assoc first (cleanText r) (cleanText l ++ last)
     where
       first : List ℕ
       first = VALUES ++ 13 ∷ 10 ∷ []
@@ -155,8 +156,8 @@ module _ (d : List ℕ) where
   some-lines (says.last x e) = refl
   some-lines (says.more x y) = refl
 
-  one-line : (l : List Token) → textOf (l ∷ []) ≡ lineOf l
-  unfolding textOf
+  one-line : (l : List Token) → cleanText (l ∷ []) ≡ lineOf l
+  unfolding cleanText
   one-line l = append-nil (lineOf l)
 
   end-past : {n m : ℕ} → End d VALUES n m → keywordPast d (statementPast d n END) VALUES ≡ m
@@ -164,8 +165,8 @@ module _ (d : List ℕ) where
   end-past (token.end s y) = rw (statement-past d {w = END} refl refl s, keyword-past d {w = VALUES} refl y)
 
   pub values-page : {n m : ℕ} {b : Block} → says.Values d n b m → length (b .lines) ≤ 4096 → valuesPage d n
-      ≡ page (textOf (valuesLines d b)) m
-  unfolding valuesPage valuesLines blockPage textOf capitals differ
+      ≡ page (cleanText (valuesLines d b)) m
+  unfolding valuesPage valuesLines blockPage cleanText capitals differ
   values-page {m = m} (says.listed {l = l} s x) h =
       let r = range-none x in
       rw (statement-past d {w = VALUES} refl refl s, r .2, r .0, r .1, lines-page 4096 x h)
@@ -173,11 +174,11 @@ module _ (d : List ℕ) where
   values-page {m = m} (says.ranged {r = r} s b w e) h =
       let q = range-page b w in
       rw (statement-past d {w = VALUES} refl refl s, q .line, q .there, q .with, q .stands, end-past e)
-      (ap (λ (t : List ℕ). page t m) (sym (block-text ((amount d (r .from) ∷ TO ∷ amount d (r .to) ∷ []) ∷ []) []
-      ∙ rw (one-line (amount d (r .from) ∷ TO ∷ amount d (r .to) ∷ [])))))
+      (ap (λ (t : List ℕ). page t m) (sym (block-text ((amountToken d (r .from) ∷ TO ∷ amountToken d (r .to) ∷ []) ∷ []) []
+      ∙ rw (one-line (amountToken d (r .from) ∷ TO ∷ amountToken d (r .to) ∷ [])))))
   values-page {m = m} (says.both {r = r} {l = l} s b w x) h =
       let q = range-page b w in
       rw (statement-past d {w = VALUES} refl refl s, q .line, q .there, q .with, q .stands, lines-page 4096 x h)
       (ap (λ (t : List ℕ). page t m) (sym (rw (some-lines x)
-      (block-text ((amount d (r .from) ∷ TO ∷ amount d (r .to) ∷ WITH ∷ []) ∷ []) (map (valueLine d) l)
-      ∙ rw (one-line (amount d (r .from) ∷ TO ∷ amount d (r .to) ∷ WITH ∷ []))))))
+      (block-text ((amountToken d (r .from) ∷ TO ∷ amountToken d (r .to) ∷ WITH ∷ []) ∷ []) (map (valueLine d) l)
+      ∙ rw (one-line (amountToken d (r .from) ∷ TO ∷ amountToken d (r .to) ∷ WITH ∷ []))))))

@@ -12,7 +12,7 @@ use borrow.Author.Tests.{ne-eqb, le-ltb}
 use Rattle.scan.specs.Word.{capitals}
 use Rattle.scan.specs.Number.{capped}
 use Rattle.statements.specs.rule.Words.{NOTE, VARIABLE, NAME, LABEL, TYPE, SPREAD, OF, SIZE, VALUES, END, POSITION, TO}
-use Rattle.survey.specs.rule.Survey.{Figure, Text, Spread, Block, Content, single, multiple, quantity, character, logical, Variable}
+use Rattle.survey.specs.rule.Survey.{Figure, KeptText, Spread, Block, Content, single, multiple, quantity, character, logical, Variable}
 use Rattle.survey.specs.rule.Width.{blockIn}
 use Rattle.survey.specs.rule.Table.{linesOf, linesAll}
 use Rattle.reading.specs.rule.Variable.{Sort, Single, Multiple, Quantity, Character, Logical}
@@ -23,7 +23,8 @@ use Rattle.grammar.specs.Grammar as says
 use Rattle.grammar_laws.specs.Places.{differ, other-word}
 use Rattle.grammar_laws.specs.Notes.{note-capitals}
 use Rattle.clean_text.specs.rule.Span.{spanOf}
-use Rattle.clean_text.specs.rule.Clean.{Token, lineOf, textOf, figure, quoted, plainDigits, positions, spreadLine, contentLines}
+use Rattle.clean_text.specs.rule.Clean.{Token, lineOf, cleanText, figureToken, quotedToken, plainDigits, positions, spreadLine}
+use Rattle.clean_text.specs.rule.Clean.{contentLines}
 use Rattle.clean_text.specs.rule.Clean.{variableLines, eachVariable}
 use Rattle.clean_text.specs.rule.Clean as clean
 use Rattle.steps.specs.Step.{span, numberSpan, statementFound}
@@ -57,12 +58,12 @@ module _ (d : List ℕ) where
   unfolding lineOf
   spread-words x w = ap (λ (l : List ℕ). SPREAD ++ (32 ∷ l)) (append-assoc x (32 ∷ OF ++ 32 ∷ []) (w ++ (13 ∷ 10 ∷ [])))
 
-  one-line : (l : List Token) → textOf (l ∷ []) ≡ lineOf l
-  unfolding textOf
+  one-line : (l : List Token) → cleanText (l ∷ []) ≡ lineOf l
+  unfolding cleanText
   one-line l = append-nil (lineOf l)
 
   pub record Spreads (n room : ℕ) (s : Option Spread) (m : ℕ) : Type 0 where
-    pub line : spreadText d room (spreadAt d n) ≡ textOf (spreadLine d room s)
+    pub line : spreadText d room (spreadAt d n) ≡ cleanText (spreadLine d room s)
     pub stands : spreadAt d n .next ≡ m
 
   spread-of : {n k j i m : ℕ} {x w : Figure} (room : ℕ) → Statement d SPREAD n k → Number d k x j → Keyword d OF j i → Number d i w m
@@ -74,8 +75,8 @@ module _ (d : List ℕ) where
       let c = given-past d {w = OF} refl o in
       let e = number-past d z in
       record {
-        line = rw (a, b, c, e) (spread-words (figure d x) (figure d w)
-            ∙ sym (one-line (SPREAD ∷ figure d x ∷ OF ∷ figure d w ∷ [])));
+        line = rw (a, b, c, e) (spread-words (figureToken d x) (figureToken d w)
+            ∙ sym (one-line (SPREAD ∷ figureToken d x ∷ OF ∷ figureToken d w ∷ [])));
         stands = rw (a, b, c, e);
       }
 
@@ -90,13 +91,13 @@ module _ (d : List ℕ) where
       let e = capped-is (x .value) (omega arith) in
       let f = ne-eqb (x .value) 0 (λ q. omega arith) in
       record {
-        line = rw (a, b, c, e, f) (spread-words (figure d x) (plainDigits (room / x .value))
-            ∙ sym (one-line (SPREAD ∷ figure d x ∷ OF ∷ plainDigits (room / x .value) ∷ [])));
+        line = rw (a, b, c, e, f) (spread-words (figureToken d x) (plainDigits (room / x .value))
+            ∙ sym (one-line (SPREAD ∷ figureToken d x ∷ OF ∷ plainDigits (room / x .value) ∷ [])));
         stands = rw (a, b, c);
       }
 
   spread-none : {n k : ℕ} (room : ℕ) → Statement d VALUES n k → Spreads n room none n
-  unfolding spreadAt spreadText textOf capitals differ
+  unfolding spreadAt spreadText cleanText capitals differ
   spread-none room (token.statement r h) =
       let a = statement-missed d {w = SPREAD} refl r (other-word d {w = VALUES} {v = NOTE} refl note-capitals refl h)
       (other-word d {w = VALUES} {v = SPREAD} refl refl refl h) in
@@ -110,12 +111,12 @@ module _ (d : List ℕ) where
 
   pub rest-page : {t : Sort} {n m : ℕ} {c : Content} (room : ℕ) → says.Rest d t n c m → length (blockIn c .lines) ≤ 4096
       → ((s : Spread) (b : Block) → c ≡ multiple (some s) b → s .width ≡ none → (1 ≤ s .count .value) × (s .count .value ≤ 16384))
-      → restPage d n (kindOf d t) room ≡ page (textOf (contentLines d room c)) m
-  unfolding restPage textOf capitals differ
+      → restPage d n (kindOf d t) room ≡ page (cleanText (contentLines d room c)) m
+  unfolding restPage cleanText capitals differ
   rest-page room (says.single x) h p = values-page d x h
   rest-page room (says.quantity x) h p = values-page d x h
   rest-page {m = m} room (says.character {x = x} s y) h p = rw (number-page d {w = SIZE} refl refl s y)
-      (ap (λ (l : List ℕ). page l m) (sym (one-line (SIZE ∷ figure d x ∷ []))))
+      (ap (λ (l : List ℕ). page l m) (sym (one-line (SIZE ∷ figureToken d x ∷ []))))
   rest-page room says.logical h p = refl
   rest-page {m = m} room (says.multiple {b = b} (says.spread {x = x} s y (token.given {a = w} o z)) v) h p =
       let q = spread-of room s y o z in
@@ -131,10 +132,11 @@ module _ (d : List ℕ) where
       rw (q .line, q .stands, values-page d v h)
 
   -- ---- a variable
-  titles-page : {n a b c m : ℕ} {x : Figure} {name label : Text} → Statement d VARIABLE n a → Number d a x b → token.Phrase d NAME b name c
+  titles-page : {n a b c m : ℕ} {x : Figure} {name label : KeptText} → Statement d VARIABLE n a → Number d a x b
+      → token.Phrase d NAME b name c
       → token.Phrase d LABEL c label m
-      → titlesPage d n ≡ page (lineOf (VARIABLE ∷ figure d x ∷ [])
-      ++ (lineOf (NAME ∷ quoted d name ∷ []) ++ lineOf (LABEL ∷ quoted d label ∷ []))) m
+      → titlesPage d n ≡ page (lineOf (VARIABLE ∷ figureToken d x ∷ [])
+      ++ (lineOf (NAME ∷ quotedToken d name ∷ []) ++ lineOf (LABEL ∷ quotedToken d label ∷ []))) m
   unfolding titlesPage capitals differ
   titles-page s y p q = rw (
     number-page d {w = VARIABLE} refl refl s y,
@@ -159,8 +161,8 @@ module _ (d : List ℕ) where
       → Statement d TYPE e f → Keyword d (typeWord t) f g → says.Position d g s o h → says.Rest d t h r i → End d VARIABLE i m
       → bodyPage d e
       ≡ page (lineOf (TYPE ∷ clean.typeWord d r ∷ [])
-      ++ (lineOf (POSITION ∷ figure d s ∷ TO ∷ figure d (Option·getD o s) ∷ [])
-      ++ (textOf (contentLines d (Option·getD o s .value + 1 - s .value) r) ++ end-line))) m
+      ++ (lineOf (POSITION ∷ figureToken d s ∷ TO ∷ figureToken d (Option·getD o s) ∷ [])
+      ++ (cleanText (contentLines d (Option·getD o s .value + 1 - s .value) r) ++ end-line))) m
   unfolding bodyPage capitals
   body-page {m = m} {s = s} {o = o} {t = t} {r = r} high low few parts x y p q e =
       let P = position-page d p in
@@ -173,29 +175,29 @@ module _ (d : List ℕ) where
       (rw (type-text d t, type-same q) refl))
 
   variable-text : (v : Variable)
-      → textOf (variableLines d v)
-      ≡ (lineOf (VARIABLE ∷ figure d (v .ident) ∷ [])
-      ++ (lineOf (NAME ∷ quoted d (v .name) ∷ []) ++ lineOf (LABEL ∷ quoted d (v .label) ∷ [])))
+      → cleanText (variableLines d v)
+      ≡ (lineOf (VARIABLE ∷ figureToken d (v .ident) ∷ [])
+      ++ (lineOf (NAME ∷ quotedToken d (v .name) ∷ []) ++ lineOf (LABEL ∷ quotedToken d (v .label) ∷ [])))
       ++ (lineOf (TYPE ∷ clean.typeWord d (v .content) ∷ [])
-      ++ (lineOf (POSITION ∷ figure d (v .start) ∷ TO ∷ figure d (Option·getD (v .finish) (v .start)) ∷ [])
-      ++ (textOf (contentLines d (positions d v) (v .content)) ++ end-line)))
-  unfolding variableLines textOf lineOf
+      ++ (lineOf (POSITION ∷ figureToken d (v .start) ∷ TO ∷ figureToken d (Option·getD (v .finish) (v .start)) ∷ [])
+      ++ (cleanText (contentLines d (positions d v) (v .content)) ++ end-line)))
+  unfolding variableLines cleanText lineOf
   variable-text v = whole
     where
       a : List Token
-      a = VARIABLE ∷ figure d (v .ident) ∷ []
+      a = VARIABLE ∷ figureToken d (v .ident) ∷ []
 
       b : List Token
-      b = NAME ∷ quoted d (v .name) ∷ []
+      b = NAME ∷ quotedToken d (v .name) ∷ []
 
       c : List Token
-      c = LABEL ∷ quoted d (v .label) ∷ []
+      c = LABEL ∷ quotedToken d (v .label) ∷ []
 
       e : List Token
       e = TYPE ∷ clean.typeWord d (v .content) ∷ []
 
       f : List Token
-      f = POSITION ∷ figure d (v .start) ∷ TO ∷ figure d (Option·getD (v .finish) (v .start)) ∷ []
+      f = POSITION ∷ figureToken d (v .start) ∷ TO ∷ figureToken d (Option·getD (v .finish) (v .start)) ∷ []
 
       l : List (List Token)
       l = contentLines d (positions d v) (v .content)
@@ -203,16 +205,16 @@ module _ (d : List ℕ) where
       last : List (List Token)
       last = (END ∷ VARIABLE ∷ []) ∷ []
 
-      whole : textOf ((a ∷ b ∷ c ∷ e ∷ f ∷ l) ++ last) ≡ (lineOf a ++ (lineOf b ++ lineOf c))
-          ++ (lineOf e ++ (lineOf f ++ (textOf l ++ lineOf (END ∷ VARIABLE ∷ []))))
+      whole : cleanText ((a ∷ b ∷ c ∷ e ∷ f ∷ l) ++ last) ≡ (lineOf a ++ (lineOf b ++ lineOf c))
+          ++ (lineOf e ++ (lineOf f ++ (cleanText l ++ lineOf (END ∷ VARIABLE ∷ []))))
       whole =
           ap (λ (s : List ℕ). lineOf a ++ (lineOf b ++ (lineOf c ++ (lineOf e ++ (lineOf f ++ s)))))
-          (text-append l last ∙ ap (λ (s : List ℕ). textOf l ++ s) (one-line (END ∷ VARIABLE ∷ [])))
-          ∙ sym (append-assoc (lineOf a) (lineOf b ++ lineOf c) (lineOf e ++ (lineOf f ++ (textOf l ++ lineOf (END ∷ VARIABLE ∷ []))))
+          (text-append l last ∙ ap (λ (s : List ℕ). cleanText l ++ s) (one-line (END ∷ VARIABLE ∷ [])))
+          ∙ sym (append-assoc (lineOf a) (lineOf b ++ lineOf c) (lineOf e ++ (lineOf f ++ (cleanText l ++ lineOf (END ∷ VARIABLE ∷ []))))
           ∙ ap (λ (s : List ℕ). lineOf a ++ s) (append-assoc (lineOf b) (lineOf c)
-          (lineOf e ++ (lineOf f ++ (textOf l ++ lineOf (END ∷ VARIABLE ∷ []))))))
+          (lineOf e ++ (lineOf f ++ (cleanText l ++ lineOf (END ∷ VARIABLE ∷ []))))))
 
-  pub variable-page : {n m : ℕ} {v : Variable} → says.Variable d n v m → Fine v → variablePage d n ≡ page (textOf (variableLines d v)) m
+  pub variable-page : {n m : ℕ} {v : Variable} → says.Variable d n v m → Fine v → variablePage d n ≡ page (cleanText (variableLines d v)) m
   unfolding variablePage lineOf
   variable-page {m = m} {v = v} (says.variable s x n l t k p r e) fine =
       rw (titles-page s x n l, body-page (fine .finish) (fine .start) (fine .lines) (fine .parts) t k p r e)
@@ -237,8 +239,8 @@ module _ (d : List ℕ) where
     and-more : {v : Variable} {l : List Variable} → Fine v → AllFine l → AllFine (v ∷ l)
 
   pub variables-page : (k : ℕ) {n m i : ℕ} {l : List Variable} → says.Variables d n l m → Statement d END m i → AllFine l → length l ≤ k
-      → variablesPage k d n ≡ page (textOf (eachVariable d l)) m
-  unfolding variablesPage eachVariable textOf capitals differ
+      → variablesPage k d n ≡ page (cleanText (eachVariable d l)) m
+  unfolding variablesPage eachVariable cleanText capitals differ
   variables-page zero (says.one x) e f h = absurd (not-suc-le-zero h)
   variables-page zero (says.more x y) e f h = absurd (not-suc-le-zero h)
   variables-page (suc k) {m = m} (says.one {v = v} x) e (and-more f g) h =

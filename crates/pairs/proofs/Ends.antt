@@ -22,9 +22,10 @@ use Rattle.attributes.proofs.Exactly.{white-no-name}
 use Rattle.tags.specs.rule.Tag.{isNamed}
 use Rattle.tags.specs.declared.Tag.{Tag}
 use Rattle.tags.specs.declared.Tag.the-variants as tag
-use Rattle.pairs.specs.rule.Stand.{onAngle, standAt, standOf, onEnd, shutOf, bareOf}
-use Rattle.pairs.specs.rule.Pair.{onBare, missedOf, onShut, closedOf, onStand, pairOf}
-use Rattle.pairs.specs.rule.Grammar.{White, Name, name, Ends, ends, Empties, empties, Given, given, Attributes, none, known, other}
+use Rattle.pairs.specs.rule.Stand.{standAngle, standAt, standOf, standEnd, shutOf, bareOf}
+use Rattle.pairs.specs.rule.Pair.{pairBare, missedOf, pairShut, closedOf, onStand, pairOf}
+use Rattle.pairs.specs.rule.Grammar.{White, Name, name, Ends, ends, Empties, empties, PairGiven, given, Attributes, none, known}
+use Rattle.pairs.specs.rule.Grammar.{other}
 use Rattle.pairs.specs.rule.Grammar.{closing, Behind, behind}
 use Rattle.pairs.specs.declared.Stand.{Stand}
 use Rattle.pairs.specs.declared.Stand.the-variants as stand
@@ -55,7 +56,7 @@ slash-no-name : ofKind 1 47 ≡ false
 unfolding ofKind isName startsName isDigit
 slash-no-name = refl
 
-given-edge : {d n u : List ℕ} {e o q : ℕ} → Given n o u → Lies d e q u → Edge d e
+given-edge : {d n u : List ℕ} {e o q : ℕ} → PairGiven n o u → Lies d e q u → Edge d e
 given-edge {d} {n} {u} {e} {o} {q} (given {q = m} {u = w} {y} {z} {v} x i na wy wz qu va) l = by (n ++ (y ++ 61 ∷ (z ++ m ∷ (v ++ m ∷ []))))
     x i l where
       by : {w : List ℕ} (t : List ℕ) → White w → 0 < length w → Lies d e q (w ++ t) → Edge d e
@@ -192,7 +193,7 @@ ends-sound bad d w p e n i b a f = on (endOf bad d p e) refl f where
       }
   named m false g h f = let z : _≡_ {A = ℕ} 0 1 = cc in absurd (omega arith)
 
-  on : (r : Skip) → endOf bad d p e ≡ r → onEnd d p e w r ≡ skip.Past n → EndAt d w p n
+  on : (r : Skip) → endOf bad d p e ≡ r → standEnd d p e w r ≡ skip.Past n → EndAt d w p n
   on (skip.Past m) g f = named m (isNamed d (p + 2) e w) g refl f
   on (skip.Broken q) g f = let z : _≡_ {A = ℕ} 0 1 = cc in absurd (omega arith)
 
@@ -229,14 +230,14 @@ pub record PairAt (d w : List ℕ) (at n : ℕ) : Type 0 where
   pub lies : Lies d at n bytes
 
 module _ (bad : Bool) (d w : List ℕ) (at n : ℕ) where
-  bare-no : (p : ℕ) (t : Tag) → onBare p t ≡ Past n → ⊥
+  bare-no : (p : ℕ) (t : Tag) → pairBare p t ≡ Past n → ⊥
   bare-no p (tag.Read h em q m) f = let z : _≡_ {A = ℕ} 0 1 = cc in omega arith
   bare-no p (tag.Fault k q) f = let z : _≡_ {A = ℕ} 0 1 = cc in omega arith
 
   pub pair-sound : pairOf bad d at w ≡ Past n → PairAt d w at n
   unfolding pairOf missedOf closedOf
   pair-sound f = on (standOf bad d at) refl f where
-    shut : (p e : ℕ) (r : Skip) → standOf bad d at ≡ stand.Close p e → shutOf bad d p e w ≡ r → onShut r ≡ Past n → PairAt d w at n
+    shut : (p e : ℕ) (r : Skip) → standOf bad d at ≡ stand.Close p e → shutOf bad d p e w ≡ r → pairShut r ≡ Past n → PairAt d w at n
     shut p e (skip.Past m) g h f =
         let k : m ≡ n = cc in
         let s = stand-close bad d at p e g in

@@ -12,7 +12,7 @@ use Rattle.below.specs.Below.{holds-not}
 use Rattle.markup.specs.rule.Bytes.{ofKind, isName, startsName, stands}
 use Rattle.markup.specs.rule.Grammar.{Each, no-more, each}
 use Rattle.markup.proofs.Stretches.{Stretch}
-use Rattle.attributes.specs.rule.Attribute.{Value}
+use Rattle.attributes.specs.rule.Attribute.{AttributeValue}
 use Rattle.attributes.proofs.Values.{Quoted}
 use Rattle.attributes.proofs.Exactly.{Attributed, gap-first}
 use Rattle.forms.specs.rule.Form.{fitsOf}
@@ -22,7 +22,7 @@ use Rattle.tags.specs.declared.Turn.{Turn}
 use Rattle.tags.specs.declared.Turn.the-variants.{More, Over}
 use Rattle.tags.specs.declared.Tag.the-variants.{Fault}
 use Rattle.tags.proofs.Exactly.{puts, Placed, none, one}
-use Rattle.pairs.specs.rule.Grammar.{Name, name, Given, given, Attributes, known, other, firstOf}
+use Rattle.pairs.specs.rule.Grammar.{Name, name, PairGiven, given, Attributes, known, other, firstOf}
 use Rattle.pairs.specs.rule.Grammar as grammar
 use Rattle.pairs.proofs.Stands.{name-kind}
 use Rattle.pairs.proofs.Lies.{Lies, lies-none, lies-join, lies-byte, lies-cut, lies-first, lies-same, stretch-lies, quoted-lies}
@@ -42,7 +42,7 @@ pub record Gave (d : List ℕ) (at n e next : ℕ) : Type 0 where
   pub name : List ℕ
   pub white : ℕ
   pub bytes : List ℕ
-  pub given : Given name white bytes
+  pub given : PairGiven name white bytes
   pub lies : Lies d at next bytes
   pub named : Lies d n e name
   pub place : n ≡ at + white
@@ -86,7 +86,7 @@ name-each (name {b} s r) = each (name-kind b s) r
 pub name-starts : {d : List ℕ} {p e : ℕ} {n : List ℕ} → Name n → Lies d p e n → startsName (getD d p 0) ≡ true
 name-starts (name s r) l = rw (lies-first l .byte) s
 
-pub given-complete : {d : List ℕ} {at o next : ℕ} {n u : List ℕ} → Given n o u → Lies d at next u → Taken d at o n next
+pub given-complete : {d : List ℕ} {at o next : ℕ} {n u : List ℕ} → PairGiven n o u → Lies d at next u → Taken d at o n next
 given-complete {d} {at} {o} {next} {n} (given {q} {u} {y} {z} {v} wu i na wy wz qu va) l =
     let c0 = lies-cut d at next u (n ++ (y ++ 61 ∷ (z ++ q ∷ (v ++ q ∷ [])))) l in
     let c1 = lies-cut d (at + length u) next n (y ++ 61 ∷ (z ++ q ∷ (v ++ q ∷ []))) (c0 .1) in
@@ -214,10 +214,10 @@ and-false false = refl
 name-some : {n : List ℕ} → Name n → 0 < length n
 name-some (name s r) = omega arith
 
-given-name : {n : List ℕ} {o : ℕ} {u : List ℕ} → Given n o u → Name n
+given-name : {n : List ℕ} {o : ℕ} {u : List ℕ} → PairGiven n o u → Name n
 given-name (given wu i na wy wz qu va) = na
 
-given-white : {n : List ℕ} {o : ℕ} {u : List ℕ} → Given n o u → 0 < o
+given-white : {n : List ℕ} {o : ℕ} {u : List ℕ} → PairGiven n o u → 0 < o
 given-white (given wu i na wy wz qu va) = i
 
 module _ (k d : List ℕ) where

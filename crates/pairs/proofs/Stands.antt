@@ -7,7 +7,7 @@ use native.Mathlib.Omega.{arith}
 use lib.Dec.{leb, eqb}
 use lib.ListN.{length, drop, getD, length-append, length-drop}
 use borrow.Author.Tests.{leb-false, eqb-true}
-use Rattle.markup.specs.rule.Bytes.{ofKind, isName, startsName, runOf, bytesOf, restOf, stands, endFault}
+use Rattle.markup.specs.rule.Bytes.{ofKind, isName, startsName, runOf, bytesWhile, restOf, stands, endFault}
 use Rattle.markup.specs.rule.Reference.{referenceOf}
 use Rattle.markup.specs.rule.Gap.{gapOf}
 use Rattle.markup.specs.declared.Char.{Char}
@@ -18,7 +18,7 @@ use Rattle.markup.proofs.Runs.{run-next, run-long, run-splits}
 use Rattle.angles.specs.rule.Angle.{closeOf, bangOf, angleOf, endOf}
 use Rattle.angles.specs.declared.Angle.{Angle}
 use Rattle.angles.specs.declared.Angle.the-variants as angle
-use Rattle.pairs.specs.rule.Stand.{onChar, textOf, onAngle, standAt, onGap, standOf}
+use Rattle.pairs.specs.rule.Stand.{onTextChar, textStand, standAngle, standAt, onGap, standOf}
 use Rattle.pairs.specs.declared.Stand.{Stand}
 use Rattle.pairs.specs.declared.Stand.the-variants.{Start, Close, Foreign, Text, Broken}
 
@@ -39,7 +39,7 @@ name-long {d} {n} {e} a =
     let y = run-long f (n + 1) (drop (n + 1) d) in
     let k = a .ends in
     let s = ap length (run-splits f (drop (n + 1) d)) in
-    let l = length-append (bytesOf f (drop (n + 1) d)) (restOf f (drop (n + 1) d)) in
+    let l = length-append (bytesWhile f (drop (n + 1) d)) (restOf f (drop (n + 1) d)) in
     let m = length-drop (n + 1) d in
     let i = a .inside in
     (omega arith, omega arith)
@@ -127,10 +127,10 @@ isTag (Foreign p) = 0
 isTag (Text p) = 0
 isTag (Broken p) = 0
 
-text-none : (d : List ℕ) (p : ℕ) → isTag (textOf d p) ≡ 0
-unfolding textOf
+text-none : (d : List ℕ) (p : ℕ) → isTag (textStand d p) ≡ 0
+unfolding textStand
 text-none d p = by (eqb (getD d p 0) 38) (referenceOf p (drop (p + 1) d)) where
-  by : (x : Bool) (r : Char) → isTag (cond x (onChar p r) (Text p)) ≡ 0
+  by : (x : Bool) (r : Char) → isTag (cond x (onTextChar p r) (Text p)) ≡ 0
   by true (Is c n) = refl
   by true Bad = refl
   by false r = refl
@@ -142,7 +142,7 @@ module _ (bad : Bool) (d : List ℕ) (at p e : ℕ) where
     on : (g : Skip) → gapOf bad d at ≡ g → onGap bad d g ≡ Start p e → StandsAt bad d at p (angle.Start e)
     on (skip.Broken q) g f = let t : _≡_ {A = ℕ} 0 1 = cc in absurd (omega arith)
     on (skip.Past n) g f = by (leb (length d) n) (eqb (getD d n 0) 60) refl refl f where
-      opened : (a : Angle) → angleOf bad d n ≡ a → leb (length d) n ≡ false → eqb (getD d n 0) 60 ≡ true → onAngle n a ≡ Start p e
+      opened : (a : Angle) → angleOf bad d n ≡ a → leb (length d) n ≡ false → eqb (getD d n 0) 60 ≡ true → standAngle n a ≡ Start p e
           → StandsAt bad d at p (angle.Start e)
       opened (angle.Start m) o h i f =
           let j : n ≡ p = cc in
@@ -158,7 +158,7 @@ module _ (bad : Bool) (d : List ℕ) (at p e : ℕ) where
       opened (angle.Broken q) o h i f = let t : _≡_ {A = ℕ} 0 1 = cc in absurd (omega arith)
 
       by : (x y : Bool) → leb (length d) n ≡ x → eqb (getD d n 0) 60 ≡ y
-          → cond x (Broken n) (cond y (onAngle n (angleOf bad d n)) (textOf d n)) ≡ Start p e → StandsAt bad d at p (angle.Start e)
+          → cond x (Broken n) (cond y (standAngle n (angleOf bad d n)) (textStand d n)) ≡ Start p e → StandsAt bad d at p (angle.Start e)
       by true y h i f = let t : _≡_ {A = ℕ} 0 1 = cc in absurd (omega arith)
       by false true h i f = opened (angleOf bad d n) refl h i f
       by false false h i f = let t = sym (text-none d n) ∙ ap isTag f in absurd (omega arith)
@@ -169,7 +169,7 @@ module _ (bad : Bool) (d : List ℕ) (at p e : ℕ) where
     on : (g : Skip) → gapOf bad d at ≡ g → onGap bad d g ≡ Close p e → StandsAt bad d at p (angle.Close e)
     on (skip.Broken q) g f = let t : _≡_ {A = ℕ} 0 1 = cc in absurd (omega arith)
     on (skip.Past n) g f = by (leb (length d) n) (eqb (getD d n 0) 60) refl refl f where
-      opened : (a : Angle) → angleOf bad d n ≡ a → leb (length d) n ≡ false → eqb (getD d n 0) 60 ≡ true → onAngle n a ≡ Close p e
+      opened : (a : Angle) → angleOf bad d n ≡ a → leb (length d) n ≡ false → eqb (getD d n 0) 60 ≡ true → standAngle n a ≡ Close p e
           → StandsAt bad d at p (angle.Close e)
       opened (angle.Start m) o h i f = let t : _≡_ {A = ℕ} 0 1 = cc in absurd (omega arith)
       opened (angle.Close m) o h i f =
@@ -185,7 +185,7 @@ module _ (bad : Bool) (d : List ℕ) (at p e : ℕ) where
       opened (angle.Broken q) o h i f = let t : _≡_ {A = ℕ} 0 1 = cc in absurd (omega arith)
 
       by : (x y : Bool) → leb (length d) n ≡ x → eqb (getD d n 0) 60 ≡ y
-          → cond x (Broken n) (cond y (onAngle n (angleOf bad d n)) (textOf d n)) ≡ Close p e → StandsAt bad d at p (angle.Close e)
+          → cond x (Broken n) (cond y (standAngle n (angleOf bad d n)) (textStand d n)) ≡ Close p e → StandsAt bad d at p (angle.Close e)
       by true y h i f = let t : _≡_ {A = ℕ} 0 1 = cc in absurd (omega arith)
       by false true h i f = opened (angleOf bad d n) refl h i f
       by false false h i f = let t = sym (text-none d n) ∙ ap isTag f in absurd (omega arith)

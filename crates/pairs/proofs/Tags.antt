@@ -18,12 +18,12 @@ use Rattle.attributes.specs.declared.Attribute.the-variants.{One, Shut, Faulty}
 use Rattle.attributes.proofs.Exactly.{white-no-name}
 use Rattle.markup.specs.declared.Skip.{Skip}
 use Rattle.markup.specs.declared.Skip.the-variants as skip
-use Rattle.tags.specs.rule.Tag.{missesOf, nothing, tagOf}
+use Rattle.tags.specs.rule.Tag.{missesOf, nothingHeld, tagOf}
 use Rattle.tags.specs.declared.Held.{Held}
 use Rattle.tags.specs.declared.Tag.{Tag}
 use Rattle.tags.specs.declared.Tag.the-variants.{Read, Fault}
 use Rattle.tags.proofs.Exactly.{Tagged, tag-exactly}
-use Rattle.pairs.specs.rule.Grammar.{White, Name, name, Given, given, Attributes, none, known, other, closing, Behind, behind}
+use Rattle.pairs.specs.rule.Grammar.{White, Name, name, PairGiven, given, Attributes, none, known, other, closing, Behind, behind}
 use Rattle.pairs.specs.rule.Grammar.{firstOf}
 use Rattle.pairs.proofs.Lies.{Lies, lies-none, lies-join, lies-byte, lies-cut, lies-first, stretch-lies, lies-within}
 use Rattle.pairs.proofs.Given.{Listed, placed-listed, Led, listed-placed, name-each, name-starts, as-stretch}
@@ -199,7 +199,7 @@ module _ (bad : Bool) (k d : List ℕ) (o at : ℕ) where
       → (ltb 0 required ≡ true → g ≡ true) → (n : ℕ) → Lies d at n s → TagRead bad k d o at n em required a
   tag-complete required em h (behind {s = s} {v} r w) f n l =
       let c = lies-cut d at n s (v ++ closing em) l in
-      let y = listed-placed k d r (nothing at) (at + length s) refl refl (c .0) in
+      let y = listed-placed k d r (nothingHeld at) (at + length s) refl refl (c .0) in
       let nx = y .next in
       let sh = shut-complete bad d o (at + length s) n em w (c .1) in
       record {

@@ -8,7 +8,7 @@ ghost use mathlib.Core.Path.{_≡_};
 ghost use mathlib.Core.List.{[]};
 ghost use Prim.Native.Nat.{_+_, _-_, _≤_, _<_};
 ghost use lib.ListN.{length, drop};
-ghost use Rattle.pairs.specs.rule.Stand.{textOf, standAt, standOf, shutOf, bareOf};
+ghost use Rattle.pairs.specs.rule.Stand.{textStand, standAt, standOf, shutOf, bareOf};
 ghost use Rattle.pairs.specs.rule.Pair.{missedOf, closedOf, pairOf};
 
 // A start tag or an end tag, with the place of its < and the place where its name ends; the < of what document 000 doesn't name; the
@@ -24,7 +24,7 @@ pub enum Stand {
 // Where a text stands: its first character is read, if it is a reference.
 fn stand_text(d: &[u8], n: usize) -> Stand
     requires { ⌜ n < length (now d) ⌝ }
-    ensures { λ r. ⌜ r ≡ textOf (now (d .entry)) n ⌝ }
+    ensures { λ r. ⌜ r ≡ textStand (now (d .entry)) n ⌝ }
 {
     if d[n] == 38 {
         match markup::reference(d, n) {

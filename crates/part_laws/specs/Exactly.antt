@@ -11,13 +11,13 @@ use lib.IntN.{ℤ}
 use lib.ListN.{length, length-append}
 use Rattle.below.specs.Below.{lt-or-le}
 use Rattle.cuts.specs.declared.Terminator.{Terminator}
-use Rattle.cuts.specs.rule.Cut.{single, pair, none}
+use Rattle.cuts.specs.rule.Cut.{oneByte, twoBytes, noEnding}
 use Rattle.cuts.specs.rule.Records.{Records, over, unended, record-and, recordsFrom}
 use Rattle.sound.specs.rule.Sound.{wellFormed}
 use Rattle.records.specs.rule.Verdict.{Verdict, sound, refused, verdictOf}
 use Rattle.files.specs.rule.File.{FileVerdict, soundWith, badTable, faultIn, recordVerdict, goOn, isSound}
 use Rattle.files.specs.File.{go-sound, go-fault, verdict-other}
-use Rattle.file_laws.specs.rule.Files.{before, AllSound, none-yet, one-more}
+use Rattle.file_laws.specs.rule.Files.{recordsBefore, AllSound, none-yet, one-more}
 use Rattle.file_laws.specs.Files.{record-as-judged}
 use Rattle.file_laws.specs.Files.{not-sound, is-sound, sound-not, before-more, sound-more}
 use Rattle.parts.specs.rule.Part.{numbered, partRecords, PartVerdict, noTerminator, judgedAs, partVerdict, PartJudged}
@@ -32,7 +32,7 @@ part-one a b = a .says ∙ sym (b .says)
 
 -- ---- the numbers
 chosen : (a b c d : Bool) → Terminator
-chosen a b c d = cond a (pair 13 10) (cond b (pair 10 13) (cond c (single 13 10) (cond d (single 10 13) none)))
+chosen a b c d = cond a (twoBytes 13 10) (cond b (twoBytes 10 13) (cond c (oneByte 13 10) (cond d (oneByte 10 13) noEnding)))
 
 pub number-some : (k : ℕ) → IsNumber k → numbered k .size ≡ 0 → ⊥
 unfolding numbered chosen
@@ -81,12 +81,12 @@ module _ (t : List ℤ) (good : wellFormed t ≡ true) (first : ℕ) (q : Bool) 
 
   -- sound records are passed
   passed : {rs : List (List ℕ)} → AllSound t first rs → (n : ℕ) (rest : Records)
-      → partRecords t n first q (before rs rest) ≡ partRecords t (n + length rs) first q rest
-  unfolding before
+      → partRecords t n first q (recordsBefore rs rest) ≡ partRecords t (n + length rs) first q rest
+  unfolding recordsBefore
   passed none-yet n rest = let z : n + 0 ≡ n = omega arith in rw z
   passed (one-more {r} {rs} e s a) n rest =
       let z : n + length (r ∷ rs) ≡ n + 1 + length rs = omega arith in
-      next-sound n r (before rs rest) e s ∙ rw z (passed a (n + 1) rest)
+      next-sound n r (recordsBefore rs rest) e s ∙ rw z (passed a (n + 1) rest)
 
 numberOr : (k : ℕ) → IsNumber k ⊎ (IsNumber k → ⊥)
 numberOr k =
@@ -165,7 +165,7 @@ module _ (t : List ℤ) (d : List ℕ) (terminator first last : ℕ) where
           rw (next-sound t good first marked (length rs) r rest l y) (rw long at (ih (more l y)))
 
   pub part-named : PartOutcome t d terminator first last (partVerdict t d terminator first last)
-  unfolding before
+  unfolding recordsBefore
   part-named = go (wellFormed t) refl (numberOr terminator)
     where
       go : (b : Bool) → wellFormed t ≡ b → IsNumber terminator ⊎ (IsNumber terminator → ⊥)

@@ -14,8 +14,8 @@ use Rattle.below.specs.Below.{holds-not}
 use Rattle.cuts.specs.declared.Terminator.{Terminator}
 use Rattle.cuts.specs.declared.Next.{Next}
 use Rattle.cuts.specs.declared.Next.the-variants.{Ended, Unended, Nothing}
-use Rattle.cuts.specs.rule.Cut.{single, pair, none, beginsWith, terminatorAt, terminatorOf, wholeAt, beginsAt, nextFrom}
-use Rattle.cuts.specs.rule.Records.{Records, over, unended, record-and, atEnd, cut, recordsFrom, recordsOf, countEnded}
+use Rattle.cuts.specs.rule.Cut.{oneByte, twoBytes, noEnding, beginsWith, terminatorAt, terminatorOf, wholeAt, beginsAt, nextFrom}
+use Rattle.cuts.specs.rule.Records.{Records, over, unended, record-and, atEnd, cut, recordsFrom, recordsOf, countEnded, lengthOfFirst}
 use Rattle.cuts.specs.Records.{part, EndedAt, next-ended, next-unended, next-nothing, over-past}
 use Rattle.sound.specs.rule.Sound.{wellFormed}
 use Rattle.sound.specs.rule.Rows.{rowsOf, lengthOf}
@@ -23,7 +23,7 @@ use Rattle.records.specs.rule.Verdict.{Verdict, sound, refused, lowByte, badFie
 use Rattle.files.specs.rule.File.{FileVerdict, soundWith, badTable, faultIn, recordVerdict, goOn, firstLength, recordsVerdict, fileVerdict}
 use Rattle.files.specs.rule.File.{isSound}
 use Rattle.files.specs.File.{go-sound, go-fault}
-use Rattle.file_laws.specs.rule.Files.{firstOf, before, AllSound, none-yet, one-more}
+use Rattle.file_laws.specs.rule.Files.{recordsBefore, AllSound, none-yet, one-more}
 use Rattle.parts.specs.rule.Part.{numbered, partRecords, PartVerdict, noTerminator, judgedAs, partVerdict}
 use Rattle.parts.specs.Part.{part-bad, part-judged}
 use Rattle.part_laws.specs.rule.Exactly.{IsNumber, PartOutcome, not-formed, no-number, all-sound, left-alone, not-ended}
@@ -204,8 +204,8 @@ as-last t (unended r) n first = refl
 as-last t (record-and r rs) n first =
     rw (known n first (length r)) (ap (goOn (recordVerdict t first r) (n + 1)) (as-last t rs (n + 1) first))
 
-pub whole-as-last : (t : List ℤ) (rs : Records) → recordsVerdict t 0 0 rs ≡ partRecords t 0 (firstOf rs) true rs
-unfolding recordsVerdict partRecords firstOf firstLength
+pub whole-as-last : (t : List ℤ) (rs : Records) → recordsVerdict t 0 0 rs ≡ partRecords t 0 (lengthOfFirst rs) true rs
+unfolding recordsVerdict partRecords lengthOfFirst firstLength
 whole-as-last t over = refl
 whole-as-last t (unended r) = refl
 whole-as-last t (record-and r rs) = ap (goOn (recordVerdict t (length r) r) 0) (as-last t rs 0 (length r))
@@ -267,12 +267,12 @@ module _ (t : List ℤ) (terminator first : ℕ) (good : wellFormed t ≡ true) 
 -- a file cut into parts of any sizes, each beginning where the one before left off, gets its own verdict: the first fault, counted in the
 -- file, or the count of all its records
 pub in-parts : (t : List ℤ) (d : List ℕ) (terminator : ℕ) (sizes : List ℕ) → terminatorOf d ≡ numbered terminator
-    → IsNumber terminator → inParts t terminator (firstOf (recordsOf d)) 0 d sizes ≡ judgedAs (fileVerdict t d)
+    → IsNumber terminator → inParts t terminator (lengthOfFirst (recordsOf d)) 0 d sizes ≡ judgedAs (fileVerdict t d)
 unfolding inParts followed fileVerdict recordsOf
 in-parts t d terminator sizes e k = go (wellFormed t) refl
   where
     first : ℕ
-    first = firstOf (recordsOf d)
+    first = lengthOfFirst (recordsOf d)
 
     bad : (sizes : List ℕ) → wellFormed t ≡ false → inParts t terminator first 0 d sizes ≡ judgedAs badTable
     bad [] f = rw (part-bad t d terminator first 1 f)
@@ -287,12 +287,13 @@ in-parts t d terminator sizes e k = go (wellFormed t) refl
 
 -- ---- WHERE A PART LEFT OFF: behind its count of records, each of the first one's length, no record of the part is ended
 passed-to : (t : List ℤ) (w : Terminator) (first : ℕ) {rs : List (List ℕ)} → AllSound t first rs → (s : List ℕ) (rest : Records)
-    → recordsFrom w s ≡ before rs rest → recordsFrom w (drop (length rs * (first + w .size)) s) ≡ rest
-unfolding before
+    → recordsFrom w s ≡ recordsBefore rs rest → recordsFrom w (drop (length rs * (first + w .size)) s) ≡ rest
+unfolding recordsBefore
 passed-to t w first none-yet s rest e = rw (zero-mul (first + w .size)) e
 passed-to t w first (one-more {r} {rs} l v a) s rest e =
     let size = first + w .size in
-    let here : before rs rest ≡ recordsFrom w (drop size s) = split w s e .left ∙ ap (λ (x : ℕ). recordsFrom w (drop (x + w .size) s)) l in
+    let here : recordsBefore rs rest ≡ recordsFrom w (drop size s) = split w s e .left
+    ∙ ap (λ (x : ℕ). recordsFrom w (drop (x + w .size) s)) l in
     let z : size + length rs * size ≡ suc (length rs) * size = rw (suc-mul (length rs) size) (omega arith) in
     rw (drop-drop (length rs * size) size s, z) at (passed-to t w first a (drop size s) rest (sym here))
 
@@ -319,12 +320,12 @@ left-off t d terminator first last m e = go (part-named t d terminator first las
     go (record-fault rs r rest s l n) q = let z : _≡_ {A = ℕ} 0 1 = cc in absurd (omega arith)
 
 -- ---- every file that has a CR or a LF has a terminator with a number
-number-at : (k l : ℕ) (a b : ℕ) (s : List ℕ) → numbered k ≡ pair a b → numbered l ≡ single a b
+number-at : (k l : ℕ) (a b : ℕ) (s : List ℕ) → numbered k ≡ twoBytes a b → numbered l ≡ oneByte a b
     → terminatorAt a b s ≡ numbered (cond (beginsWith b s) k l)
 unfolding terminatorAt
 number-at k l a b s e f = go (beginsWith b s)
   where
-    go : (x : Bool) → cond x (pair a b) (single a b) ≡ numbered (cond x k l)
+    go : (x : Bool) → cond x (twoBytes a b) (oneByte a b) ≡ numbered (cond x k l)
     go true = sym e
     go false = sym f
 

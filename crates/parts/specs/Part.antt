@@ -10,7 +10,7 @@ use lib.IntN.{ℤ}
 use lib.ListN.{length}
 use Rattle.lows.specs.rule.Lows.{lowAt}
 use Rattle.cuts.specs.declared.Terminator.{Terminator}
-use Rattle.cuts.specs.rule.Cut.{single, pair, none}
+use Rattle.cuts.specs.rule.Cut.{oneByte, twoBytes, noEnding}
 use Rattle.cuts.specs.Cut.{Ending}
 use Rattle.cuts.specs.rule.Records.{Records, over, unended, record-and, recordsFrom}
 use Rattle.sound.specs.rule.Sound.{wellFormed}
@@ -122,7 +122,7 @@ unfolding numbered
 numbered-ending k = go (eqb k 1) (eqb k 2) (eqb k 3) (eqb k 4)
   where
     go : (a b c d : Bool)
-        → Ending (cond a (pair 13 10) (cond b (pair 10 13) (cond c (single 13 10) (cond d (single 10 13) none))))
+        → Ending (cond a (twoBytes 13 10) (cond b (twoBytes 10 13) (cond c (oneByte 13 10) (cond d (oneByte 10 13) noEnding))))
     go true b c d = record { low = omega arith; few = omega arith }
     go false true c d = record { low = omega arith; few = omega arith }
     go false false true d = record { low = omega arith; few = omega arith }

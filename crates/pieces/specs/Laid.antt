@@ -9,13 +9,14 @@ use lib.ListN.{drop}
 use lib.Seq.{drop-nil}
 use Rattle.below.specs.Below.{holds-not}
 use Rattle.cuts.specs.declared.Terminator.{Terminator}
-use Rattle.cuts.specs.rule.Cut.{single, pair, none, beginsWith, terminatorAt}
+use Rattle.cuts.specs.rule.Cut.{oneByte, twoBytes, noEnding, beginsWith, terminatorAt}
 use Rattle.cuts.specs.rule.Records.{terminatorBytes}
-use Rattle.pieces.specs.rule.Pieces.{boundaryAt, Piece, piece, firstOf, behind, onto, cutFrom, piecesOf, boundaryBytes, laidPieces}
+use Rattle.pieces.specs.rule.Pieces.{boundaryAt, Piece, piece, firstPiece, piecesBehind, onto, cutFrom, piecesOf, boundaryBytes}
+use Rattle.pieces.specs.rule.Pieces.{laidPieces}
 
 -- a byte in front of the first piece is a byte in front of all
 laid-onto : (b : ℕ) (ps : List Piece) → laidPieces (onto b ps) ≡ b ∷ laidPieces ps
-unfolding onto laidPieces firstOf behind boundaryBytes
+unfolding onto laidPieces firstPiece piecesBehind boundaryBytes
 laid-onto b [] = refl
 laid-onto b (p ∷ ps) = refl
 
@@ -26,7 +27,7 @@ at-laid a b [] = refl
 at-laid a b (c ∷ s) = go (eqb c b) refl
   where
     go : (q : Bool) → eqb c b ≡ q
-        → boundaryBytes (cond q (pair a b) (single a b)) ++ drop (cond q (pair a b) (single a b) .size - 1) (c ∷ s) ≡ a ∷ c ∷ s
+        → boundaryBytes (cond q (twoBytes a b) (oneByte a b)) ++ drop (cond q (twoBytes a b) (oneByte a b) .size - 1) (c ∷ s) ≡ a ∷ c ∷ s
     go true e = let z : c ≡ b = eqb-true c b e in rw z
     go false e = refl
 
@@ -36,9 +37,9 @@ unfolding boundaryAt
 boundary-laid b s h = go (eqb b 13) refl (eqb b 10) refl h
   where
     go : (p : Bool) → eqb b 13 ≡ p → (q : Bool) → eqb b 10 ≡ q
-        → eqb (cond p (terminatorAt 13 10 s) (cond q (terminatorAt 10 13 s) none) .size) 0 ≡ false
-        → boundaryBytes (cond p (terminatorAt 13 10 s) (cond q (terminatorAt 10 13 s) none))
-        ++ drop (cond p (terminatorAt 13 10 s) (cond q (terminatorAt 10 13 s) none) .size - 1) s
+        → eqb (cond p (terminatorAt 13 10 s) (cond q (terminatorAt 10 13 s) noEnding) .size) 0 ≡ false
+        → boundaryBytes (cond p (terminatorAt 13 10 s) (cond q (terminatorAt 10 13 s) noEnding))
+        ++ drop (cond p (terminatorAt 13 10 s) (cond q (terminatorAt 10 13 s) noEnding) .size - 1) s
         ≡ b ∷ s
     go true e q f h = let z : b ≡ 13 = eqb-true b 13 e in rw z (at-laid 13 10 s)
     go false e true f h = let z : b ≡ 10 = eqb-true b 10 f in rw z (at-laid 10 13 s)

@@ -14,10 +14,10 @@ use Rattle.below.specs.Below.{lt-or-le}
 use Rattle.lows.specs.rule.Lows.{lowAt}
 use Rattle.lows.specs.Lows.{lowAmong, Clear, among-more}
 use Rattle.cuts.specs.declared.Terminator.{Terminator}
-use Rattle.cuts.specs.rule.Cut.{single, pair, none, beginsWith, terminatorAt}
+use Rattle.cuts.specs.rule.Cut.{oneByte, twoBytes, noEnding, beginsWith, terminatorAt}
 use Rattle.cuts.specs.Records.{part}
 use Rattle.pieces.specs.declared.Span.{Span}
-use Rattle.pieces.specs.rule.Pieces.{boundaryAt, Piece, piece, firstOf, behind, onto, cutFrom}
+use Rattle.pieces.specs.rule.Pieces.{boundaryAt, Piece, piece, firstPiece, piecesBehind, onto, cutFrom}
 
 -- how many bytes are below 32
 unfoldable pub lowCount : List ℕ → ℕ
@@ -33,7 +33,7 @@ pub record LowFrom (d : List ℕ) (from to : ℕ) : Type 0 where
 pub record NoBoundary (d : List ℕ) (from to : ℕ) : Type 0 where
   pub on : from ≤ to
   pub within : to ≤ length d
-  pub nowhere : (j : ℕ) → from ≤ j → j < to → boundaryAt (drop j d) ≡ none
+  pub nowhere : (j : ℕ) → from ≤ j → j < to → boundaryAt (drop j d) ≡ noEnding
 
 -- the piece that a span says, from a place on
 abbrev pub pieceAt : List ℕ → ℕ → Span → Piece
@@ -68,21 +68,21 @@ module _ (d : List ℕ) (i : ℕ) where
   unfolding boundaryAt
   boundary-lf h n e = rw (drop-cons d i 0 h, ne-eqb (getD d i 0) 13 n, eq-eqb (getD d i 0) 10 e, add-one i)
 
-  pub boundary-none : i < length d → (getD d i 0 ≡ 13 → ⊥) → (getD d i 0 ≡ 10 → ⊥) → boundaryAt (drop i d) ≡ none
+  pub boundary-none : i < length d → (getD d i 0 ≡ 13 → ⊥) → (getD d i 0 ≡ 10 → ⊥) → boundaryAt (drop i d) ≡ noEnding
   unfolding boundaryAt
   boundary-none h n m = rw (drop-cons d i 0 h, ne-eqb (getD d i 0) 13 n, ne-eqb (getD d i 0) 10 m)
 
-  pub boundary-past : length d ≤ i → boundaryAt (drop i d) ≡ none
+  pub boundary-past : length d ≤ i → boundaryAt (drop i d) ≡ noEnding
   unfolding boundaryAt
   boundary-past h = rw (drop-of-length-le d h)
 
-  pub boundary-plain : i < length d → lowAt d i ≡ false → boundaryAt (drop i d) ≡ none
+  pub boundary-plain : i < length d → lowAt d i ≡ false → boundaryAt (drop i d) ≡ noEnding
   boundary-plain h e =
       let l : 32 ≤ getD d i 0 = ltb-false (getD d i 0) 32 e in
       boundary-none h (λ q. omega arith) (λ q. omega arith)
 
   -- a byte that no boundary begins with goes onto the first piece
-  cut-on : i < length d → boundaryAt (drop i d) ≡ none → cutFrom 0 (drop i d) ≡ onto (getD d i 0) (cutFrom 0 (drop (i + 1) d))
+  cut-on : i < length d → boundaryAt (drop i d) ≡ noEnding → cutFrom 0 (drop i d) ≡ onto (getD d i 0) (cutFrom 0 (drop (i + 1) d))
   unfolding cutFrom
   cut-on h e = let e′ = rw (drop-cons d i 0 h) at e in rw (drop-cons d i 0 h, e′, add-one i)
 
@@ -92,15 +92,15 @@ unfolding terminatorAt beginsWith
 at-fits a b [] = omega arith
 at-fits a b (c ∷ s) = go (eqb c b)
   where
-    go : (q : Bool) → cond q (pair a b) (single a b) .size ≤ suc (suc (length s))
+    go : (q : Bool) → cond q (twoBytes a b) (oneByte a b) .size ≤ suc (suc (length s))
     go true = omega arith
     go false = omega arith
 
-at-sized : (a b : ℕ) (s : List ℕ) → terminatorAt a b s .size ≡ 0 → terminatorAt a b s ≡ none
+at-sized : (a b : ℕ) (s : List ℕ) → terminatorAt a b s .size ≡ 0 → terminatorAt a b s ≡ noEnding
 unfolding terminatorAt
 at-sized a b s e = go (beginsWith b s) e
   where
-    go : (q : Bool) → cond q (pair a b) (single a b) .size ≡ 0 → cond q (pair a b) (single a b) ≡ none
+    go : (q : Bool) → cond q (twoBytes a b) (oneByte a b) .size ≡ 0 → cond q (twoBytes a b) (oneByte a b) ≡ noEnding
     go true e = absurd (omega arith)
     go false e = absurd (omega arith)
 
@@ -109,18 +109,18 @@ unfolding boundaryAt
 boundary-fits [] = omega arith
 boundary-fits (b ∷ s) = go (eqb b 13) (eqb b 10)
   where
-    go : (p q : Bool) → cond p (terminatorAt 13 10 s) (cond q (terminatorAt 10 13 s) none) .size ≤ suc (length s)
+    go : (p q : Bool) → cond p (terminatorAt 13 10 s) (cond q (terminatorAt 10 13 s) noEnding) .size ≤ suc (length s)
     go true q = at-fits 13 10 s
     go false true = at-fits 10 13 s
     go false false = omega arith
 
-pub boundary-sized : (s : List ℕ) → boundaryAt s .size ≡ 0 → boundaryAt s ≡ none
+pub boundary-sized : (s : List ℕ) → boundaryAt s .size ≡ 0 → boundaryAt s ≡ noEnding
 unfolding boundaryAt
 boundary-sized [] e = refl
 boundary-sized (b ∷ s) e = go (eqb b 13) (eqb b 10) e
   where
-    go : (p q : Bool) → cond p (terminatorAt 13 10 s) (cond q (terminatorAt 10 13 s) none) .size ≡ 0
-        → cond p (terminatorAt 13 10 s) (cond q (terminatorAt 10 13 s) none) ≡ none
+    go : (p q : Bool) → cond p (terminatorAt 13 10 s) (cond q (terminatorAt 10 13 s) noEnding) .size ≡ 0
+        → cond p (terminatorAt 13 10 s) (cond q (terminatorAt 10 13 s) noEnding) ≡ noEnding
     go true q e = at-sized 13 10 s e
     go false true e = at-sized 10 13 s e
     go false false e = refl
@@ -135,8 +135,8 @@ skip-drop (suc k) (b ∷ s) = skip-drop k s
 abbrev either : ℕ → List ℕ → Bool → List Piece
 either b s q = cond q (onto b (cutFrom 0 s)) (piece [] (boundaryAt (b ∷ s)) ∷ cutFrom (boundaryAt (b ∷ s) .size - 1) s)
 
-cut-either : (b : ℕ) (s : List ℕ) (q : Bool) → either b s q ≡ firstOf (either b s q) ∷ behind (either b s q)
-unfolding onto firstOf behind
+cut-either : (b : ℕ) (s : List ℕ) (q : Bool) → either b s q ≡ firstPiece (either b s q) ∷ piecesBehind (either b s q)
+unfolding onto firstPiece piecesBehind
 cut-either b s true = refl
 cut-either b s false = refl
 
@@ -156,16 +156,16 @@ module _ (d : List ℕ) where
 
   -- where anything is left, there is a piece
   cut-some : (i : ℕ) → i < length d
-      → cutFrom 0 (drop i d) ≡ firstOf (cutFrom 0 (drop i d)) ∷ behind (cutFrom 0 (drop i d))
+      → cutFrom 0 (drop i d) ≡ firstPiece (cutFrom 0 (drop i d)) ∷ piecesBehind (cutFrom 0 (drop i d))
   unfolding cutFrom
   cut-some i h = rw (drop-cons d i 0 h) (cut-either (getD d i 0) (drop (suc i) d) (eqb (boundaryAt (getD d i 0 ∷ drop (suc i) d) .size) 0))
 
   -- bytes with no boundary among them are the first piece's
   run-on : (n i : ℕ) (w : Terminator) (rest : List Piece) → i + n ≤ length d
-      → ((j : ℕ) → i ≤ j → j < i + n → boundaryAt (drop j d) ≡ none)
-      → firstOf (cutFrom 0 (drop (i + n) d)) ≡ piece [] w → behind (cutFrom 0 (drop (i + n) d)) ≡ rest
-      → (firstOf (cutFrom 0 (drop i d)) ≡ piece (take n (drop i d)) w) × (behind (cutFrom 0 (drop i d)) ≡ rest)
-  unfolding onto firstOf behind
+      → ((j : ℕ) → i ≤ j → j < i + n → boundaryAt (drop j d) ≡ noEnding)
+      → firstPiece (cutFrom 0 (drop (i + n) d)) ≡ piece [] w → piecesBehind (cutFrom 0 (drop (i + n) d)) ≡ rest
+      → (firstPiece (cutFrom 0 (drop i d)) ≡ piece (take n (drop i d)) w) × (piecesBehind (cutFrom 0 (drop i d)) ≡ rest)
+  unfolding onto firstPiece piecesBehind
   run-on zero i w rest h g f b = let e : i + 0 ≡ i = omega arith in (rw e at f, rw e at b)
   run-on (suc n) i w rest h g f b =
       let e : i + suc n ≡ i + 1 + n = omega arith in
@@ -173,12 +173,12 @@ module _ (d : List ℕ) where
       let c = cut-on d i l (g i (omega arith) (omega arith)) in
       let k = run-on n (i + 1) w rest (omega arith) (λ j a z. g j (omega arith) (omega arith)) (rw e at f) (rw e at b) in
       let t : take (suc n) (drop i d) ≡ getD d i 0 ∷ take n (drop (i + 1) d) = rw (drop-cons d i 0 l, add-one i) in
-      (rw (c, k .0, t), ap behind c ∙ k .1)
+      (rw (c, k .0, t), ap piecesBehind c ∙ k .1)
 
   -- A PIECE: no boundary from `from` to `stop`, and one there or the end
   pub piece-next : (from stop : ℕ) → NoBoundary d from stop → from < length d
-      → firstOf (cutFrom 0 (drop stop d)) ≡ piece [] (boundaryAt (drop stop d))
-      → behind (cutFrom 0 (drop stop d)) ≡ cutFrom 0 (drop (stop + boundaryAt (drop stop d) .size) d)
+      → firstPiece (cutFrom 0 (drop stop d)) ≡ piece [] (boundaryAt (drop stop d))
+      → piecesBehind (cutFrom 0 (drop stop d)) ≡ cutFrom 0 (drop (stop + boundaryAt (drop stop d) .size) d)
       → cutFrom 0 (drop from d)
       ≡ piece (part d from stop) (boundaryAt (drop stop d)) ∷ cutFrom 0 (drop (stop + boundaryAt (drop stop d) .size) d)
   piece-next from stop u h f b =
@@ -188,15 +188,15 @@ module _ (d : List ℕ) where
       cut-some from h ∙ rw (k .0, k .1)
 
   pub ends-here : (stop : ℕ) → stop < length d → 1 ≤ boundaryAt (drop stop d) .size
-      → (firstOf (cutFrom 0 (drop stop d)) ≡ piece [] (boundaryAt (drop stop d)))
-      × (behind (cutFrom 0 (drop stop d)) ≡ cutFrom 0 (drop (stop + boundaryAt (drop stop d) .size) d))
-  unfolding firstOf behind
-  ends-here stop h s = let c = cut-here stop h s in (ap firstOf c, ap behind c)
+      → (firstPiece (cutFrom 0 (drop stop d)) ≡ piece [] (boundaryAt (drop stop d)))
+      × (piecesBehind (cutFrom 0 (drop stop d)) ≡ cutFrom 0 (drop (stop + boundaryAt (drop stop d) .size) d))
+  unfolding firstPiece piecesBehind
+  ends-here stop h s = let c = cut-here stop h s in (ap firstPiece c, ap piecesBehind c)
 
   pub ends-last : (stop : ℕ) → length d ≤ stop
-      → (firstOf (cutFrom 0 (drop stop d)) ≡ piece [] (boundaryAt (drop stop d)))
-      × (behind (cutFrom 0 (drop stop d)) ≡ cutFrom 0 (drop (stop + boundaryAt (drop stop d) .size) d))
-  unfolding firstOf behind cutFrom boundaryAt
+      → (firstPiece (cutFrom 0 (drop stop d)) ≡ piece [] (boundaryAt (drop stop d)))
+      × (piecesBehind (cutFrom 0 (drop stop d)) ≡ cutFrom 0 (drop (stop + boundaryAt (drop stop d) .size) d))
+  unfolding firstPiece piecesBehind cutFrom boundaryAt
   ends-last stop h =
       let e = drop-of-length-le d h in
       (rw e, rw (e, drop-of-length-le d {i = stop + 0} (omega arith)))
@@ -210,7 +210,7 @@ module _ (d : List ℕ) where
   }
 
   -- over a byte that none stands at, and on
-  pub none-more : (from i to : ℕ) → NoBoundary d from i → boundaryAt (drop i d) ≡ none → NoBoundary d (i + 1) to → NoBoundary d from to
+  pub none-more : (from i to : ℕ) → NoBoundary d from i → boundaryAt (drop i d) ≡ noEnding → NoBoundary d (i + 1) to → NoBoundary d from to
   none-more from i to u e v = record {
     on = omega (arith, u .on, v .on);
     within = v .within;
@@ -280,7 +280,7 @@ module _ (d : List ℕ) (from stop lows : ℕ) (h : from < length d) (u : NoBoun
       one : (w : Terminator) → (w .size ≡ 0 → ⊥) → 1 ≤ w .size
       one w z = omega arith
 
-  pub span-last : length d ≤ stop → Spans d from (record { stop = stop; lows = lows; boundary = none })
+  pub span-last : length d ≤ stop → Spans d from (record { stop = stop; lows = lows; boundary = noEnding })
   span-last l =
       let x = ends-last d stop l in
       let e = boundary-past d stop l in record {

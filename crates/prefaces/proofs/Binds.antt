@@ -9,7 +9,7 @@ use Rattle.tags.specs.rule.Tag.{isNamed}
 use Rattle.tags.specs.declared.Tag.{Tag}
 use Rattle.tags.specs.declared.Tag.the-variants as tag
 use Rattle.pairs.specs.rule.Stand.{bareOf}
-use Rattle.survey.specs.rule.Survey.{Text}
+use Rattle.survey.specs.rule.Survey.{KeptText}
 use Rattle.tokens.specs.declared.Phrase.{Phrase}
 use Rattle.tokens.specs.declared.Phrase.the-variants as phrase
 use Rattle.tokens.specs.declared.Reading.{Reading}
@@ -19,7 +19,7 @@ use Rattle.reading.specs.rule.Token.{passed}
 use Rattle.xml_reading.specs.rule.Word.{SSS, SURVEY, RECORD}
 use Rattle.xml_reading.specs.rule.Open as rule
 use Rattle.xml_reading.specs.rule.Variable as variable
-use Rattle.xml_reading.specs.rule.Sheet.{root, manner, heading, survey, titles, record-tag, preface, closing}
+use Rattle.xml_reading.specs.rule.Sheet.{root, manner, heading, survey, titles, record-tag, preface, sheetClosed}
 use Rattle.elements.specs.declared.Open.{Open}
 use Rattle.elements.specs.declared.Open.the-variants as opened
 use Rattle.elements.specs.declared.Due.the-variants as dues
@@ -37,11 +37,11 @@ pub passed-is : {r : Reading} (x : Result Unit) → r ≡ readingOf x → passed
 passed-is (Is u n) e = ap passed e
 passed-is (Not f) e = ap passed e
 
-abbrev pub phraseRead : Phrase → Result Text
+abbrev pub phraseRead : Phrase → Result KeptText
 phraseRead (phrase.Is q) = Is (record { place = q .place; length = q .length }) (q .next)
 phraseRead (phrase.Not f) = Not f
 
-pub phrase-is : {r : Phrase} (x : Result Text) → r ≡ phraseOf x → phraseRead r ≡ x
+pub phrase-is : {r : Phrase} (x : Result KeptText) → r ≡ phraseOf x → phraseRead r ≡ x
 phrase-is (Is t n) e = ap phraseRead e
 phrase-is (Not f) e = ap phraseRead e
 
@@ -119,13 +119,13 @@ module _ (bad : Bool) (d : List ℕ) where
     by (Is p n) = on (manner bad d latin p n)
     by (Not f) = refl
 
-  pub closing-is : (at : ℕ) → closing bad d at ≡ bind (endOf bad d SURVEY at) (λ u n. bind (endOf bad d SSS n) (λ u. clearedOf bad d))
-  unfolding closing endOf clearedOf
-  closing-is at = sym (bind-bind (rule.within bad d SURVEY at) (rule.over bad d) last)
-      ∙ on (bind (rule.within bad d SURVEY at) (rule.over bad d)) where
+  pub closing-is : (at : ℕ) → sheetClosed bad d at ≡ bind (endOf bad d SURVEY at) (λ u n. bind (endOf bad d SSS n) (λ u. clearedOf bad d))
+  unfolding sheetClosed endOf clearedOf
+  closing-is at = sym (bind-bind (rule.withinElement bad d SURVEY at) (rule.over bad d) last)
+      ∙ on (bind (rule.withinElement bad d SURVEY at) (rule.over bad d)) where
         last : Unit {0} → Reader (Unit {0})
-        last u n = bind (rule.within bad d SSS n) (λ o n. bind (rule.over bad d o n) (λ u. clearedOf bad d))
+        last u n = bind (rule.withinElement bad d SSS n) (λ o n. bind (rule.over bad d o n) (λ u. clearedOf bad d))
 
         on : (y : Result (Unit {0})) → bind y last ≡ bind y (λ u n. bind (endOf bad d SSS n) (λ u. clearedOf bad d))
-        on (Is u n) = sym (bind-bind (rule.within bad d SSS n) (rule.over bad d) (λ u. clearedOf bad d))
+        on (Is u n) = sym (bind-bind (rule.withinElement bad d SSS n) (rule.over bad d) (λ u. clearedOf bad d))
         on (Not f) = refl

@@ -7,14 +7,14 @@ use native.Mathlib.Omega.{arith}
 use lib.Dec.{ltb, leb}
 use borrow.Author.Tests.{ltb-true, ltb-false, lt-leb, le-leb}
 use Rattle.tokens.specs.rule.Gap.{fault}
-use Rattle.reading.specs.rule.Least.{Charge, _when_, named, before, clean, first, lower, least}
+use Rattle.reading.specs.rule.Least.{Charge, _when_, named, goesBefore, clean, first, lower, least}
 
 module _ (a u t : ℕ) where
   abbrev pub charges : Bool → Bool → Bool → List Charge
   charges w x y = fault 4 a when w ∷ fault 51 u when x ∷ fault 51 t when y ∷ []
 
   pub version-first : (x y : Bool) → least (named (charges true x y)) ≡ first (fault 4 a)
-  unfolding least named lower before
+  unfolding least named lower goesBefore
   version-first true true = by (leb u t) where
     by : (q : Bool) → lower (fault 4 a) (cond q (first (fault 51 u)) (first (fault 51 t))) ≡ first (fault 4 a)
     by true = refl
@@ -24,19 +24,19 @@ module _ (a u t : ℕ) where
   version-first false false = refl
 
   pub third-alone : least (named (charges false false true)) ≡ first (fault 51 t)
-  unfolding least named lower before
+  unfolding least named lower goesBefore
   third-alone = refl
 
   pub none : least (named (charges false false false)) ≡ clean
-  unfolding least named lower before
+  unfolding least named lower goesBefore
   none = refl
 
   pub third-first : (y : Bool) → (y && ltb t u) ≡ true → least (named (charges false true y)) ≡ first (fault 51 t)
-  unfolding least named lower before
+  unfolding least named lower goesBefore
   third-first true e = rw (lt-leb u t (ltb-true t u e))
   third-first false e = let z : _≡_ {A = ℕ} 0 1 = cc in absurd (omega arith)
 
   pub unknown-first : (y : Bool) → (y && ltb t u) ≡ false → least (named (charges false true y)) ≡ first (fault 51 u)
-  unfolding least named lower before
+  unfolding least named lower goesBefore
   unknown-first true e = rw (le-leb u t (ltb-false t u e))
   unknown-first false e = refl

@@ -22,7 +22,7 @@ use Rattle.tags.specs.rule.Tag.{tagOf}
 use Rattle.tags.specs.declared.Held.{Held}
 use Rattle.tags.specs.declared.Tag.the-variants as tag
 use Rattle.tags.proofs.Exactly.{none}
-use Rattle.pairs.specs.rule.Stand.{onChar, textOf, onAngle, standAt, onGap, standOf, bareOf}
+use Rattle.pairs.specs.rule.Stand.{onTextChar, textStand, standAngle, standAt, onGap, standOf, bareOf}
 use Rattle.pairs.specs.declared.Stand.{Stand}
 use Rattle.pairs.specs.declared.Stand.the-variants as stand
 use Rattle.prologs.specs.rule.Told.{headOf}
@@ -32,7 +32,7 @@ use Rattle.prologs.proofs.Whole as headed
 use Rattle.prologs.proofs.Exactly.{told, doctype-within}
 use Rattle.prologs.proofs.Steps.{gap-within}
 use Rattle.tokens.specs.rule.Gap.{fault}
-use Rattle.survey.specs.rule.Survey.{Text}
+use Rattle.survey.specs.rule.Survey.{KeptText}
 use Rattle.reading.specs.rule.Result.{Is, Not, bind}
 use Rattle.reading.specs.rule.Least.{Charge, _when_, named, Finding, clean, first, least, found, judged}
 use Rattle.xml_reading.specs.rule.Open.{unknownAt}
@@ -49,10 +49,10 @@ isForeign (stand.Foreign p) = 1
 isForeign (stand.Text p) = 0
 isForeign (stand.Broken p) = 0
 
-text-none : (d : List ℕ) (p : ℕ) → isForeign (textOf d p) ≡ 0
-unfolding textOf
+text-none : (d : List ℕ) (p : ℕ) → isForeign (textStand d p) ≡ 0
+unfolding textStand
 text-none d p = by (eqb (getD d p 0) 38) (referenceOf p (drop (p + 1) d)) where
-  by : (x : Bool) (r : Char) → isForeign (cond x (onChar p r) (stand.Text p)) ≡ 0
+  by : (x : Bool) (r : Char) → isForeign (cond x (onTextChar p r) (stand.Text p)) ≡ 0
   by true (char.Is c n) = refl
   by true char.Bad = refl
   by false r = refl
@@ -63,13 +63,14 @@ foreign-in bad d at p f = on (gapOf bad d at) f where
   on : (g : Skip) → onGap bad d g ≡ stand.Foreign p → p ≤ length d
   on (skip.Broken q) f = let t : _≡_ {A = ℕ} 0 1 = cc in absurd (omega arith)
   on (skip.Past n) f = by (leb (length d) n) (eqb (getD d n 0) 60) refl f where
-    opened : (a : Angle) → leb (length d) n ≡ false → onAngle n a ≡ stand.Foreign p → p ≤ length d
+    opened : (a : Angle) → leb (length d) n ≡ false → standAngle n a ≡ stand.Foreign p → p ≤ length d
     opened (angle.Start m) h f = let t : _≡_ {A = ℕ} 0 1 = cc in absurd (omega arith)
     opened (angle.Close m) h f = let t : _≡_ {A = ℕ} 0 1 = cc in absurd (omega arith)
     opened angle.Foreign h f = let j : n ≡ p = cc in omega (arith, leb-false (length d) n h)
     opened (angle.Broken q) h f = let t : _≡_ {A = ℕ} 0 1 = cc in absurd (omega arith)
 
-    by : (x y : Bool) → leb (length d) n ≡ x → cond x (stand.Broken n) (cond y (onAngle n (angleOf bad d n)) (textOf d n)) ≡ stand.Foreign p
+    by : (x y : Bool) → leb (length d) n ≡ x → cond x (stand.Broken n) (cond y (standAngle n (angleOf bad d n)) (textStand d n))
+        ≡ stand.Foreign p
         → p ≤ length d
     by true y h f = let t : _≡_ {A = ℕ} 0 1 = cc in absurd (omega arith)
     by false true h f = opened (angleOf bad d n) h f

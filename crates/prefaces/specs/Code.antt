@@ -8,16 +8,16 @@ use Rattle.tags.specs.declared.Held.{Held}
 use Rattle.tokens.specs.rule.Gap.{fault}
 use Rattle.tokens.specs.declared.Reading.{Reading}
 use Rattle.tokens.specs.declared.Reading.the-variants.{At, Refused}
-use Rattle.prologs.specs.rule.Told.{tailOf}
+use Rattle.prologs.specs.rule.Told.{tailFrom}
 use Rattle.elements.specs.declared.Due.{Due}
 use Rattle.elements.specs.declared.Due.the-variants as due
 use Rattle.reading.specs.rule.Result.{Result, Is, Not, Reader, _>>=_, _>>_, give}
 use Rattle.reading.specs.rule.Least.{_when_}
 use Rattle.xml_reading.specs.rule.Word.{SSS, SURVEY, NAME, VERSION, RECORD}
-use Rattle.xml_reading.specs.rule.Open.{Open, within, over, unknownAt, entered, enter}
+use Rattle.xml_reading.specs.rule.Open.{Open, withinElement, over, unknownAt, entered, enter}
 use Rattle.xml_reading.specs.rule.Open as rule-open
 use Rattle.xml_reading.specs.rule.Element.{text}
-use Rattle.xml_reading.specs.rule.Sheet.{manner, perhaps, heading, survey, titles, record-tag, cleared}
+use Rattle.xml_reading.specs.rule.Sheet.{manner, perhapsElement, heading, survey, titles, record-tag, cleared}
 use Rattle.xml_reading.specs.rule.Variable as rule
 use Rattle.prefaces.specs.declared.Manner.{Manner}
 use Rattle.prefaces.specs.declared.Prefaced.{Prefaced}
@@ -66,11 +66,11 @@ enteredOf unknown empty q = enter false [] (unknownAt unknown ∷ []) empty q
 module _ (bad : Bool) (d : List ℕ) where
   -- a text w inside an element `around`, and what stands behind it
   abbrev pub textThen : List ℕ → List ℕ → ℕ → ℕ → Reader Open
-  textThen around w k p = text bad d w k p >> within bad d around
+  textThen around w k p = text bad d w k p >> withinElement bad d around
 
   -- the survey's name and version, which version 1.1 has not
   unfoldable pub titledOf : Bool → Open → Reader Open
-  titledOf old o = cond old (give o) (perhaps bad d SURVEY NAME 0 o >>= perhaps bad d SURVEY VERSION 0)
+  titledOf old o = cond old (give o) (perhapsElement bad d SURVEY NAME 0 o >>= perhapsElement bad d SURVEY VERSION 0)
 
   abbrev pub surveyDue : Open → Reader Unit
   surveyDue o = rule-open.due bad d SURVEY o (survey bad d)
@@ -94,10 +94,10 @@ module _ (bad : Bool) (d : List ℕ) where
 
   -- the end tag of an element w; the end of the file; and the root's end tag before that
   unfoldable pub endOf : List ℕ → Reader Unit
-  endOf w = within bad d w >>= over bad d
+  endOf w = withinElement bad d w >>= over bad d
 
   unfoldable pub clearedOf : Reader Unit
-  clearedOf n = cleared bad d (tailOf bad d n) n
+  clearedOf n = cleared bad d (tailFrom bad d n) n
 
   abbrev pub endThen : Reader Unit
   endThen = endOf SSS >> clearedOf

@@ -23,7 +23,8 @@ ghost use Rattle.xml_reading.specs.rule.Word.{VERSION, OPTIONS, LANGUAGES, IDEN
 ghost use Rattle.reading.specs.rule.Result.{bind};
 ghost use Rattle.reading.specs.rule.Token.{passed};
 ghost use Rattle.xml_reading.specs.rule.Block.{rich};
-ghost use Rattle.xml_reading.specs.rule.Sheet.{saysWord, rooted, root, manner, perhaps, heading, survey, titles, preface, closing};
+ghost use Rattle.xml_reading.specs.rule.Sheet.{saysWord, rooted, root, manner, perhapsElement, heading, survey, titles, preface};
+ghost use Rattle.xml_reading.specs.rule.Sheet.{sheetClosed};
 ghost use Rattle.xml_reading.specs.rule.Sheet as sheet;
 ghost use Rattle.elements.specs.Code.{openOf, readOf, dueOf, Within};
 ghost use Rattle.prefaces.specs.Code.{ruleOf, prefacedOf, readingOf, Begun, Ends, Inside, manneredOf, enteredOf, titledOf};
@@ -301,7 +302,7 @@ fn text_then(
 // A text that may be left out, inside an element `around`; what stands behind.
 fn perhaps_text(bad: bool, d: &[u8], o: Open, around: &[u8], w: &[u8], mode: usize) -> Open
     requires { ⌜ Within (now d) 0 o ⌝ }
-    ensures { λ r. ⌜ (r ≡ openOf (bind (readOf o) (perhaps bad (now (d .entry)) (now (around .entry)) (now (w .entry)) mode)))
+    ensures { λ r. ⌜ (r ≡ openOf (bind (readOf o) (perhapsElement bad (now (d .entry)) (now (around .entry)) (now (w .entry)) mode)))
         × Within (now (d .entry)) 0 r ⌝ }
 {
     match o {
@@ -467,7 +468,7 @@ fn close_sss(bad: bool, d: &[u8], at: usize) -> Reading
 // From behind `</record>` to the file's end: `</survey>`, `</sss>`, white space and comments.
 pub fn read_closing(bad: bool, d: &[u8], at: usize) -> Reading
     requires { ⌜ at ≤ length (now d) ⌝ }
-    ensures { λ r. ⌜ (r ≡ readingOf (closing bad (now (d .entry)) at)) × Inside (now (d .entry)) r ⌝ }
+    ensures { λ r. ⌜ (r ≡ readingOf (sheetClosed bad (now (d .entry)) at)) × Inside (now (d .entry)) r ⌝ }
 {
     match pass_end(bad, d, at, b"survey") {
         Reading::At(n) => close_sss(bad, d, n),

@@ -4,7 +4,7 @@ use mathlib.Core.Bool.{true}
 use mathlib.Core.List.{List, [], _∷_, _++_, append-assoc}
 use Prim.Native.Nat.{ℕ}
 use Rattle.ascii.specs.rule.Class.{classOf}
-use Rattle.clean_text.specs.rule.Clean.{Token, lineOf, textOf}
+use Rattle.clean_text.specs.rule.Clean.{Token, lineOf, cleanText}
 use Rattle.printed.specs.Left.{sieve, sieve-append, sieve-plain, each, plain}
 
 -- every member of a list has it
@@ -45,7 +45,7 @@ line-kept (w ∷ v ∷ ws) r (more c h) =
     ∙ (ap (λ (x : List ℕ). x ++ (32 ∷ sieve (lineOf (v ∷ ws) ++ r))) (sieve-plain w c)
     ∙ ap (λ (x : List ℕ). w ++ (32 ∷ x)) (line-kept (v ∷ ws) r h))
 
-pub text-kept : (ls : List (List Token)) → All (All Clear) ls → sieve (textOf ls) ≡ inksThen ls []
-unfolding textOf inksThen sieve
+pub text-kept : (ls : List (List Token)) → All (All Clear) ls → sieve (cleanText ls) ≡ inksThen ls []
+unfolding cleanText inksThen sieve
 text-kept [] nil = refl
-text-kept (l ∷ ls) (more h r) = line-kept l (textOf ls) h ∙ ap (inkThen l) (text-kept ls r)
+text-kept (l ∷ ls) (more h r) = line-kept l (cleanText ls) h ∙ ap (inkThen l) (text-kept ls r)

@@ -12,9 +12,9 @@ use Rattle.scan.specs.rule.Text.{Text, stop, sign, text}
 use Rattle.scan.specs.rule.Number.{isDigit, isValue, decimalOf}
 use Rattle.scan.proofs.Texts.{From, at-stop, at-sign, from-text}
 use Rattle.survey.specs.rule.Survey.{Figure, Amount}
-use Rattle.reading.specs.rule.Token.{amountOf}
+use Rattle.reading.specs.rule.Token.{amountRead}
 use Rattle.clean_text.specs.rule.Span.{upTo, spanOf}
-use Rattle.clean_text.specs.rule.Clean.{figure, amount}
+use Rattle.clean_text.specs.rule.Clean.{figureToken, amountToken}
 use Rattle.grammar.specs.Token.{Run, more, other, end, Number, number, Value, value}
 use Rattle.printed.specs.Left.{no, bytesIn, Left, Step, step-of, Ends, ends, Yields, yields, after, each, both, each-cons}
 use Rattle.printed.specs.Words.{solid, gap-space}
@@ -66,7 +66,7 @@ module _ (p : List ℕ) (f : ℕ → Bool) where
 
 -- ---- a number: what it says, by its bytes s
 pub record FigureIs (d s : List ℕ) (x : Figure) : Type 0 where
-  pub span : figure d x ≡ s
+  pub span : figureToken d x ≡ s
   pub digits : x .digits ≡ length s
   pub value : x .value ≡ decimalOf 0 s
 
@@ -115,14 +115,14 @@ bareAmount a = record {
 }
 
 pub record AmountIs (d s : List ℕ) (a : Amount) : Type 0 where
-  pub span : amount d a ≡ s
-  pub says : bareAmount a ≡ amountOf 0 0 s
+  pub span : amountToken d a ≡ s
+  pub says : bareAmount a ≡ amountRead 0 0 s
 
 pub data AmountSaid (d : List ℕ) (a : Amount) : Type 0 where
   amount-said : {b : ℕ} {s : List ℕ} → AmountIs d (b ∷ s) a → each isValue (b ∷ s) ≡ true → AmountSaid d a
 
-amount-is : (d : List ℕ) (n m : ℕ) (s : List ℕ) → spanOf d n m ≡ s → AmountIs d s (amountOf n m s)
-unfolding amountOf bareAmount
+amount-is : (d : List ℕ) (n m : ℕ) (s : List ℕ) → spanOf d n m ≡ s → AmountIs d s (amountRead n m s)
+unfolding amountRead bareAmount
 amount-is d n m s e = record { span = e; says = refl }
 
 pub value-said : (d : List ℕ) {n m : ℕ} {a : Amount} → Value d n a m → AmountSaid d a

@@ -11,12 +11,12 @@ use Rattle.scan.specs.rule.Text.{stop, sign, text}
 use Rattle.scan.specs.rule.Text as scan
 use Rattle.scan.proofs.Texts.{From, at-sign, from-text}
 use Rattle.marks.specs.declared.Inside.the-variants.{Plain}
-use Rattle.marks.specs.rule.Spelling.{pairOf, decodeOf}
+use Rattle.marks.specs.rule.Spelling.{hexPair, decodeOf}
 use Rattle.marks.specs.Spelling.{Pairs, last, more, Piece, plain, quote, brace, line, bytes, Spelt, closed, piece}
 use Rattle.marks.proofs.Complete.{string-decoded}
-use Rattle.survey.specs.rule.Survey.{Text}
+use Rattle.survey.specs.rule.Survey.{KeptText}
 use Rattle.clean_text.specs.rule.Span.{upTo, spanOf}
-use Rattle.clean_text.specs.rule.Clean.{quoted}
+use Rattle.clean_text.specs.rule.Clean.{quotedToken}
 use Rattle.grammar.specs.Token.{Gap, String, string}
 use Rattle.printed.specs.Left.{bytesIn, Left, step-of, Yields, yields, after}
 use Rattle.printed.specs.Words.{solid, gap-space}
@@ -62,12 +62,12 @@ record PairsInk (t : scan.Text) (m : List Sign) (u : scan.Text) : Type 0 where
 
 pairs-ink : {t u : scan.Text} {m : List Sign} → Pairs t m u → PairsInk t m u
 pairs-ink (last {a = a} {b = b} f h) = record { ink = a ∷ b ∷ 125 ∷ []; stands = one (one (one none)); again = by } where
-  by : (t′ u′ : scan.Text) → Ink t′ (a ∷ b ∷ 125 ∷ []) u′ → Pairs t′ (Byte (pairOf a b) ∷ []) u′
+  by : (t′ u′ : scan.Text) → Ink t′ (a ∷ b ∷ 125 ∷ []) u′ → Pairs t′ (Byte (hexPair a b) ∷ []) u′
   by t′ u′ (one (one (one none))) = last f h
 pairs-ink (more {p = p} {q = q} {a = a} {b = b} {m = m} {t = t} {u = u} f h r) = on (pairs-ink r) where
-  on : PairsInk t m u → PairsInk (sign p a (sign q b t)) (Byte (pairOf a b) ∷ m) u
+  on : PairsInk t m u → PairsInk (sign p a (sign q b t)) (Byte (hexPair a b) ∷ m) u
   on x = record { ink = a ∷ b ∷ x .ink; stands = one (one (x .stands)); again = by } where
-    by : (t′ u′ : scan.Text) → Ink t′ (a ∷ b ∷ x .ink) u′ → Pairs t′ (Byte (pairOf a b) ∷ m) u′
+    by : (t′ u′ : scan.Text) → Ink t′ (a ∷ b ∷ x .ink) u′ → Pairs t′ (Byte (hexPair a b) ∷ m) u′
     by t′ u′ (one {t = t₁} (one {t = t₂} y)) = more f h (x .again t₂ u′ y)
 
 piece-ink : {t u : scan.Text} {m : List Sign} → Piece t m u → PieceInk t m u
@@ -136,7 +136,7 @@ module _ (d : List ℕ) where
         record { span = rw (lt-leb q p (omega arith)) (ap (λ (x : List ℕ). b ∷ x) (s .span)); from = omega arith; rest = s .rest }
 
   -- a text by its kept bytes: they are the inside of a string that says its signs, wherever they stand before a quote
-  pub record TextSaid (t : Text) : Type 0 where
+  pub record TextSaid (t : KeptText) : Type 0 where
     pub ink : List ℕ
     pub span : spanOf d (t .place) (t .place + t .length) ≡ ink
     pub again : (t′ u′ : scan.Text) (q : ℕ) → Ink t′ ink (sign q 34 u′)
@@ -146,7 +146,7 @@ module _ (d : List ℕ) where
   to-quote : (a q n : ℕ) → n ≡ q + 1 → a ≤ q → a + (n - a - 1) ≡ q
   to-quote a q n e h = omega arith
 
-  pub string-said : {n m : ℕ} {t : Text} → String d n t m → TextSaid t
+  pub string-said : {n m : ℕ} {t : KeptText} → String d n t m → TextSaid t
   unfolding spanOf
   string-said (string {p = p} {m = m} {s = s} g e x) =
       let i = spelt-ink x in
@@ -156,11 +156,11 @@ module _ (d : List ℕ) where
       record { ink = i .ink; span = rw f (c .span); again = rw o (i .again) }
 
 -- ---- the same text in two files: the same kept bytes, and the same signs
-pub record SameText (d p : List ℕ) (t t′ : Text) : Type 0 where
-  pub span : quoted p t′ ≡ quoted d t
+pub record SameText (d p : List ℕ) (t t′ : KeptText) : Type 0 where
+  pub span : quotedToken p t′ ≡ quotedToken d t
   pub decoded : decodeOf Plain 0 (text p (t′ .place)) ≡ decodeOf Plain 0 (text d (t .place))
 
-module _ (d p : List ℕ) {t : Text} (said : TextSaid d t) where
+module _ (d p : List ℕ) {t : KeptText} (said : TextSaid d t) where
   -- the closing quote, what follows it, and the string before it
   shut : {n a q : ℕ} {u : List ℕ} {v : scan.Text} → Gap p n a → text p a ≡ sign q 34 (text p (q + 1))
       → Ink (text p (q + 1)) (said .ink) v → bytesIn v ≡ 34 ∷ u → Yields p (String p n) (SameText d p t) u
@@ -176,7 +176,7 @@ module _ (d p : List ℕ) {t : Text} (said : TextSaid d t) where
       let a : spanOf p (q + 1) (q + 1 + (s + 1 - (q + 1) - 1)) ≡ said .ink = rw l (o .span) in
       yields (string g e k) (record { span = rw (a, said .span); decoded = string-decoded k }) (rw (o .rest) at j)
 
-  pub string-there : {n : ℕ} {u : List ℕ} → Left p n (32 ∷ quoted d t ++ u) → Yields p (String p n) (SameText d p t) u
+  pub string-there : {n : ℕ} {u : List ℕ} → Left p n (32 ∷ quotedToken d t ++ u) → Yields p (String p n) (SameText d p t) u
   unfolding solid
   string-there {n} {u} l =
       after p (gap-space p refl l) λ a g l.

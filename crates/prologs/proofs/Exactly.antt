@@ -16,7 +16,7 @@ use Rattle.markup.specs.declared.Skip.{Skip}
 use Rattle.markup.specs.declared.Skip.the-variants.{Past, Broken}
 use Rattle.prologs.specs.rule.Form.{Form, done, white, room, word, value, encoding, literal, root, bracket, perhaps, which}
 use Rattle.prologs.specs.rule.Form.{XML, UTF-8, ISO-8859-1, sss, declaration, doctype}
-use Rattle.prologs.specs.rule.Told.{quotedOf, amongOf, alikeOf, dueOf, missOf, blanks, onSkip, rootMissed, tellOf}
+use Rattle.prologs.specs.rule.Told.{quotedString, amongOf, alikeOf, dueOf, missOf, blanks, onPassed, rootMissed, tellOf}
 use Rattle.prologs.specs.declared.Prolog.{Prolog}
 use Rattle.prologs.specs.declared.Prolog.the-variants.{Read, Fault}
 use Rattle.prologs.proofs.Pieces.{Run, run-is, is-run, run-within, stands-within, Bytes, NoBytes, yes-bytes, bytes-yes, no-bytes}
@@ -93,7 +93,7 @@ module _ (bad : Bool) (d : List ℕ) (o : ℕ) where
   -- ---- sound: whatever is answered is told
   of-value : (ws : List (List ℕ)) (f : Form) (l : Bool) (p : ℕ) (s : Skip) → Quotes true false bad d o p s
       → ((k : ℕ) → Tells bad d o f l (k + 1) (tellOf bad d o f l (k + 1)))
-      → Tells bad d o (value ws f) l p (onSkip s λ k. cond (amongOf d (p + 1) k ws) (tellOf bad d o f l (k + 1)) (Fault 50 (p + 1)))
+      → Tells bad d o (value ws f) l p (onPassed s λ k. cond (amongOf d (p + 1) k ws) (tellOf bad d o f l (k + 1)) (Fault 50 (p + 1)))
   of-value ws f l p (Broken q) s t = value-off s
   of-value ws f l p (Past k) s t = by (amongOf d (p + 1) k ws) refl where
     by : (x : Bool) → amongOf d (p + 1) k ws ≡ x → Tells bad d o (value ws f) l p (cond x (tellOf bad d o f l (k + 1)) (Fault 50 (p + 1)))
@@ -102,7 +102,7 @@ module _ (bad : Bool) (d : List ℕ) (o : ℕ) where
 
   of-encoding : (m : Bool) (f : Form) (l : Bool) (p : ℕ) (s : Skip) → Quotes true false bad d o p s
       → ((b : Bool) (k : ℕ) → Tells bad d o f b (k + 1) (tellOf bad d o f b (k + 1)))
-      → Tells bad d o (encoding m f) l p (onSkip s λ k. cond (alikeOf d (p + 1) k UTF-8) (tellOf bad d o f false (k + 1))
+      → Tells bad d o (encoding m f) l p (onPassed s λ k. cond (alikeOf d (p + 1) k UTF-8) (tellOf bad d o f false (k + 1))
       (cond m (Fault 50 (p + 1)) (cond (alikeOf d (p + 1) k ISO-8859-1) (tellOf bad d o f true (k + 1)) (Fault 50 (p + 1)))))
   of-encoding m f l p (Broken q) s t = encoding-off s
   of-encoding m f l p (Past k) s t = by m (alikeOf d (p + 1) k UTF-8) (alikeOf d (p + 1) k ISO-8859-1) refl refl where
@@ -119,7 +119,7 @@ module _ (bad : Bool) (d : List ℕ) (o : ℕ) where
 
   of-literal : (public : Bool) (f : Form) (l : Bool) (p : ℕ) (s : Skip) → Quotes false public bad d o p s
       → ((k : ℕ) → Tells bad d o f l (k + 1) (tellOf bad d o f l (k + 1)))
-      → Tells bad d o (literal public f) l p (onSkip s λ k. tellOf bad d o f l (k + 1))
+      → Tells bad d o (literal public f) l p (onPassed s λ k. tellOf bad d o f l (k + 1))
   of-literal public f l p (Broken q) s t = literal-off s
   of-literal public f l p (Past k) s t = literal-on s (t k)
 
@@ -151,9 +151,10 @@ module _ (bad : Bool) (d : List ℕ) (o : ℕ) where
         → Tells bad d o (word w f) l p (cond x (tellOf bad d o f l (p + length w)) (Fault 50 (dueOf bad d o p)))
     by true e t = word-on (yes-bytes w d p e) t
     by false e t = word-off (no-bytes w d p e)
-  tells (value ws f) l p = of-value ws f l p (quotedOf true false bad d o p) (quotes true false bad d o p) (λ k. tells f l (k + 1))
-  tells (encoding m f) l p = of-encoding m f l p (quotedOf true false bad d o p) (quotes true false bad d o p) (λ b k. tells f b (k + 1))
-  tells (literal public f) l p = of-literal public f l p (quotedOf false public bad d o p) (quotes false public bad d o p)
+  tells (value ws f) l p = of-value ws f l p (quotedString true false bad d o p) (quotes true false bad d o p) (λ k. tells f l (k + 1))
+  tells (encoding m f) l p = of-encoding m f l p (quotedString true false bad d o p) (quotes true false bad d o p)
+      (λ b k. tells f b (k + 1))
+  tells (literal public f) l p = of-literal public f l p (quotedString false public bad d o p) (quotes false public bad d o p)
       (λ k. tells f l (k + 1))
   tells (root f) l p = by (stands sss (drop p d)) refl (tells f l (p + 3)) where
     by : (x : Bool) → stands sss (drop p d) ≡ x → Tells bad d o f l (p + 3) (tellOf bad d o f l (p + 3))

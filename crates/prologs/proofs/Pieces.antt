@@ -11,14 +11,14 @@ use borrow.Author.Tests.{eq-eqb, ne-eqb, eqb-true, eqb-false, le-leb, lt-leb, le
 use Rattle.below.specs.Below.{holds-not, either-true, lt-or-le, and-left, and-right}
 use Rattle.ascii.specs.rule.Class.{upperOf}
 use Rattle.utf.proofs.Strides.{drop-1}
-use Rattle.markup.specs.rule.Bytes.{ofKind, runOf, bytesOf, restOf, stands, endFault}
+use Rattle.markup.specs.rule.Bytes.{ofKind, runOf, bytesWhile, restOf, stands, endFault}
 use Rattle.markup.specs.rule.Grammar.{Each, no-more, each}
 use Rattle.markup.specs.declared.Skip.{Skip}
 use Rattle.markup.specs.declared.Skip.the-variants.{Past, Broken}
 use Rattle.markup.proofs.Runs.{first-at, onward, run-next, run-over, run-end, run-splits, run-long, rest-at}
 use Rattle.markup.proofs.Stretches.{Stretch, run-stretch}
 use Rattle.markup.proofs.Gaps.{stands-split, stands-long}
-use Rattle.prologs.specs.rule.Told.{insideOf, closedOf, quotedOf, speltOf, amongOf, alikes, alikeOf, blanks}
+use Rattle.prologs.specs.rule.Told.{betweenQuotes, closedString, quotedString, speltOf, amongOf, alikes, alikeOf, blanks}
 
 -- ---- runs
 rest-stops : (f : ℕ → Bool) (s : List ℕ) {b : ℕ} {t : List ℕ} → restOf f s ≡ b ∷ t → f b ≡ false
@@ -37,7 +37,7 @@ pub run-within : (f : ℕ → Bool) (d : List ℕ) (p : ℕ) → p ≤ length d 
 run-within f d p h =
     let a = run-long f p (drop p d) in
     let b = ap length (run-splits f (drop p d)) in
-    let c = length-append (bytesOf f (drop p d)) (restOf f (drop p d)) in
+    let c = length-append (bytesWhile f (drop p d)) (restOf f (drop p d)) in
     let e = length-drop p d in
     omega arith
 

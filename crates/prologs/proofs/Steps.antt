@@ -13,9 +13,10 @@ use Rattle.markup.specs.rule.Gap.{gapOf}
 use Rattle.markup.specs.declared.Skip.{Skip}
 use Rattle.markup.specs.declared.Skip.the-variants.{Past, Broken}
 use Rattle.markup.proofs.Gaps.{stands-long, gap-exactly}
-use Rattle.prologs.specs.rule.Form.{Form, done, white, room, word, literal, root, bracket, perhaps, which, pair, naming, standalone}
+use Rattle.prologs.specs.rule.Form.{Form, done, white, room, word, literal, root, bracket, perhaps, which, pair, namingForm}
+use Rattle.prologs.specs.rule.Form.{standalone}
 use Rattle.prologs.specs.rule.Form.{UTF-8, sss}
-use Rattle.prologs.specs.rule.Told.{quotedOf, speltOf, amongOf, alikeOf, dueOf, missOf, blanks, onSkip, rootMissed, tellOf}
+use Rattle.prologs.specs.rule.Told.{quotedString, speltOf, amongOf, alikeOf, dueOf, missOf, blanks, onPassed, rootMissed, tellOf}
 use Rattle.prologs.specs.Pair.{onQuoted, pairOf, latinOf}
 use Rattle.prologs.specs.declared.Pair.{Pair}
 use Rattle.prologs.specs.declared.Pair.the-variants.{Is, Off}
@@ -35,7 +36,7 @@ gap-within bad d p n h e =
     let k = g .place in
     omega (arith, length-drop p d)
 
-pub quoted-past : (alone public bad : Bool) (d : List ℕ) (o n k : ℕ) → quotedOf alone public bad d o n ≡ Past k → (n + 1 ≤ k)
+pub quoted-past : (alone public bad : Bool) (d : List ℕ) (o n k : ℕ) → quotedString alone public bad d o n ≡ Past k → (n + 1 ≤ k)
     × (k < length d)
 quoted-past alone public bad d o n k e = quotes-past alone public bad d o n (rw (← e) (quotes alone public bad d o n))
 
@@ -56,14 +57,14 @@ unfolding stands
 none-more b d n h = rw (drop-of-length-le d h)
 
 module _ (d : List ℕ) (o p : ℕ) where
-  on-quoted : (g : ℕ → ℕ → Prolog) (m : ℕ) (s : Skip) → onSkip s (λ k. g (m + 1) k) ≡ afterPair (onQuoted m s) g
+  on-quoted : (g : ℕ → ℕ → Prolog) (m : ℕ) (s : Skip) → onPassed s (λ k. g (m + 1) k) ≡ afterPair (onQuoted m s) g
   on-quoted g m (Past k) = refl
   on-quoted g m (Broken q) = refl
 
   -- whatever is made of the value
   pair-goes : (g : ℕ → ℕ → Prolog)
       → cond (stands (61 ∷ []) (drop (blanks d p) d))
-      (onSkip (quotedOf true false false d o (blanks d (blanks d p + 1))) (λ k. g (blanks d (blanks d p + 1) + 1) k))
+      (onPassed (quotedString true false false d o (blanks d (blanks d p + 1))) (λ k. g (blanks d (blanks d p + 1) + 1) k))
       (Fault 50 (dueOf false d o (blanks d p)))
       ≡ afterPair (pairOf d o p) g
   unfolding dueOf pairOf
@@ -73,13 +74,13 @@ module _ (d : List ℕ) (o p : ℕ) where
 
     by : (x y : Bool) → leb (length d) (blanks d p) ≡ x → eqb (getD d (blanks d p) 0) 61 ≡ y
         → cond (stands (61 ∷ []) (drop (blanks d p) d))
-        (onSkip (quotedOf true false false d o (blanks d (blanks d p + 1))) (λ k. g (blanks d (blanks d p + 1) + 1) k))
+        (onPassed (quotedString true false false d o (blanks d (blanks d p + 1))) (λ k. g (blanks d (blanks d p + 1) + 1) k))
         (Fault 50 (cond x o (blanks d p)))
         ≡ afterPair (cond x (Off o) (cond y (onQuoted (blanks d (blanks d p + 1))
-        (quotedOf true false false d o (blanks d (blanks d p + 1)))) (Off (blanks d p)))) g
+        (quotedString true false false d o (blanks d (blanks d p + 1)))) (Off (blanks d p)))) g
     by true y e f = rw (none-more 61 d (blanks d p) (leb-true (length d) (blanks d p) e))
     by false true e f = rw (one-more 61 d (blanks d p) (leb-false (length d) (blanks d p) e) ∙ f)
-        (on-quoted g (blanks d (blanks d p + 1)) (quotedOf true false false d o (blanks d (blanks d p + 1))))
+        (on-quoted g (blanks d (blanks d p + 1)) (quotedString true false false d o (blanks d (blanks d p + 1))))
     by false false e f = rw (one-more 61 d (blanks d p) (leb-false (length d) (blanks d p) e) ∙ f)
 
   pub pair-tell : (ws : List (List ℕ)) (f : Form) (l : Bool)
@@ -89,7 +90,7 @@ module _ (d : List ℕ) (o p : ℕ) where
   pair-tell ws f l = pair-goes (λ v k. cond (amongOf d v k ws) (tellOf false d o f l (k + 1)) (Fault 50 v))
 
   pub naming-tell : (marked l : Bool)
-      → tellOf false d o (naming marked) l p
+      → tellOf false d o (namingForm marked) l p
       ≡ afterPair (pairOf d o p) (λ v k. cond (alikeOf d v k UTF-8) (tellOf false d o standalone false (k + 1))
       (cond marked (Fault 50 v) (latinOf d o v k)))
   unfolding tellOf missOf latinOf
@@ -99,7 +100,7 @@ module _ (d : List ℕ) (o p : ℕ) where
   pub pair-bounds : (v k : ℕ) → pairOf d o p ≡ Is v k → (v ≤ k) × (k < length d)
   unfolding pairOf
   pair-bounds v k e = by (leb (length d) (blanks d p)) (eqb (getD d (blanks d p) 0) 61) e where
-    on : (m : ℕ) (s : Skip) → quotedOf true false false d o m ≡ s → onQuoted m s ≡ Is v k → (v ≤ k) × (k < length d)
+    on : (m : ℕ) (s : Skip) → quotedString true false false d o m ≡ s → onQuoted m s ≡ Is v k → (v ≤ k) × (k < length d)
     on m (Past j) f e =
         let x : m + 1 ≡ v = cc in
         let y : j ≡ k = cc in
@@ -108,9 +109,9 @@ module _ (d : List ℕ) (o p : ℕ) where
     on m (Broken q) f e = let z : _≡_ {A = ℕ} 0 1 = cc in absurd (omega arith)
 
     by : (x y : Bool) → cond x (Off o) (cond y (onQuoted (blanks d (blanks d p + 1))
-        (quotedOf true false false d o (blanks d (blanks d p + 1)))) (Off (blanks d p))) ≡ Is v k → (v ≤ k) × (k < length d)
+        (quotedString true false false d o (blanks d (blanks d p + 1)))) (Off (blanks d p))) ≡ Is v k → (v ≤ k) × (k < length d)
     by true y e = let z : _≡_ {A = ℕ} 0 1 = cc in absurd (omega arith)
-    by false true e = on (blanks d (blanks d p + 1)) (quotedOf true false false d o (blanks d (blanks d p + 1))) refl e
+    by false true e = on (blanks d (blanks d p + 1)) (quotedString true false false d o (blanks d (blanks d p + 1))) refl e
     by false false e = let z : _≡_ {A = ℕ} 0 1 = cc in absurd (omega arith)
 
   -- ---- what a pair makes of its value
@@ -139,19 +140,19 @@ module _ (d : List ℕ) (o p : ℕ) where
     pair-off ws e = pair-tell ws f l ∙ rw e
 
   module _ (marked l : Bool) where
-    pub naming-utf : {v k : ℕ} → pairOf d o p ≡ Is v k → alikeOf d v k UTF-8 ≡ true → tellOf false d o (naming marked) l p
+    pub naming-utf : {v k : ℕ} → pairOf d o p ≡ Is v k → alikeOf d v k UTF-8 ≡ true → tellOf false d o (namingForm marked) l p
         ≡ tellOf false d o standalone false (k + 1)
     naming-utf e h = naming-tell marked l ∙ rw (e, h)
 
     pub naming-marked : {v k : ℕ} → pairOf d o p ≡ Is v k → alikeOf d v k UTF-8 ≡ false → marked ≡ true
-        → tellOf false d o (naming marked) l p ≡ Fault 50 v
+        → tellOf false d o (namingForm marked) l p ≡ Fault 50 v
     naming-marked e h m = naming-tell marked l ∙ rw (e, h, m)
 
     pub naming-latin : {v k : ℕ} → pairOf d o p ≡ Is v k → alikeOf d v k UTF-8 ≡ false → marked ≡ false
-        → tellOf false d o (naming marked) l p ≡ latinOf d o v k
+        → tellOf false d o (namingForm marked) l p ≡ latinOf d o v k
     naming-latin e h m = naming-tell marked l ∙ rw (e, h, m)
 
-    pub naming-off : {q : ℕ} → pairOf d o p ≡ Off q → tellOf false d o (naming marked) l p ≡ Fault 50 q
+    pub naming-off : {q : ℕ} → pairOf d o p ≡ Off q → tellOf false d o (namingForm marked) l p ≡ Fault 50 q
     naming-off e = naming-tell marked l ∙ rw e
 
 -- ---- a form, one piece on
@@ -180,12 +181,12 @@ module _ (bad : Bool) (d : List ℕ) (o : ℕ) (f : Form) (l : Bool) (p : ℕ) w
   unfolding tellOf
   word-miss w e = rw e
 
-  pub tell-literal : (public : Bool) {k : ℕ} → quotedOf false public bad d o p ≡ Past k → tellOf bad d o (literal public f) l p
+  pub tell-literal : (public : Bool) {k : ℕ} → quotedString false public bad d o p ≡ Past k → tellOf bad d o (literal public f) l p
       ≡ tellOf bad d o f l (k + 1)
   unfolding tellOf
   tell-literal public e = rw e
 
-  pub literal-broken : (public : Bool) {q : ℕ} → quotedOf false public bad d o p ≡ Broken q → tellOf bad d o (literal public f) l p
+  pub literal-broken : (public : Bool) {q : ℕ} → quotedString false public bad d o p ≡ Broken q → tellOf bad d o (literal public f) l p
       ≡ Fault 50 q
   unfolding tellOf
   literal-broken public e = rw e

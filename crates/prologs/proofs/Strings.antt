@@ -12,7 +12,7 @@ use Rattle.below.specs.Below.{holds-not, either-true}
 use Rattle.markup.specs.rule.Bytes.{runOf, endFault}
 use Rattle.markup.specs.declared.Skip.{Skip}
 use Rattle.markup.specs.declared.Skip.the-variants.{Past, Broken}
-use Rattle.prologs.specs.rule.Told.{insideOf, cutOf, closedOf, quotedOf}
+use Rattle.prologs.specs.rule.Told.{betweenQuotes, cutOf, closedString, quotedString}
 use Rattle.prologs.proofs.Pieces.{Run, run-is, is-run}
 
 -- at n a quote stands
@@ -21,7 +21,7 @@ Opens d n = (getD d n 0 ≡ 34) ⊎ (getD d n 0 ≡ 39)
 
 -- from behind the quote at n up to k what may stand between such quotes
 abbrev pub Inside : Bool → List ℕ → ℕ → ℕ → Type 0
-Inside public d n k = Run (insideOf public (getD d n 0)) d (n + 1) k
+Inside public d n k = Run (betweenQuotes public (getD d n 0)) d (n + 1) k
 
 -- what is found where a string is due at n, in a mark that opened at o: the place of the quote that ends it, or the place at fault
 pub data Quotes (alone public bad : Bool) (d : List ℕ) (o n : ℕ) : Skip → Type 0 where
@@ -48,8 +48,8 @@ opens-no b h = by (eqb b 34 || eqb b 39) refl where
 
 module _ (alone public bad : Bool) (d : List ℕ) (o n : ℕ) where
   closed : (k : ℕ) → n < length d → Opens d n → Inside public d n k
-      → Quotes alone public bad d o n (closedOf d (cutOf alone bad d o n k) (getD d n 0) k)
-  unfolding closedOf
+      → Quotes alone public bad d o n (closedString d (cutOf alone bad d o n k) (getD d n 0) k)
+  unfolding closedString
   closed k h q i = by (leb (length d) k) (eqb (getD d k 0) (getD d n 0)) refl refl where
     by : (x y : Bool) → leb (length d) k ≡ x → eqb (getD d k 0) (getD d n 0) ≡ y
         → Quotes alone public bad d o n (cond x (Broken (cutOf alone bad d o n k)) (cond y (Past k) (Broken k)))
@@ -57,30 +57,30 @@ module _ (alone public bad : Bool) (d : List ℕ) (o n : ℕ) where
     by false true e f = whole h q i (leb-false (length d) k e) (eqb-true (getD d k 0) (getD d n 0) f)
     by false false e f = other h q i (leb-false (length d) k e) (eqb-false (getD d k 0) (getD d n 0) f)
 
-  pub quotes : Quotes alone public bad d o n (quotedOf alone public bad d o n)
-  unfolding quotedOf
+  pub quotes : Quotes alone public bad d o n (quotedString alone public bad d o n)
+  unfolding quotedString
   quotes = by (leb (length d) n) (eqb (getD d n 0) 34 || eqb (getD d n 0) 39) refl refl where
     by : (x y : Bool) → leb (length d) n ≡ x → (eqb (getD d n 0) 34 || eqb (getD d n 0) 39) ≡ y
         → Quotes alone public bad d o n (cond x (Broken (endFault bad n o))
-        (cond y (closedOf d (cutOf alone bad d o n (runOf (insideOf public (getD d n 0)) (n + 1) (drop (n + 1) d))) (getD d n 0)
-        (runOf (insideOf public (getD d n 0)) (n + 1) (drop (n + 1) d))) (Broken n)))
+        (cond y (closedString d (cutOf alone bad d o n (runOf (betweenQuotes public (getD d n 0)) (n + 1) (drop (n + 1) d))) (getD d n 0)
+        (runOf (betweenQuotes public (getD d n 0)) (n + 1) (drop (n + 1) d))) (Broken n)))
     by true y e f = gone (leb-true (length d) n e)
     by false true e f =
-        closed (runOf (insideOf public (getD d n 0)) (n + 1) (drop (n + 1) d)) (leb-false (length d) n e) (yes-opens (getD d n 0) f)
-        (run-is (insideOf public (getD d n 0)) d (n + 1) (runOf (insideOf public (getD d n 0)) (n + 1) (drop (n + 1) d)) refl)
+        closed (runOf (betweenQuotes public (getD d n 0)) (n + 1) (drop (n + 1) d)) (leb-false (length d) n e) (yes-opens (getD d n 0) f)
+        (run-is (betweenQuotes public (getD d n 0)) d (n + 1) (runOf (betweenQuotes public (getD d n 0)) (n + 1) (drop (n + 1) d)) refl)
     by false false e f = bare (leb-false (length d) n e) (λ q. holds-not (opens-yes (getD d n 0) q) f)
 
-  pub quoted-is : {r : Skip} → Quotes alone public bad d o n r → quotedOf alone public bad d o n ≡ r
-  unfolding quotedOf closedOf
+  pub quoted-is : {r : Skip} → Quotes alone public bad d o n r → quotedString alone public bad d o n ≡ r
+  unfolding quotedString closedString
   quoted-is (gone h) = rw (le-leb (length d) n h)
   quoted-is (bare h q) = rw (lt-leb (length d) n h, opens-no (getD d n 0) q)
   quoted-is (cut {k} h q i l) =
-      rw (lt-leb (length d) n h, opens-yes (getD d n 0) q, is-run (insideOf public (getD d n 0)) d i, le-leb (length d) k l)
+      rw (lt-leb (length d) n h, opens-yes (getD d n 0) q, is-run (betweenQuotes public (getD d n 0)) d i, le-leb (length d) k l)
   quoted-is (other {k} h q i l e) =
       rw (
         lt-leb (length d) n h,
         opens-yes (getD d n 0) q,
-        is-run (insideOf public (getD d n 0)) d i,
+        is-run (betweenQuotes public (getD d n 0)) d i,
         lt-leb (length d) k l,
         ne-eqb (getD d k 0) (getD d n 0) e,
       )
@@ -88,7 +88,7 @@ module _ (alone public bad : Bool) (d : List ℕ) (o n : ℕ) where
       rw (
         lt-leb (length d) n h,
         opens-yes (getD d n 0) q,
-        is-run (insideOf public (getD d n 0)) d i,
+        is-run (betweenQuotes public (getD d n 0)) d i,
         lt-leb (length d) k l,
         eq-eqb (getD d k 0) (getD d n 0) e,
       )
@@ -99,5 +99,5 @@ module _ (alone public bad : Bool) (d : List ℕ) (o n : ℕ) where
 
 -- STRING: what is found is found exactly so
 pub string-exactly : (alone public bad : Bool) (d : List ℕ) (o n : ℕ) (r : Skip)
-    → (quotedOf alone public bad d o n ≡ r) ↔ Quotes alone public bad d o n r
+    → (quotedString alone public bad d o n ≡ r) ↔ Quotes alone public bad d o n r
 string-exactly alone public bad d o n r = (λ e. rw (← e) (quotes alone public bad d o n), quoted-is alone public bad d o n)

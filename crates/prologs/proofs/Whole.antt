@@ -15,7 +15,8 @@ use Rattle.markup.specs.declared.Skip.{Skip}
 use Rattle.markup.specs.declared.Skip.the-variants.{Past, Broken}
 use Rattle.markup.proofs.Gaps.{Gapped, gap-exactly}
 use Rattle.prologs.specs.rule.Form.{XML, SSS, DOCTYPE, declaration, doctype}
-use Rattle.prologs.specs.rule.Told.{startOf, isXml, tellOf, declarationOf, onSkip, gapTo, gapOn, headOf, endOf, behindRoot, tailOf}
+use Rattle.prologs.specs.rule.Told.{startBehindMark, isXml, tellOf, declarationOf, onPassed, gapTo, gapOn, headOf, endOfFile}
+use Rattle.prologs.specs.rule.Told.{behindRoot, tailFrom}
 use Rattle.prologs.specs.declared.Prolog.{Prolog}
 use Rattle.prologs.specs.declared.Prolog.the-variants.{Read, Fault}
 use Rattle.prologs.specs.declared.Tail.{Tail}
@@ -32,15 +33,15 @@ pub data Start (d : List ℕ) : ℕ → Type 0 where
   marked : Bytes BOM d 0 3 → Start d 3
   plain : NoBytes BOM d 0 → Start d 0
 
-starts : (d : List ℕ) → Start d (startOf d)
-unfolding startOf
+starts : (d : List ℕ) → Start d (startBehindMark d)
+unfolding startBehindMark
 starts d = by (stands BOM d) refl where
   by : (x : Bool) → stands BOM d ≡ x → Start d (cond x 3 0)
   by true e = marked (yes-bytes BOM d 0 e)
   by false e = plain (no-bytes BOM d 0 e)
 
-start-is : (d : List ℕ) {n : ℕ} → Start d n → startOf d ≡ n
-unfolding startOf
+start-is : (d : List ℕ) {n : ℕ} → Start d n → startBehindMark d ≡ n
+unfolding startBehindMark
 start-is d (marked b) = rw (bytes-yes BOM d b)
 start-is d (plain n) = rw (bytes-no BOM d 0 n)
 
@@ -53,12 +54,13 @@ pub data Xml (d : List ℕ) : Type 0 where
 pub xml-exactly : (d : List ℕ) → (isXml d ≡ true) ↔ Xml d
 unfolding isXml
 xml-exactly d = (sound, complete) where
-  sound : (stands XML (drop (startOf d) d) || stands SSS (drop (startOf d) d)) ≡ true → Xml d
+  sound : (stands XML (drop (startBehindMark d) d) || stands SSS (drop (startBehindMark d) d)) ≡ true → Xml d
   sound e =
-      ⊎-elim (λ x. declared (starts d) (yes-bytes XML d (startOf d) x)) (λ x. rooted (starts d) (yes-bytes SSS d (startOf d) x))
-      (either-true (stands XML (drop (startOf d) d)) (stands SSS (drop (startOf d) d)) e)
+      ⊎-elim (λ x. declared (starts d) (yes-bytes XML d (startBehindMark d) x))
+      (λ x. rooted (starts d) (yes-bytes SSS d (startBehindMark d) x))
+      (either-true (stands XML (drop (startBehindMark d) d)) (stands SSS (drop (startBehindMark d) d)) e)
 
-  complete : Xml d → (stands XML (drop (startOf d) d) || stands SSS (drop (startOf d) d)) ≡ true
+  complete : Xml d → (stands XML (drop (startBehindMark d) d) || stands SSS (drop (startBehindMark d) d)) ≡ true
   complete (declared s b) = rw (start-is d s, bytes-yes XML d b)
   complete (rooted {n} s b) = rw (start-is d s, bytes-yes SSS d b) (or-true (stands XML (drop n d)))
 
@@ -111,7 +113,7 @@ module _ (bad latin : Bool) (d : List ℕ) (p : ℕ) where
   heads = on (gapOf bad d p) refl where
     then : {n m k : ℕ} {l : Bool} → Gapped d p n → Bytes DOCTYPE d n m → Tells bad d n doctype latin n (Read l k) → (s : Skip)
         → gapOf bad d k ≡ s
-        → Headed bad latin d p (onSkip s λ e. Read l e)
+        → Headed bad latin d p (onPassed s λ e. Read l e)
     then {k = k} g b t (Past e) f = typed g b t (gapped k e f)
     then g b t (Broken q) f = later g b t f
 
@@ -126,7 +128,7 @@ module _ (bad latin : Bool) (d : List ℕ) (p : ℕ) where
     by {n} g false e = untyped g (no-bytes DOCTYPE d n e)
 
     on : (s : Skip) → gapOf bad d p ≡ s → Headed bad latin d p
-        (onSkip s λ n. cond (stands DOCTYPE (drop n d)) (gapOn bad d (tellOf bad d n doctype latin n)) (Read latin n))
+        (onPassed s λ n. cond (stands DOCTYPE (drop n d)) (gapOn bad d (tellOf bad d n doctype latin n)) (Read latin n))
     on (Past n) e = by (gapped p n e) (stands DOCTYPE (drop n d)) refl
     on (Broken q) e = comment e
 
@@ -156,16 +158,16 @@ pub data Tailed (bad : Bool) (d : List ℕ) (p : ℕ) : Tail → Type 0 where
   broken : {q : ℕ} → gapOf bad d p ≡ Broken q → Tailed bad d p (Foul 50 q)
 
 module _ (bad : Bool) (d : List ℕ) (p : ℕ) where
-  ends : {n : ℕ} → Gapped d p n → length d ≤ n → (b : Bool) → bad ≡ b → Tailed bad d p (endOf b n)
-  unfolding endOf
+  ends : {n : ℕ} → Gapped d p n → length d ≤ n → (b : Bool) → bad ≡ b → Tailed bad d p (endOfFile b n)
+  unfolding endOfFile
   ends g h true e = cut g h e
   ends g h false e = clean g h e
 
-  tails : Tailed bad d p (tailOf bad d p)
-  unfolding tailOf
+  tails : Tailed bad d p (tailFrom bad d p)
+  unfolding tailFrom
   tails = on (gapOf bad d p) refl where
     by : {n : ℕ} → Gapped d p n → (x y : Bool) → leb (length d) n ≡ x → stands (60 ∷ 63 ∷ []) (drop n d) ≡ y
-        → Tailed bad d p (cond x (endOf bad n) (cond y (Foul 51 n) (Foul 50 n)))
+        → Tailed bad d p (cond x (endOfFile bad n) (cond y (Foul 51 n) (Foul 50 n)))
     by {n} g true y e f = ends g (leb-true (length d) n e) bad refl
     by {n} g false true e f = instruction g (leb-false (length d) n e) (yes-bytes (60 ∷ 63 ∷ []) d n f)
     by {n} g false false e f = other g (leb-false (length d) n e) (no-bytes (60 ∷ 63 ∷ []) d n f)
@@ -174,8 +176,8 @@ module _ (bad : Bool) (d : List ℕ) (p : ℕ) where
     on (Past n) e = by (gap-exactly bad d p n .0 e) (leb (length d) n) (stands (60 ∷ 63 ∷ []) (drop n d)) refl refl
     on (Broken q) e = broken e
 
-  tailed-is : {r : Tail} → Tailed bad d p r → tailOf bad d p ≡ r
-  unfolding tailOf endOf
+  tailed-is : {r : Tail} → Tailed bad d p r → tailFrom bad d p ≡ r
+  unfolding tailFrom endOfFile
   tailed-is (clean {n} g h e) = rw (gap-exactly bad d p n .1 g, le-leb (length d) n h, e)
   tailed-is (cut {n} g h e) = rw (gap-exactly bad d p n .1 g, le-leb (length d) n h, e)
   tailed-is (instruction {n} g h b) = rw (gap-exactly bad d p n .1 g, lt-leb (length d) n h, bytes-yes (60 ∷ 63 ∷ []) d b)
@@ -183,5 +185,5 @@ module _ (bad : Bool) (d : List ℕ) (p : ℕ) where
   tailed-is (broken e) = rw e
 
 -- TAIL: behind the root white space and comments stand, or what else does is at fault
-pub tail-exactly : (bad : Bool) (d : List ℕ) (p : ℕ) (r : Tail) → (tailOf bad d p ≡ r) ↔ Tailed bad d p r
+pub tail-exactly : (bad : Bool) (d : List ℕ) (p : ℕ) (r : Tail) → (tailFrom bad d p ≡ r) ↔ Tailed bad d p r
 tail-exactly bad d p r = (λ e. rw (← e) (tails bad d p), tailed-is bad d p)

@@ -7,7 +7,7 @@ use lib.ListN.{length, getD}
 use Rattle.markup.specs.declared.Skip.{Skip}
 use Rattle.markup.specs.declared.Skip.the-variants.{Past, Broken}
 use Rattle.prologs.specs.rule.Form.{ISO-8859-1, standalone}
-use Rattle.prologs.specs.rule.Told.{quotedOf, alikeOf, blanks, tellOf}
+use Rattle.prologs.specs.rule.Told.{quotedString, alikeOf, blanks, tellOf}
 use Rattle.prologs.specs.declared.Prolog.{Prolog}
 use Rattle.prologs.specs.declared.Prolog.the-variants.{Fault}
 use Rattle.prologs.specs.declared.Pair.{Pair}
@@ -21,7 +21,7 @@ unfoldable pub pairOf : List ℕ → ℕ → ℕ → Pair
 pairOf d o p =
     let n = blanks d p in
     let m = blanks d (n + 1) in
-    cond (leb (length d) n) (Off o) (cond (eqb (getD d n 0) 61) (onQuoted m (quotedOf true false false d o m)) (Off n))
+    cond (leb (length d) n) (Off o) (cond (eqb (getD d n 0) 61) (onQuoted m (quotedString true false false d o m)) (Off n))
 
 -- a value from v to k that is not UTF-8
 unfoldable pub latinOf : List ℕ → ℕ → ℕ → ℕ → Prolog

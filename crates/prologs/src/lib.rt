@@ -7,11 +7,13 @@ ghost use mathlib.Core.List.{[], _∷_};
 ghost use Prim.Native.Nat.{_+_, _-_, _≤_, _<_};
 ghost use lib.ListN.{length, drop};
 ghost use Rattle.markup.specs.rule.Bytes.{runOf, stands};
-ghost use Rattle.prologs.specs.rule.Form.{pair, close, standalone, naming, encoded, declaration};
+ghost use Rattle.prologs.specs.rule.Form.{pair, close, standalone, namingForm, encoded, declaration};
 ghost use Rattle.prologs.specs.rule.Form.{ending, located, public, external, behind, doctype};
 ghost use Rattle.prologs.specs.rule.Form.{one-nought, yes, no, DOCTYPE, XML};
-ghost use Rattle.prologs.specs.rule.Told.{startOf, isXml, isPublic, insideOf, cutOf, closedOf, quotedOf, speltOf, alikes, alikeOf};
-ghost use Rattle.prologs.specs.rule.Told.{dueOf, missOf, rootMissed, tellOf, declarationOf, gapTo, gapOn, headOf, endOf, tailOf};
+ghost use Rattle.prologs.specs.rule.Told.{startBehindMark, isXml, isPublic, betweenQuotes, cutOf, closedString, quotedString};
+ghost use Rattle.prologs.specs.rule.Told.{speltOf, alikes, alikeOf};
+ghost use Rattle.prologs.specs.rule.Told.{dueOf, missOf, rootMissed, tellOf, declarationOf, gapTo, gapOn, headOf, endOfFile};
+ghost use Rattle.prologs.specs.rule.Told.{tailFrom};
 ghost use Rattle.prologs.specs.Pair.{pairOf, latinOf};
 
 // What was read: whether the characters are those of ISO-8859-1, else UTF-8, and the place after it; or the refusal.
@@ -22,7 +24,7 @@ pub enum Prolog {
 
 // The place behind a byte order mark.
 fn start(d: &[u8]) -> usize
-    ensures { λ r. ⌜ (r ≡ startOf (now (d .entry))) × (r ≤ length (now (d .entry))) ⌝ }
+    ensures { λ r. ⌜ (r ≡ startBehindMark (now (d .entry))) × (r ≤ length (now (d .entry))) ⌝ }
 {
     if markup::is_there(d, 0, b"\xEF\xBB\xBF") {
         return 3;
@@ -70,7 +72,7 @@ fn is_public(b: u8) -> bool
 }
 
 fn is_inside(public: bool, quote: u8, b: u8) -> bool
-    ensures { λ r. ⌜ r ≡ insideOf public quote b ⌝ }
+    ensures { λ r. ⌜ r ≡ betweenQuotes public quote b ⌝ }
 {
     if b == quote {
         return false;
@@ -84,7 +86,7 @@ fn is_inside(public: bool, quote: u8, b: u8) -> bool
 // The bytes that may stand between quotes, from a place on: the place after them.
 fn run_inside(public: bool, quote: u8, d: &[u8], at: usize) -> usize
     requires { ⌜ at ≤ length (now d) ⌝ }
-    ensures { λ r. ⌜ (r ≡ runOf (insideOf public quote) at (drop at (now (d .entry)))) × (r ≤ length (now (d .entry))) ⌝ }
+    ensures { λ r. ⌜ (r ≡ runOf (betweenQuotes public quote) at (drop at (now (d .entry)))) × (r ≤ length (now (d .entry))) ⌝ }
 {
     let mut i = at;
     while i < d.len() {
@@ -109,7 +111,7 @@ fn cut_at(alone: bool, bad: bool, d: &[u8], opened: usize, n: usize, k: usize) -
 }
 
 fn find_close(d: &[u8], cut: usize, quote: u8, k: usize) -> Skip
-    ensures { λ r. ⌜ r ≡ closedOf (now (d .entry)) cut quote k ⌝ }
+    ensures { λ r. ⌜ r ≡ closedString (now (d .entry)) cut quote k ⌝ }
 {
     if d.len() <= k {
         return Skip::Broken(cut);
@@ -122,7 +124,7 @@ fn find_close(d: &[u8], cut: usize, quote: u8, k: usize) -> Skip
 
 // A string whose quote is due at n: the place of the quote that ends it. One of the declaration's values, or an identifier.
 fn quoted(alone: bool, public: bool, bad: bool, d: &[u8], opened: usize, n: usize) -> Skip
-    ensures { λ r. ⌜ r ≡ quotedOf alone public bad (now (d .entry)) opened n ⌝ }
+    ensures { λ r. ⌜ r ≡ quotedString alone public bad (now (d .entry)) opened n ⌝ }
 {
     if d.len() <= n {
         return Skip::Broken(markup::end_fault(bad, n, opened));
@@ -273,7 +275,7 @@ fn latin_named(d: &[u8], opened: usize, value: usize, end: usize) -> Prolog
 // The encoding's name; behind a byte order mark it is UTF-8.
 fn encoding_named(marked: bool, d: &[u8], opened: usize, at: usize) -> Prolog
     requires { ⌜ at ≤ length (now d) ⌝ }
-    ensures { λ r. ⌜ r ≡ tellOf false (now (d .entry)) opened (naming marked) false at ⌝ }
+    ensures { λ r. ⌜ r ≡ tellOf false (now (d .entry)) opened (namingForm marked) false at ⌝ }
 {
     match read_pair(d, opened, at) {
         Pair::Is { value, end } => {
@@ -546,7 +548,7 @@ pub enum Tail {
 
 pub fn read_tail(bad: bool, d: &[u8], at: usize) -> Tail
     requires { ⌜ at ≤ length (now d) ⌝ }
-    ensures { λ r. ⌜ r ≡ tailOf bad (now (d .entry)) at ⌝ }
+    ensures { λ r. ⌜ r ≡ tailFrom bad (now (d .entry)) at ⌝ }
 {
     match markup::gap(bad, d, at) {
         Skip::Past(n) => {
@@ -572,7 +574,7 @@ pub fn read_tail(bad: bool, d: &[u8], at: usize) -> Tail
 }
 
 fn end_clean(bad: bool, n: usize) -> Tail
-    ensures { λ r. ⌜ r ≡ endOf bad n ⌝ }
+    ensures { λ r. ⌜ r ≡ endOfFile bad n ⌝ }
 {
     if bad {
         return Tail::Foul {

@@ -7,7 +7,7 @@ use Prim.Native.Nat.{ℕ, _+_, _≤_, _<_}
 use native.Mathlib.Omega.{arith}
 use lib.Dec.{ltb, eqb}
 use borrow.Author.Tests.{eq-eqb, ne-eqb, eqb-true, eqb-false, ltb-true, ltb-false, lt-ltb, le-ltb}
-use Rattle.ranks.specs.rule.Rank.{none, precedes, lowerOf, lowestOf, Among, here, later, Lowest}
+use Rattle.ranks.specs.rule.Rank.{noneFound, precedes, lowerFound, lowestOf, Among, here, later, Lowest}
 use Rattle.ranks.specs.declared.Found.{Found}
 
 apart : (m n : ℕ) → m ≤ n → (n ≡ m → ⊥) → m < n
@@ -92,8 +92,8 @@ module _ (a : Found) (s : List Found) where
   take-first m n k b (lowest x y f) = lowest here n
       (each-of (λ g. (g .number ≡ 0 → ⊥) → Below a g) (λ i. below-same a) (λ g i j. below-join a m g b (f g i j)))
 
-  one-more : (m : Found) → Held s m → Held (a ∷ s) (lowerOf a m)
-  unfolding lowerOf
+  one-more : (m : Found) → Held s m → Held (a ∷ s) (lowerFound a m)
+  unfolding lowerFound
   one-more m h = by (eqb (a .number) 0) (eqb (m .number) 0) (precedes m a) refl refl refl where
     by : (x y z : Bool) → eqb (a .number) 0 ≡ x → eqb (m .number) 0 ≡ y → precedes m a ≡ z → Held (a ∷ s) (cond x m (cond y a (cond z m a)))
     by true y z e f g = keep-rest m (eqb-true (a .number) 0 e) h

@@ -1,7 +1,7 @@
 // Which of the faults of a statement that was read whole is answered: the lowest number, of equal numbers the first place. Above it stand
 // the elements, which gather them.
 ghost use mathlib.Core.Path.{_≡_};
-ghost use Rattle.ranks.specs.rule.Rank.{faultOf, precedes, lowerOf};
+ghost use Rattle.ranks.specs.rule.Rank.{foundAt, precedes, lowerFound};
 
 // A fault, or none: number 0.
 pub struct Found {
@@ -11,7 +11,7 @@ pub struct Found {
 
 // The fault of that number at a place; none where place 0 says that there is none.
 pub fn fault_at(number: usize, place: usize) -> Found
-    ensures { λ r. ⌜ r ≡ faultOf number place ⌝ }
+    ensures { λ r. ⌜ r ≡ foundAt number place ⌝ }
 {
     if place == 0 {
         return Found {
@@ -31,7 +31,7 @@ fn comes_first(b: Found, a: Found) -> bool
 
 // Of two the one that counts.
 pub fn lower(a: Found, b: Found) -> Found
-    ensures { λ r. ⌜ r ≡ lowerOf a b ⌝ }
+    ensures { λ r. ⌜ r ≡ lowerFound a b ⌝ }
 {
     if a.number == 0 {
         return b;

@@ -31,7 +31,7 @@ use Rattle.read_laws.specs.Kinds.{single-exactly, zero-not, not-zero, bi
 use Rattle.read_laws.specs.rule.Others.{TextForm, Entries, SpreadSet}
 use Rattle.read_laws.specs.Others.{text-exactly, spread-exactly, spread-set-of, spread-set-is}
 use Rattle.read_laws.specs.Missing.{spaces-missing}
-use Rattle.read_laws.specs.rule.Exactly.{AllPlain, Illegal, single, quantity, bitstring, spread, character, logical, Says}
+use Rattle.read_laws.specs.rule.Exactly.{AllPlain, Illegal, single, quantity, bitstring, spread, character, logical, FieldSays}
 use Rattle.read_laws.specs.rule.Exactly.{blank-field}
 use Rattle.read_laws.specs.rule.Exactly.{single-zero, single-number, quantity-number, bits-set, spread-set, character-text}
 use Rattle.read_laws.specs.rule.Exactly.{logical-true, logical-false, no-value, Given}
@@ -49,12 +49,12 @@ module _ (t : List ℤ) (v : ℕ) (r : Row) (s : List ℕ) where
   spaces-not e a = holds-not (spaces-all a) e
 
   -- ---- SINGLE
-  single-named : Says t v r s Single (fieldBy Single t v r s)
+  single-named : FieldSays t v r s Single (fieldBy Single t v r s)
   unfolding fieldBy singleSays numberField
   single-named = go (codeOf s) refl
     where
       by : (z : ℤ) → codeOf s ≡ says z → (a b : Bool) → eqZ z (pos 0) ≡ a → legal t v r z ≡ b
-          → Says t v r s Single (cond a (holds missing) (cond b (holds (number z)) illegal))
+          → FieldSays t v r s Single (cond a (holds missing) (cond b (holds (number z)) illegal))
       by z u true b p q = single-zero (code-exactly s (pos 0) .0 (u ∙ ap says (same-true z (pos 0) p)))
       by z u false true p q = single-number (code-exactly s z .0 u) (not-zero z p) q
       by z u false false p q =
@@ -62,7 +62,7 @@ module _ (t : List ℤ) (v : ℕ) (r : Row) (s : List ℕ) where
           (single (λ a. let e = code-blank-exactly s .1 a in let k : _≡_ {A = ℕ} 0 1 = cc in omega arith)
           (λ y f. let e = code-exactly s y .1 f in let w : z ≡ y = cc in (not-zero y (rw w at p), rw w at q)))
 
-      go : (x : Said) → codeOf s ≡ x → Says t v r s Single (singleSays (legal t v r) x)
+      go : (x : Said) → codeOf s ≡ x → FieldSays t v r s Single (singleSays (legal t v r) x)
       go blank u = blank-field (code-blank-exactly s .0 u)
       go wrong u = let e = code-wrong-exactly s .0 u in no-value (single (e .0) (λ z f. absurd (e .1 z f)))
       go (says z) u = by z u (eqZ z (pos 0)) (legal t v r z) refl refl
@@ -78,19 +78,19 @@ module _ (t : List ℤ) (v : ℕ) (r : Row) (s : List ℕ) where
 
   -- ---- QUANTITY
   module _ (f : Format) (facts : FormatFacts f) where
-    quantity-named : Says t v r s (Quantity f) (fieldBy (Quantity f) t v r s)
+    quantity-named : FieldSays t v r s (Quantity f) (fieldBy (Quantity f) t v r s)
     unfolding fieldBy quantitySays numberField
     quantity-named = go (quantityOf f s) refl
       where
         by : (z : ℤ) → quantityOf f s ≡ says z → (b : Bool) → legal t v r z ≡ b
-            → Says t v r s (Quantity f) (cond b (holds (number z)) illegal)
+            → FieldSays t v r s (Quantity f) (cond b (holds (number z)) illegal)
         by z u true q = quantity-number (quantity-exactly f facts s z .0 u) q
         by z u false q =
             no-value
             (quantity (λ a. let e = quantity-blank-exactly f facts s .1 a in let k : _≡_ {A = ℕ} 0 1 = cc in omega arith)
             (λ y g. let e = quantity-exactly f facts s y .1 g in let w : z ≡ y = cc in rw w at q))
 
-        go : (x : Said) → quantityOf f s ≡ x → Says t v r s (Quantity f) (quantitySays (legal t v r) x)
+        go : (x : Said) → quantityOf f s ≡ x → FieldSays t v r s (Quantity f) (quantitySays (legal t v r) x)
         go blank u = blank-field (quantity-blank-exactly f facts s .0 u)
         go wrong u = let e = quantity-wrong-exactly f facts s .0 u in no-value (quantity (e .0) (λ z g. absurd (e .1 z g)))
         go (says z) u = by z u (legal t v r z) refl
@@ -113,12 +113,12 @@ module _ (t : List ℤ) (v : ℕ) (r : Row) (s : List ℕ) where
     cs : List ℕ
     cs = categories t v r
 
-    bits-named : Says t v r s (Multiple Bits) (fieldBy (Multiple Bits) t v r s)
+    bits-named : FieldSays t v r s (Multiple Bits) (fieldBy (Multiple Bits) t v r s)
     unfolding fieldBy bitsField cs
     bits-named = go (allSpaces s) (allBits s) refl refl
       where
         go : (a b : Bool) → allSpaces s ≡ a → allBits s ≡ b
-            → Says t v r s (Multiple Bits) (cond a (holds missing) (cond b (holds (members (setBits cs s))) illegal))
+            → FieldSays t v r s (Multiple Bits) (cond a (holds missing) (cond b (holds (members (setBits cs s))) illegal))
         go true b p q = blank-field (all-spaces s p)
         go false true p q = bits-set (spaces-not p) (bits-exactly cs s even (setBits cs s) .0 (rw (p, q)) .0)
         go false false p q =
@@ -140,12 +140,13 @@ module _ (t : List ℤ) (v : ℕ) (r : Row) (s : List ℕ) where
     ok : ℤ → Bool
     ok = legal t v r
 
-    spread-named : Says t v r s (Multiple (Fields n b)) (fieldBy (Multiple (Fields n b)) t v r s)
+    spread-named : FieldSays t v r s (Multiple (Fields n b)) (fieldBy (Multiple (Fields n b)) t v r s)
     unfolding fieldBy spreadField ok
     spread-named = go (allSpaces s) (allEntries ok (r .width) n s) refl refl
       where
         go : (a c : Bool) → allSpaces s ≡ a → allEntries ok (r .width) n s ≡ c
-            → Says t v r s (Multiple (Fields n b)) (cond a (holds missing) (cond c (holds (members (spreadSet (r .width) n s))) illegal))
+            → FieldSays t v r s (Multiple (Fields n b))
+            (cond a (holds missing) (cond c (holds (members (spreadSet (r .width) n s))) illegal))
         go true c p q = blank-field (all-spaces s p)
         go false true p q =
             spread-set (spaces-not p) (spread-exactly ok (r .width) n s (spreadSet (r .width) n s) .0 (rw (p, q)) .1)
@@ -179,12 +180,12 @@ all-plain [] h = refl
 all-plain (b ∷ s) h = and-true (leb 32 b) (allPlain s) (le-leb 32 b (h 0 (omega arith))) (all-plain s (λ p l. h (suc p) (omega arith)))
 
 module _ (t : List ℤ) (v : ℕ) (r : Row) (s : List ℕ) where
-  character-named : Says t v r s Character (fieldBy Character t v r s)
+  character-named : FieldSays t v r s Character (fieldBy Character t v r s)
   unfolding fieldBy textField
   character-named = go (allSpaces s) (allPlain s) refl refl
     where
       go : (a b : Bool) → allSpaces s ≡ a → allPlain s ≡ b
-          → Says t v r s Character (cond a (holds missing) (cond b (holds (text (unended s))) illegal))
+          → FieldSays t v r s Character (cond a (holds missing) (cond b (holds (text (unended s))) illegal))
       go true b p q = blank-field (all-spaces s p)
       go false true p q = character-text (text-exactly s (unended s) .0 (rw (p, q)) .0) (plain-all s q)
       go false false p q = no-value (character (spaces-not t v r s p) (λ h. holds-not (all-plain s h) q))
@@ -206,12 +207,12 @@ module _ (t : List ℤ) (v : ℕ) (r : Row) (s : List ℕ) where
       go (a ∷ []) n e = rw e
       go (a ∷ c ∷ x) n e = absurd (omega arith)
 
-  logical-named : length s ≡ 1 → Says t v r s Logical (fieldBy Logical t v r s)
+  logical-named : length s ≡ 1 → FieldSays t v r s Logical (fieldBy Logical t v r s)
   unfolding fieldBy truthField
   logical-named n = go (allSpaces s) (eqb (getD s 0 0) 49) (eqb (getD s 0 0) 48) refl refl refl
     where
       go : (a b c : Bool) → allSpaces s ≡ a → eqb (getD s 0 0) 49 ≡ b → eqb (getD s 0 0) 48 ≡ c
-          → Says t v r s Logical (cond a (holds missing) (cond b (holds (truth true)) (cond c (holds (truth false)) illegal)))
+          → FieldSays t v r s Logical (cond a (holds missing) (cond b (holds (truth true)) (cond c (holds (truth false)) illegal)))
       go true b c p q u = blank-field (all-spaces s p)
       go false true c p q u = logical-true (one-byte n (eqb-true (getD s 0 0) 49 q))
       go false false true p q u = logical-false (one-byte n (eqb-true (getD s 0 0) 48 u))
@@ -231,7 +232,7 @@ module _ (t : List ℤ) (v : ℕ) (r : Row) (s : List ℕ) where
       go false false q u = rw (not-spaces t v r s n)
 
   -- ---- THE FIELD, both ways
-  pub field-named : (k : Kind) → Given t v r s k → Says t v r s k (fieldBy k t v r s)
+  pub field-named : (k : Kind) → Given t v r s k → FieldSays t v r s k (fieldBy k t v r s)
   field-named Single g = single-named t v r s
   field-named (Multiple Bits) g = bits-named t v r s g
   field-named (Multiple (Fields n b)) g = spread-named t v r s n b
@@ -247,7 +248,7 @@ module _ (t : List ℤ) (v : ℕ) (r : Row) (s : List ℕ) where
   illegal-only g (character n h) = character-illegal n h
   illegal-only g (logical n h m) = logical-illegal g n h m
 
-  pub field-only : {k : Kind} {f : Field} → Given t v r s k → Says t v r s k f → fieldBy k t v r s ≡ f
+  pub field-only : {k : Kind} {f : Field} → Given t v r s k → FieldSays t v r s k f → fieldBy k t v r s ≡ f
   unfolding fieldBy truthField allSpaces singleSays
   field-only {k} g (blank-field a) = spaces-missing k t v r s a
   field-only g (single-zero f) = rw (code-exactly s (pos 0) .1 f, same-self (pos 0))
@@ -262,7 +263,7 @@ module _ (t : List ℤ) (v : ℕ) (r : Row) (s : List ℕ) where
   field-only g (no-value i) = illegal-only g i
 
   -- ILLEGAL EXACTLY when it is neither spaces nor the form with a legal number
-  illegal-by : {k : Kind} {f : Field} → Says t v r s k f → f ≡ illegal → Illegal t v r s k
+  illegal-by : {k : Kind} {f : Field} → FieldSays t v r s k f → f ≡ illegal → Illegal t v r s k
   illegal-by (no-value i) e = i
   illegal-by (blank-field a) e = let k : _≡_ {A = ℕ} 0 1 = cc in absurd (omega arith)
   illegal-by (single-zero f) e = let k : _≡_ {A = ℕ} 0 1 = cc in absurd (omega arith)

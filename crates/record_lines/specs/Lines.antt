@@ -23,10 +23,10 @@ use Rattle.files.specs.rule.File.{FileVerdict, soundWith, badTable, faultIn, re
 use Rattle.files.specs.rule.Tested.{Tested}
 use Rattle.files.specs.Tested.{tested-rows}
 use Rattle.layout.specs.declared.Header.{Header}
-use Rattle.commas.specs.rule.Csv.{lineBytes, textBytes}
+use Rattle.commas.specs.rule.Csv.{lineBytes, csvBytes}
 use Rattle.commas.specs.Csv.{lineLeft, left-line}
 use Rattle.value_fields.specs.rule.Values.{rowField}
-use Rattle.record_lines.specs.rule.Lines.{before, recordLine, linesOf}
+use Rattle.record_lines.specs.rule.Lines.{soundBefore, recordLine, recordsLines}
 
 -- a record that is long enough, and in which every row is legal
 pub record SoundRecord (t : List ℤ) (r : List ℕ) : Type 0 where
@@ -59,20 +59,20 @@ module _ (k : ℕ) (some : 0 < k) where
   sound-next e h = rw (e, less) at h
 
   pub lines-next : (t : List ℤ) {rs us : Records} {r : List ℕ} → rs ≡ record-and r us
-      → textBytes (linesOf t k rs) ≡ lineBytes (recordLine t r) ++ textBytes (linesOf t (k - 1) us)
-  unfolding linesOf textBytes
-  lines-next t {us = us} {r = r} e = rw (e) (ap (λ (n : ℕ). textBytes (linesOf t n (record-and r us))) less)
+      → csvBytes (recordsLines t k rs) ≡ lineBytes (recordLine t r) ++ csvBytes (recordsLines t (k - 1) us)
+  unfolding recordsLines csvBytes
+  lines-next t {us = us} {r = r} e = rw (e) (ap (λ (n : ℕ). csvBytes (recordsLines t n (record-and r us))) less)
 
-  pub lines-unended : (t : List ℤ) {rs : Records} {r : List ℕ} → rs ≡ unended r → textBytes (linesOf t k rs) ≡ []
-  unfolding linesOf textBytes
-  lines-unended t {r = r} e = rw (e) (ap (λ (n : ℕ). textBytes (linesOf t n (unended r))) less)
+  pub lines-unended : (t : List ℤ) {rs : Records} {r : List ℕ} → rs ≡ unended r → csvBytes (recordsLines t k rs) ≡ []
+  unfolding recordsLines csvBytes
+  lines-unended t {r = r} e = rw (e) (ap (λ (n : ℕ). csvBytes (recordsLines t n (unended r))) less)
 
-  pub lines-over : (t : List ℤ) {rs : Records} → rs ≡ over → textBytes (linesOf t k rs) ≡ []
-  unfolding linesOf textBytes
-  lines-over t e = rw (e) (ap (λ (n : ℕ). textBytes (linesOf t n over)) less)
+  pub lines-over : (t : List ℤ) {rs : Records} → rs ≡ over → csvBytes (recordsLines t k rs) ≡ []
+  unfolding recordsLines csvBytes
+  lines-over t e = rw (e) (ap (λ (n : ℕ). csvBytes (recordsLines t n over)) less)
 
-pub lines-none : (k : ℕ) (t : List ℤ) (rs : Records) → k ≡ 0 → textBytes (linesOf t k rs) ≡ []
-unfolding linesOf textBytes
+pub lines-none : (k : ℕ) (t : List ℤ) (rs : Records) → k ≡ 0 → csvBytes (recordsLines t k rs) ≡ []
+unfolding recordsLines csvBytes
 lines-none k t rs e = rw e
 
 -- ---- THE RECORDS BEFORE THE FIRST FAULT are sound
@@ -116,8 +116,8 @@ unfolding SoundFirst
 none-left t m rs e = rw e tt
 
 pub verdict-sound : (t : List ℤ) (rs : Records) (n first : ℕ)
-    → (n ≤ before (recordsVerdict t n first rs)) × SoundFirst t (before (recordsVerdict t n first rs) - n) rs
-unfolding recordsVerdict before goOn isSound SoundFirst
+    → (n ≤ soundBefore (recordsVerdict t n first rs)) × SoundFirst t (soundBefore (recordsVerdict t n first rs) - n) rs
+unfolding recordsVerdict soundBefore goOn isSound SoundFirst
 verdict-sound t over n first = (omega arith, none-left t (n - n) over (omega arith))
 verdict-sound t (unended r) n first = (omega arith, none-left t (n + 1 - 1 - n) (unended r) (omega arith))
 verdict-sound t (record-and r rs) n first =
@@ -132,9 +132,9 @@ verdict-sound t (record-and r rs) n first =
     step b l h = let e : b - n ≡ suc (b - (n + 1)) = omega (arith, h .0) in (omega (arith, h .0), rw e (l, h .1))
 
     go : (v : Verdict) (rest : FileVerdict) → recordVerdict t (firstLength n first (length r)) r ≡ v
-        → (n + 1 ≤ before rest) × SoundFirst t (before rest - (n + 1)) rs
-        → (n ≤ before (goOn v n rest)) × SoundFirst t (before (goOn v n rest) - n) (record-and r rs)
-    go sound rest e h = step (before rest) (sound-here t r (firstLength n first (length r)) (ap isSound e)) h
+        → (n + 1 ≤ soundBefore rest) × SoundFirst t (soundBefore rest - (n + 1)) rs
+        → (n ≤ soundBefore (goOn v n rest)) × SoundFirst t (soundBefore (goOn v n rest) - n) (record-and r rs)
+    go sound rest e h = step (soundBefore rest) (sound-here t r (firstLength n first (length r)) (ap isSound e)) h
     go (refused k) rest e h = stop (n + 1 - 1) refl
     go (lowByte p) rest e h = stop (n + 1 - 1) refl
     go (badField i x) rest e h = stop (n + 1 - 1) refl

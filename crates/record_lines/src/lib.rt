@@ -5,10 +5,10 @@ ghost use lib.ListN.{length};
 ghost use Rattle.cuts.specs.rule.Records.{recordsFrom};
 ghost use Rattle.files.specs.rule.File.{fileSaid};
 ghost use Rattle.listing.specs.rule.Turns.{Ready};
-ghost use Rattle.commas.specs.rule.Csv.{lineBytes, textBytes};
+ghost use Rattle.commas.specs.rule.Csv.{lineBytes, csvBytes};
 ghost use Rattle.sink.specs.rule.Sent.{Sent};
 ghost use Rattle.value_fields.specs.Legal.{Full};
-ghost use Rattle.record_lines.specs.rule.Lines.{before, recordLine, linesOf};
+ghost use Rattle.record_lines.specs.rule.Lines.{soundBefore, recordLine, recordsLines};
 ghost use Rattle.record_lines.specs.Lines.{SoundRecord, SoundFirst};
 use cuts::Next;
 use cuts::Terminator;
@@ -24,7 +24,7 @@ fn one_less(n: usize) -> usize
 
 // How many records come before the first fault.
 pub fn count_before(j: Judgement) -> usize
-    ensures { λ r. ⌜ r ≡ before (fileSaid j) ⌝ }
+    ensures { λ r. ⌜ r ≡ soundBefore (fileSaid j) ⌝ }
 {
     match j {
         Judgement::Sound(n) => n,
@@ -77,7 +77,7 @@ pub fn send_lines(
 ) -> usize
     requires { ⌜ Ready (now powers) (now t) h (length (now list)) ⌝ }
     requires { ⌜ (w .size ≤ 2) × SoundFirst (now t) n (recordsFrom w (now d)) ⌝ }
-    ensures { λ r. ⌜ Sent bound (now (out .entry)) at (textBytes (linesOf (now (t .entry)) n (recordsFrom w (now (d .entry)))))
+    ensures { λ r. ⌜ Sent bound (now (out .entry)) at (csvBytes (recordsLines (now (t .entry)) n (recordsFrom w (now (d .entry)))))
         (now (out .exit)) r ⌝ }
 {
     let mut end = at;

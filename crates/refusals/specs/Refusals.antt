@@ -143,10 +143,11 @@ module _ (d : List ℕ) where
     outcome-stands = either RefusalStands (ltb 1048576 (length d)) (omega arith) (judged-stands (surveyOf d) survey-of)
 
     -- a refusal of the rule is one of the code's books
-    module _ (k p : ℕ) (refused : rule.outcomeOf d n ≡ rule.Refusal k p) where
+    module _ (k p : ℕ) (refused : rule.sssOutcome d n ≡ rule.Refusal k p) where
       stands : RefusalStands (Refusal k p)
       stands = by refl refused (outcome-same d n) where
-        by : {o : Outcome} {q : rule.Outcome} → outcomeIn d n ≡ o → q ≡ rule.Refusal k p → SameOutcome d o q → RefusalStands (Refusal k p)
+        by : {o : Outcome} {q : rule.SssOutcome} → outcomeIn d n ≡ o → q ≡ rule.Refusal k p → SameOutcome d o q
+            → RefusalStands (Refusal k p)
         by i j (bridge.built s) = let z : _≡_ {A = ℕ} 0 1 = cc in absurd (omega arith)
         by i j (bridge.refused {k = a} {p = b}) =
             let u : a ≡ k = cc in
@@ -161,9 +162,9 @@ module _ (d : List ℕ) where
       refusal-placed = stands .2
 
 -- what the call answers as refused is such a refusal
-pub answered : (d : List ℕ) (n k p : ℕ) → rule.answerOf (rule.outcomeOf d n) ≡ answer.Refused k p → rule.outcomeOf d n ≡ rule.Refusal k p
-unfolding rule.answerOf
-answered d n k p = by (rule.outcomeOf d n) where
-  by : (o : rule.Outcome) → rule.answerOf o ≡ answer.Refused k p → o ≡ rule.Refusal k p
+pub answered : (d : List ℕ) (n k p : ℕ) → rule.sssAnswer (rule.sssOutcome d n) ≡ answer.Refused k p → rule.sssOutcome d n ≡ rule.Refusal k p
+unfolding rule.sssAnswer
+answered d n k p = by (rule.sssOutcome d n) where
+  by : (o : rule.SssOutcome) → rule.sssAnswer o ≡ answer.Refused k p → o ≡ rule.Refusal k p
   by (rule.Built l) e = let z : _≡_ {A = ℕ} 0 1 = cc in absurd (omega arith)
   by (rule.Refusal number place) e = cc

@@ -26,7 +26,7 @@ use Rattle.tokens.specs.rule.Gap.{fault, gapAt}
 use Rattle.tokens.specs.declared.Amount as books
 use Rattle.statements.specs.rule.Words.{CHARACTER, END, LABEL, LOGICAL, MULTIPLE, NAME, NOTE, OF, POSITION, QUANTITY, SINGLE, SIZE}
 use Rattle.statements.specs.rule.Words.{SPECIAL, SPREAD, TO, TYPE, VALUES, VARIABLE, WITH}
-use Rattle.survey.specs.rule.Survey.{Figure, Amount, Text, Range, Block, Variable}
+use Rattle.survey.specs.rule.Survey.{Figure, Amount, KeptText, Range, Block, Variable}
 use Rattle.survey.specs.rule.Table.{linesAll}
 use Rattle.reading.specs.rule.Result.{Result, Is, Not, Reader, bind, turn, repeat}
 use Rattle.reading.specs.rule.Least.{Charge, judged}
@@ -125,11 +125,11 @@ module _ (d : List ℕ) where
   value-leads n = then (λ a. amount d) (gap-leads n) (λ a. amount-leads)
 
   -- a text stands where it is read
-  pub data Stands (n : ℕ) : Result Text → Type 0 where
-    stands : {t : Text} {m : ℕ} → n < t .place → t .place ≤ m → Stands n (Is t m)
+  pub data Stands (n : ℕ) : Result KeptText → Type 0 where
+    stands : {t : KeptText} {m : ℕ} → n < t .place → t .place ≤ m → Stands n (Is t m)
     none-there : {f : Fault} → Stands n (Not f)
 
-  stands-later : {n k : ℕ} {r : Result Text} → n ≤ k → Stands k r → Stands n r
+  stands-later : {n k : ℕ} {r : Result KeptText} → n ≤ k → Stands k r → Stands n r
   stands-later {n} h (stands {t = t} g i) = let j : n < t .place = omega arith in stands j i
   stands-later h none-there = none-there
 
@@ -152,7 +152,7 @@ module _ (d : List ℕ) where
     by (ends {m = m} h) = stands-later h (quoted-stands (from-text d m))
     by stops = none-there
 
-  text-leads : {n : ℕ} {r : Result Text} → Stands n r → After n r
+  text-leads : {n : ℕ} {r : Result KeptText} → Stands n r → After n r
   text-leads {n} (stands {m = m} g h) = let i : n ≤ m = omega arith in ends i
   text-leads none-there = stops
 
@@ -267,11 +267,11 @@ module _ (d : List ℕ) where
   content-leads p before Logical n = here-ends n
 
   -- ---- a variable: its name stands behind n, and it ends behind its name
-  data Kept (name : Text) (n : ℕ) : Result Variable → Type 0 where
+  data Kept (name : KeptText) (n : ℕ) : Result Variable → Type 0 where
     kept : {v : Variable} {m : ℕ} → v .name ≡ name → n ≤ m → Kept name n (Is v m)
     lost : {f : Fault} → Kept name n (Not f)
 
-  keep : {A : Type 0} {name : Text} {n : ℕ} {r : Result A} (k : A → Reader Variable) → After n r
+  keep : {A : Type 0} {name : KeptText} {n : ℕ} {r : Result A} (k : A → Reader Variable) → After n r
       → ((a : A) (m : ℕ) → Kept name m (k a m)) → Kept name n (bind r k)
   keep {name = name} {n = n} k (ends {a = a} {m = m} h) f = by (f a m) where
     by : {r : Result Variable} → Kept name m r → Kept name n r
@@ -290,13 +290,13 @@ module _ (d : List ℕ) where
     nameless : {f : Fault} → Named n (Not f)
 
   -- what follows the name
-  abbrev rest : List Variable → Figure → Text → Reader Variable
+  abbrev rest : List Variable → Figure → KeptText → Reader Variable
   rest earlier x name i =
       bind (phrase d LABEL i) λ label i. bind (type d i) λ s i. bind (position d i) λ p i.
       bind (content d p (linesAll earlier) s i) λ c i. bind (statement d END i) λ a i. bind (word d VARIABLE i) λ a. held
       (variableOf x name label p c)
 
-  rest-kept : (earlier : List Variable) (x : Figure) (name : Text) (i : ℕ) → Kept name i (rest earlier x name i)
+  rest-kept : (earlier : List Variable) (x : Figure) (name : KeptText) (i : ℕ) → Kept name i (rest earlier x name i)
   rest-kept earlier x name i =
       keep _ (text-leads (phrase-stands LABEL some-bytes i))
       (λ label i. keep _ (type-leads i)
@@ -305,7 +305,7 @@ module _ (d : List ℕ) where
       (λ c i. keep _ (statement-leads END some-bytes i)
       (λ u i. keep _ (word-leads VARIABLE some-bytes i) (λ u i. held-kept (variableOf x name label p c) i))))))
 
-  at-rest : {i k : ℕ} {name : Text} {r : Result Variable} → i < name .place → name .place ≤ k → Kept name k r → Named i r
+  at-rest : {i k : ℕ} {name : KeptText} {r : Result Variable} → i < name .place → name .place ≤ k → Kept name k r → Named i r
   at-rest {i} {k} {name} g h (kept {v = v} {m = m} e o) =
       let p : i < v .name .place = rw e g in
       let q : v .name .place ≤ m = rw e (omega arith) in
@@ -319,7 +319,7 @@ module _ (d : List ℕ) where
   pub variable-named : (earlier : List Variable) (n : ℕ) → Named n (variable d earlier n)
   unfolding variable
   variable-named earlier n = at-ident (ident-leads earlier n) where
-    at-name : (x : Figure) {i : ℕ} {r : Result Text} → Stands i r → Named i (bind r (rest earlier x))
+    at-name : (x : Figure) {i : ℕ} {r : Result KeptText} → Stands i r → Named i (bind r (rest earlier x))
     at-name x (stands {t = t} {m = m} g h) = at-rest g h (rest-kept earlier x t m)
     at-name x none-there = nameless
 

@@ -22,7 +22,7 @@ use Rattle.scan.specs.declared.Word.{Word}
 use Rattle.scan.specs.declared.Word.the-variants as spelled
 use Rattle.reading.specs.rule.Token.{either, onWord}
 use Rattle.reading.specs.rule.Statement.{notes}
-use Rattle.reading.specs.rule.Whole.{another, front, ends, survey, surveyOf}
+use Rattle.reading.specs.rule.Whole.{anotherVariable, front, ends, survey, surveyOf}
 use Rattle.definition.specs.rule.Definition.{namesOf, quoteAt}
 use Rattle.bridge.specs.Lowest.{never}
 use Rattle.bridge.specs.Facts.{word-ahead}
@@ -54,8 +54,8 @@ data All (a : ℕ) : Result (List Variable) → Type 0 where
   none-read : {f : Fault} → All a (Not f)
 
 module _ (d : List ℕ) (a : ℕ) where
-  another-step : {n : ℕ} (l : List Variable) → Ordered a l n → Step a (another d l n)
-  unfolding another
+  another-step : {n : ℕ} (l : List Variable) → Ordered a l n → Step a (anotherVariable d l n)
+  unfolding anotherVariable
   another-step {n} l o = at-variable (variable-named d l n) where
     at-end : (v : Variable) (k : ℕ) → Ordered a (l ++ v ∷ []) k → (w : Word) → wordAt d k END ≡ w
         → Step a (onWord (λ e. Is (Done (l ++ v ∷ [])) e) (λ i. Is (Again (l ++ v ∷ [])) i) k w)
@@ -72,12 +72,13 @@ module _ (d : List ℕ) (a : ℕ) where
     at-variable (named {v = v} {m = m} g h) = at-notes v (one-more v o g h) (notes-leads d m)
     at-variable nameless = over
 
-  all-ordered : (f : ℕ) {n : ℕ} (l : List Variable) → Ordered a l n → All a (repeat f (another d) l n)
+  all-ordered : (f : ℕ) {n : ℕ} (l : List Variable) → Ordered a l n → All a (repeat f (anotherVariable d) l n)
   unfolding repeat
   all-ordered zero l o = none-read
   all-ordered (suc f) l o = by (another-step l o) (λ m k q. all-ordered f k q) where
     by : {r : Result (Next (List Variable) (List Variable))} → Step a r
-        → ((m : ℕ) (k : List Variable) → Ordered a k m → All a (repeat f (another d) k m)) → All a (bind r (turn (repeat f (another d))))
+        → ((m : ℕ) (k : List Variable) → Ordered a k m → All a (repeat f (anotherVariable d) k m))
+        → All a (bind r (turn (repeat f (anotherVariable d))))
     by (again {l = k} {m = m} q) ih = ih m k q
     by (done q) ih = all q
     by over ih = none-read
@@ -106,7 +107,8 @@ survey-read d = at-front (front d (placeOf (text d 0))) where
   at-all h {a} (all {l = l} {m = m} o) = at-ends h l (record { from = a; to = m; ordered = o }) (ends d m)
   at-all h none-read = unread
 
-  at-front : (r : Result Heading) → Read (bind r λ h n. bind (repeat 513 (another d) [] n) λ l n. bind (ends d n) λ u n. Is (given h l) n)
+  at-front : (r : Result Heading) → Read (bind r λ h n. bind (repeat 513 (anotherVariable d) [] n) λ l n. bind (ends d n) λ u n. Is
+      (given h l) n)
   at-front (Is h n) = let i : n ≤ n = omega arith in at-all h (all-ordered d n 513 [] (none i))
   at-front (Not f) = unread
 

@@ -10,15 +10,15 @@ use lib.Seq.{take-append-seam, drop-append-seam}
 use Rattle.cells.specs.rule.Cell.{pasted}
 use Rattle.survey.specs.rule.Survey.{Variable}
 use Rattle.survey.specs.rule.Table.{tableOf}
-use Rattle.definition.specs.rule.Definition.{Built, tableAfter}
+use Rattle.definition.specs.rule.Definition.{Built, sssTableAfter}
 
 module _ (l : List Variable) (t : List ℤ) where
-  after-is : tableAfter (Built l) t ≡ tableOf l ++ drop (length (tableOf l)) t
-  unfolding tableAfter pasted
+  after-is : sssTableAfter (Built l) t ≡ tableOf l ++ drop (length (tableOf l)) t
+  unfolding sssTableAfter pasted
   after-is = rw (zero-add (length (tableOf l)))
 
-  pub table-begins : take (length (tableOf l)) (tableAfter (Built l) t) ≡ tableOf l
+  pub table-begins : take (length (tableOf l)) (sssTableAfter (Built l) t) ≡ tableOf l
   table-begins = rw after-is (take-append-seam (tableOf l) (drop (length (tableOf l)) t))
 
-  pub table-beyond : drop (length (tableOf l)) (tableAfter (Built l) t) ≡ drop (length (tableOf l)) t
+  pub table-beyond : drop (length (tableOf l)) (sssTableAfter (Built l) t) ≡ drop (length (tableOf l)) t
   table-beyond = rw after-is (drop-append-seam (tableOf l) (drop (length (tableOf l)) t))

@@ -7,7 +7,7 @@ use Prim.Native.Nat.{ℕ}
 use borrow.Author.Tests.{eqb-true, eqb-false, ne-eqb}
 use lib.Dec.{eqb}
 use Rattle.cuts.specs.declared.Terminator.{Terminator}
-use Rattle.cuts.specs.rule.Cut.{single, pair, beginsWith, terminatorAt, terminatorOf}
+use Rattle.cuts.specs.rule.Cut.{oneByte, twoBytes, beginsWith, terminatorAt, terminatorOf}
 use Rattle.rule_laws.specs.rule.Terminators.{Plain, nothing, byte, NotNext, end, other, First, cr-lf, lf-cr, cr, lf, no-end}
 
 -- ---- what the rule finds is the first one
@@ -23,7 +23,7 @@ at-cr : (s : List ℕ) → First (13 ∷ s) (terminatorAt 13 10 s)
 unfolding terminatorAt beginsWith
 at-cr [] = cr [] [] nothing refl end
 at-cr (c ∷ s) = go (eqb c 10) refl where
-  go : (x : Bool) → eqb c 10 ≡ x → First (13 ∷ c ∷ s) (cond x (pair 13 10) (single 13 10))
+  go : (x : Bool) → eqb c 10 ≡ x → First (13 ∷ c ∷ s) (cond x (twoBytes 13 10) (oneByte 13 10))
   go true e = cr-lf [] s nothing (rw (eqb-true c 10 e))
   go false e = cr [] (c ∷ s) nothing refl (other (eqb-false c 10 e))
 
@@ -31,7 +31,7 @@ at-lf : (s : List ℕ) → First (10 ∷ s) (terminatorAt 10 13 s)
 unfolding terminatorAt beginsWith
 at-lf [] = lf [] [] nothing refl end
 at-lf (c ∷ s) = go (eqb c 13) refl where
-  go : (x : Bool) → eqb c 13 ≡ x → First (10 ∷ c ∷ s) (cond x (pair 10 13) (single 10 13))
+  go : (x : Bool) → eqb c 13 ≡ x → First (10 ∷ c ∷ s) (cond x (twoBytes 10 13) (oneByte 10 13))
   go true e = lf-cr [] s nothing (rw (eqb-true c 13 e))
   go false e = lf [] (c ∷ s) nothing refl (other (eqb-false c 13 e))
 

@@ -7,7 +7,7 @@ use mathlib.Core.List.{List}
 use Prim.Native.Nat.{ℕ}
 use lib.Dec.{eqb}
 use Rattle.scan.specs.rule.Text.{text}
-use Rattle.scan.specs.rule.Number.{isValue, bytesOf}
+use Rattle.scan.specs.rule.Number.{isValue, runBytes}
 use Rattle.tokens.specs.declared.Reading.the-variants.{At}
 use Rattle.tokens.specs.declared.Value.{Value}
 use Rattle.tokens.specs.declared.Amount as books
@@ -27,11 +27,11 @@ module _ (d : List ℕ) (n : ℕ) where
   is-value false e = cc
 
   -- FORMED
-  pub amount-form : {a : Amount} {m : ℕ} → amount d n ≡ Is a m → (a .formed ≡ true) ↔ Form (bytesOf isValue (text d n))
+  pub amount-form : {a : Amount} {m : ℕ} → amount d n ≡ Is a m → (a .formed ≡ true) ↔ Form (runBytes isValue (text d n))
   unfolding valueHere ofValue
   amount-form {a} {m} e = by refl (value-on d n) e where
     by : {v : books.Amount} {r : Result Amount} → valueHere d (At n) ≡ v → Valued d n v r → r ≡ Is a m
-        → (a .formed ≡ true) ↔ Form (bytesOf isValue (text d n))
+        → (a .formed ≡ true) ↔ Form (runBytes isValue (text d n))
     by i (valued {a = b} {x = x} {y = y} {m = k} s f g) j =
         let q : b ≡ a = cc in
         let u : valueAt d n .formed ≡ b .formed = ap (λ (w : Value). w .formed) (is-value (eqb (valueAt d n .next) n) i) in

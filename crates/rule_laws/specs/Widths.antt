@@ -16,7 +16,7 @@ use Rattle.layout.specs.declared.Kind.the-variants.{Single, Multiple}
 use Rattle.layout.specs.declared.Spread.the-variants.{Bits, Fields}
 use Rattle.widths.specs.rule.Width.{sizeOf, need}
 use Rattle.survey.specs.rule.Survey.{Amount}
-use Rattle.survey.specs.rule.Width.{scaled, widest}
+use Rattle.survey.specs.rule.Width.{scaled, widestAmount}
 
 -- ---- the words
 -- the largest of the numbers
@@ -59,8 +59,8 @@ largest-few (more h f) = omega (arith, largest-few f)
 
 -- ---- w of one number or more
 module _ (k : Kind) (digits : (a : Amount) → need k (scaled a) ≡ digitsOf (a .size)) where
-  by-digits : (a : Amount) (l : List Amount) → Few (a ∷ l) → widest k (a ∷ l) ≡ digitsOf (largest (a ∷ l))
-  unfolding widest largest
+  by-digits : (a : Amount) (l : List Amount) → Few (a ∷ l) → widestAmount k (a ∷ l) ≡ digitsOf (largest (a ∷ l))
+  unfolding widestAmount largest
   by-digits a [] f = rw (digits a, max-zero (digitsOf (a .size)), max-zero (a .size))
   by-digits a (b ∷ l) (more h f) = rw (digits a, by-digits b l f) (digits-max (a .size) (largest (b ∷ l)) h (largest-few f))
 
@@ -73,15 +73,15 @@ unfolding need
 spread-needs n w a = rw (size-scaled a)
 
 -- SINGLE, and each subfield of a spread: the digits of the largest category
-pub single-width : (a : Amount) (l : List Amount) → Few (a ∷ l) → widest Single (a ∷ l) ≡ digitsOf (largest (a ∷ l))
+pub single-width : (a : Amount) (l : List Amount) → Few (a ∷ l) → widestAmount Single (a ∷ l) ≡ digitsOf (largest (a ∷ l))
 single-width = by-digits Single single-needs
 
 pub spread-width : (n w : ℕ) (a : Amount) (l : List Amount) → Few (a ∷ l)
-    → widest (Multiple (Fields n w)) (a ∷ l) ≡ digitsOf (largest (a ∷ l))
+    → widestAmount (Multiple (Fields n w)) (a ∷ l) ≡ digitsOf (largest (a ∷ l))
 spread-width n w = by-digits (Multiple (Fields n w)) (spread-needs n w)
 
 -- A BITSTRING: the largest category itself
-pub bits-width : (l : List Amount) → widest (Multiple Bits) l ≡ largest l
-unfolding widest largest need
+pub bits-width : (l : List Amount) → widestAmount (Multiple Bits) l ≡ largest l
+unfolding widestAmount largest need
 bits-width [] = refl
 bits-width (a ∷ l) = rw (size-scaled a, bits-width l)

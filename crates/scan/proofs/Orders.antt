@@ -14,7 +14,7 @@ use Rattle.scan.specs.declared.Figure.{Figure}
 use Rattle.scan.specs.declared.Figure.the-variants.{One, Nothing}
 use Rattle.scan.specs.declared.Order.{Order}
 use Rattle.scan.specs.declared.Order.the-variants.{Less, Same, More}
-use Rattle.scan.specs.rule.Number.{isDigit, runOf, bytesOf, decimalOf}
+use Rattle.scan.specs.rule.Number.{isDigit, runOf, runBytes, decimalOf}
 use Rattle.scan.specs.Order.{digitsTo, valueOf}
 use Rattle.scan.specs.Order.{figureOf, stripped, orderThen, isLess, lessOf}
 use Rattle.scan.proofs.Texts.{From, at-stop, at-sign, from-text}
@@ -248,18 +248,18 @@ run-ahead d f {n} (at-sign {p = p} {b = b} {u = u} h w e r) = by (f b) (run-ahea
   by true i = omega arith
   by false i = omega arith
 
-run-digits : (d : List ℕ) {n : ℕ} {t : Text} → From d n t → digitsTo (runOf isDigit n t) t ≡ bytesOf isDigit t
-unfolding runOf digitsTo bytesOf
+run-digits : (d : List ℕ) {n : ℕ} {t : Text} → From d n t → digitsTo (runOf isDigit n t) t ≡ runBytes isDigit t
+unfolding runOf digitsTo runBytes
 run-digits d at-stop = refl
 run-digits d {n} (at-sign {p = p} {b = b} {u = u} h w e r) = by (isDigit b) refl (run-ahead d isDigit r) (run-digits d r) where
-  by : (q : Bool) → isDigit b ≡ q → p + 1 ≤ runOf isDigit (p + 1) u → digitsTo (runOf isDigit (p + 1) u) u ≡ bytesOf isDigit u
+  by : (q : Bool) → isDigit b ≡ q → p + 1 ≤ runOf isDigit (p + 1) u → digitsTo (runOf isDigit (p + 1) u) u ≡ runBytes isDigit u
       → cond (leb (cond q (runOf isDigit (p + 1) u) n) p) []
       (cond (isDigit b) (b ∷ digitsTo (cond q (runOf isDigit (p + 1) u) n) u) (digitsTo (cond q (runOf isDigit (p + 1) u) n) u))
-      ≡ cond q (b ∷ bytesOf isDigit u) []
+      ≡ cond q (b ∷ runBytes isDigit u) []
   by true f i g = rw (lt-leb (runOf isDigit (p + 1) u) p (omega arith), f, g)
   by false f i g = rw (le-leb n p h)
 
 -- the number that a run of digits says is the number that stands between its places
-pub run-value : (d : List ℕ) (at : ℕ) → valueOf d at (runOf isDigit at (text d at)) ≡ decimalOf 0 (bytesOf isDigit (text d at))
+pub run-value : (d : List ℕ) (at : ℕ) → valueOf d at (runOf isDigit at (text d at)) ≡ decimalOf 0 (runBytes isDigit (text d at))
 unfolding valueOf
 run-value d at = ap (decimalOf 0) (run-digits d (from-text d at))

@@ -9,7 +9,7 @@ use lib.ListN.{length}
 use borrow.Author.Tests.{lt-ltb, le-ltb, ltb-true, ltb-false}
 use Rattle.scan.specs.rule.Text.{Text, stop, sign}
 use Rattle.scan.specs.declared.Digits.{Digits}
-use Rattle.scan.specs.rule.Number.{runOf, bytesOf, decimalOf, isDigit}
+use Rattle.scan.specs.rule.Number.{runOf, runBytes, decimalOf, isDigit}
 use Rattle.scan.specs.Number.{capped, digitsFrom}
 use Rattle.scan.specs.Number.{pushOf}
 
@@ -55,16 +55,16 @@ same s s′ c c′ n e f = rw (e, f)
 module _ (v c n : ℕ) {t : Text} where
   pub digits-next : {p b : ℕ} {u : Text} → t ≡ sign p b u → isDigit b ≡ true → digitsFrom v c n t
       ≡ digitsFrom (pushOf v b) (c + 1) (p + 1) u
-  unfolding digitsFrom pushOf bytesOf decimalOf runOf
-  digits-next {b = b} {u = u} e q = rw (e, q) (same _ _ _ _ _ (sym (held (v * 10 + (b - 48)) (bytesOf isDigit u))) (omega arith))
+  unfolding digitsFrom pushOf runBytes decimalOf runOf
+  digits-next {b = b} {u = u} e q = rw (e, q) (same _ _ _ _ _ (sym (held (v * 10 + (b - 48)) (runBytes isDigit u))) (omega arith))
 
   pub digits-over : {p b : ℕ} {u : Text} → t ≡ sign p b u → isDigit b ≡ false → v ≤ 1000000000000000 → digitsFrom v c n t
       ≡ record { size = v; count = c; next = n }
-  unfolding digitsFrom bytesOf decimalOf runOf
+  unfolding digitsFrom runBytes decimalOf runOf
   digits-over e q h = rw (e, q) (same _ _ _ _ _ (low v h) (omega arith))
 
   pub digits-end : {p : ℕ} → t ≡ stop p → v ≤ 1000000000000000 → digitsFrom v c n t ≡ record { size = v; count = c; next = n }
-  unfolding digitsFrom bytesOf decimalOf runOf
+  unfolding digitsFrom runBytes decimalOf runOf
   digits-end e h = rw e (same _ _ _ _ _ (low v h) (omega arith))
 
 cap-holds : (n : ℕ) → capped n ≤ 1000000000000000
@@ -75,4 +75,4 @@ cap-holds n = by (ltb 1000000000000000 n) refl where
 
 pub digits-held : (v c n : ℕ) (t : Text) → digitsFrom v c n t .size ≤ 1000000000000000
 unfolding digitsFrom
-digits-held v c n t = cap-holds (decimalOf v (bytesOf isDigit t))
+digits-held v c n t = cap-holds (decimalOf v (runBytes isDigit t))

@@ -5,7 +5,7 @@ use lib.Dec.{ltb}
 use lib.ListN.{length}
 use Rattle.scan.specs.rule.Text.{Text}
 use Rattle.scan.specs.declared.Digits.{Digits}
-use Rattle.scan.specs.rule.Number.{isDigit, runOf, bytesOf, decimalOf}
+use Rattle.scan.specs.rule.Number.{isDigit, runOf, runBytes, decimalOf}
 
 -- the smaller of n and 10 ^ 15, which every limit lies below
 abbrev pub capped : ℕ → ℕ
@@ -15,8 +15,8 @@ capped n = cond (ltb 1000000000000000 n) 1000000000000000 n
 -- the place after them
 unfoldable pub digitsFrom : ℕ → ℕ → ℕ → Text → Digits
 digitsFrom v c n t = record {
-  size = capped (decimalOf v (bytesOf isDigit t));
-  count = c + length (bytesOf isDigit t);
+  size = capped (decimalOf v (runBytes isDigit t));
+  count = c + length (runBytes isDigit t);
   next = runOf isDigit n t;
 }
 

@@ -6,10 +6,10 @@ use Rattle.layout.specs.declared.Kind.the-variants.{Quantity}
 use Rattle.widths.specs.rule.Width.{need}
 use Rattle.widths.specs.Width.{share-narrower}
 use Rattle.survey.specs.rule.Survey.{Amount}
-use Rattle.survey.specs.rule.Width.{scaled, widest}
+use Rattle.survey.specs.rule.Width.{scaled, widestAmount}
 
 pub block-narrower : (d : ℕ) (l : List Amount)
-    → widest (Quantity (record { decimals = d; point = 2 })) l ≤ widest (Quantity (record { decimals = d; point = 1 })) l
-unfolding widest need
+    → widestAmount (Quantity (record { decimals = d; point = 2 })) l ≤ widestAmount (Quantity (record { decimals = d; point = 1 })) l
+unfolding widestAmount need
 block-narrower d [] = omega arith
 block-narrower d (a ∷ l) = omega (arith, share-narrower d (scaled a), block-narrower d l)

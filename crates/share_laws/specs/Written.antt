@@ -12,7 +12,7 @@ use Rattle.ascii.specs.rule.Class.{classOf}
 use Rattle.scan.specs.rule.Number.{isDigit}
 use Rattle.survey.specs.rule.Survey.{Amount}
 use Rattle.survey.specs.rule.Width.{bare}
-use Rattle.reading.specs.rule.Token.{leading, behind, begins, without, amountOf}
+use Rattle.reading.specs.rule.Token.{leading, afterPoint, begins, without, amountRead}
 
 -- ---- the words
 pub data Digits : List ℕ → Type 0 where
@@ -32,11 +32,11 @@ pub record Bare (s : List ℕ) : Type 0 where
   pub some : 0 < length decimals
 
 -- ---- runs, taken apart
-parts : (s : List ℕ) → leading s ++ behind s ≡ s
-unfolding leading behind
+parts : (s : List ℕ) → leading s ++ afterPoint s ≡ s
+unfolding leading afterPoint
 parts [] = refl
 parts (b ∷ s) = by (isDigit b) (parts s) where
-  by : (x : Bool) → leading s ++ behind s ≡ s → cond x (b ∷ leading s) [] ++ cond x (behind s) (b ∷ s) ≡ b ∷ s
+  by : (x : Bool) → leading s ++ afterPoint s ≡ s → cond x (b ∷ leading s) [] ++ cond x (afterPoint s) (b ∷ s) ≡ b ∷ s
   by true e = ap (λ (l : List ℕ). b ∷ l) e
   by false e = refl
 
@@ -58,8 +58,8 @@ unfolding leading
 leads none = refl
 leads (more {b} {s} e d) = rw e (ap (λ (l : List ℕ). b ∷ l) (leads d))
 
-none-behind : {s : List ℕ} → Digits s → behind s ≡ []
-unfolding behind
+none-behind : {s : List ℕ} → Digits s → afterPoint s ≡ []
+unfolding afterPoint
 none-behind none = refl
 none-behind (more {b} {s} e d) = rw e (none-behind d)
 
@@ -90,20 +90,20 @@ module _ (place end : ℕ) (s : List ℕ) where
   unsigned = without 45 s
 
   abbrev fraction : List ℕ
-  fraction = behind unsigned
+  fraction = afterPoint unsigned
 
   abbrev tail : List ℕ
   tail = without 46 fraction
 
-  pub bare-written : amountOf place end s .formed ≡ true → bare (amountOf place end s) ≡ true → Bare s
-  unfolding amountOf
+  pub bare-written : amountRead place end s .formed ≡ true → bare (amountRead place end s) ≡ true → Bare s
+  unfolding amountRead
   bare-written formed b =
       let dot = and-left (begins 46 fraction) (eqb (length (leading unsigned)) 0) b in
       let no-whole = empty (leading unsigned) (eqb-true _ 0 (and-right (begins 46 fraction) (eqb (length (leading unsigned)) 0) b)) in
       let whole : unsigned ≡ fraction = sym (parts unsigned) ∙ ap (λ (l : List ℕ). l ++ fraction) no-whole in
-      let stop = empty (behind tail) (eqb-true _ 0 (and-left (eqb (length (behind tail)) 0) _ formed)) in
+      let stop = empty (afterPoint tail) (eqb-true _ 0 (and-left (eqb (length (afterPoint tail)) 0) _ formed)) in
       let all : tail ≡ leading tail = sym (parts tail) ∙ ap (λ (l : List ℕ). leading tail ++ l) stop ∙ append-nil (leading tail) in
-      let count : 0 < length (leading unsigned ++ leading tail) = ltb-true 0 _ (and-right (eqb (length (behind tail)) 0) _ formed) in
+      let count : 0 < length (leading unsigned ++ leading tail) = ltb-true 0 _ (and-right (eqb (length (afterPoint tail)) 0) _ formed) in
       let here : 0 < length (leading tail) = rw no-whole at count in
       record {
         minus = begins 45 s;
@@ -114,8 +114,8 @@ module _ (place end : ℕ) (s : List ℕ) where
       }
 
   written-bare : (m : Bool) (ds : List ℕ) → s ≡ perhaps m ++ 46 ∷ ds → Digits ds → 0 < length ds
-      → (amountOf place end s .formed ≡ true) × (bare (amountOf place end s) ≡ true)
-  unfolding amountOf without begins leading behind
+      → (amountRead place end s .formed ≡ true) × (bare (amountRead place end s) ≡ true)
+  unfolding amountRead without begins leading afterPoint
   written-bare true ds e d h =
       rw (e, dot-not, leads d, none-behind d)
       (lt-ltb 0 (length ds) h, refl)
@@ -124,6 +124,6 @@ module _ (place end : ℕ) (s : List ℕ) where
       (lt-ltb 0 (length ds) h, refl)
 
   -- A NUMBER IN FORM IS BARE EXACTLY WHEN it is an optional minus, a point, digits
-  pub bare-exactly : ((amountOf place end s .formed ≡ true) × (bare (amountOf place end s) ≡ true) → Bare s)
-      × (Bare s → (amountOf place end s .formed ≡ true) × (bare (amountOf place end s) ≡ true))
+  pub bare-exactly : ((amountRead place end s .formed ≡ true) × (bare (amountRead place end s) ≡ true) → Bare s)
+      × (Bare s → (amountRead place end s .formed ≡ true) × (bare (amountRead place end s) ≡ true))
   bare-exactly = (λ h. bare-written (h .0) (h .1), λ b. written-bare (b .minus) (b .decimals) (b .run) (b .digits) (b .some))

@@ -10,8 +10,8 @@ use Rattle.sound.specs.rule.Sound.{wellFormed}
 use Rattle.survey.specs.rule.Survey.{Figure}
 use Rattle.xml_reading.specs.rule.Word.{IDENT, TYPE, USE}
 use Rattle.xml_reading.specs.rule.Element.{figureOf}
-use Rattle.xml_reading.specs.rule.Role.{Entry}
-use Rattle.xml_reading.specs.rule.Whole.{tableOf, Built, outcomeOf}
+use Rattle.xml_reading.specs.rule.Role.{XmlEntry}
+use Rattle.xml_reading.specs.rule.Whole.{xmlTable, Built, xmlOutcome}
 use Rattle.filters.proofs.Slots.{two-held}
 use Rattle.filters.proofs.Figured.{few-digits}
 use Rattle.xml_laws.specs.Entries.{title-fine}
@@ -29,6 +29,7 @@ few bad d old l p e t n f =
     short (t .ident) (figureOf d (h .a) (h .ae)) (g .ident-is) (few-digits d (h .a) (h .ae) (s .first .fits)) (g .digits)
 
 -- THE TABLE BUILT IS WELL FORMED, for every definition in XML that is read
-pub read-well-formed : (d : List ℕ) (t : List ℤ) (l : List Entry) → outcomeOf d (length t) ≡ Built l → wellFormed (pasted t 0 (tableOf l))
+pub read-well-formed : (d : List ℕ) (t : List ℤ) (l : List XmlEntry) → xmlOutcome d (length t) ≡ Built l
+    → wellFormed (pasted t 0 (xmlTable l))
     ≡ true
 read-well-formed d t l e = laws.read-well-formed few d t l e

@@ -11,26 +11,26 @@ use Rattle.tokens.specs.declared.Fault.{Fault}
 use Rattle.tokens.specs.declared.Quoted.{Quoted}
 use Rattle.tokens.specs.declared.Phrase.{Phrase}
 use Rattle.tokens.specs.declared.Phrase.the-variants as phrase
-use Rattle.survey.specs.rule.Survey.{Text}
+use Rattle.survey.specs.rule.Survey.{KeptText}
 use Rattle.reading.specs.rule.Result.{Result, Is, Not, Reader, bind, give}
 use Rattle.reading.specs.rule.Statement.{Position}
 use Rattle.bridge.specs.Lowest.{never}
 use Rattle.elements.specs.Code.{phraseOf}
 use Rattle.filters.specs.declared.Titled.the-variants as titled
 use Rattle.filters.specs.Code.{titledOf}
-use Rattle.xml_reading.specs.rule.Role.{Entry, Title, title}
+use Rattle.xml_reading.specs.rule.Role.{XmlEntry, Title, title}
 use Rattle.xml_reading.specs.rule.Variable.{Manner}
 use Rattle.sheets.specs.declared.Fronted.the-variants as fronted
 use Rattle.sheets.specs.Code.{Front, nameIn, labelIn, positionIn, frontOf, frontedOf, placedOf}
 
-abbrev textOf : Quoted → Text
+abbrev textOf : Quoted → KeptText
 textOf q = record { place = q .place; length = q .length }
 
-phrase-is : (x : Result Text) (q : Quoted) → phraseOf x ≡ phrase.Is q → x ≡ Is (textOf q) (q .next)
+phrase-is : (x : Result KeptText) (q : Quoted) → phraseOf x ≡ phrase.Is q → x ≡ Is (textOf q) (q .next)
 phrase-is (Is t n) q e = let j : record { place = t .place; length = t .length; next = n } ≡ q = cc in rw (← j)
 phrase-is (Not f) q e = never cc
 
-phrase-not : (x : Result Text) {f : Fault} → phraseOf x ≡ phrase.Not f → x ≡ Not f
+phrase-not : (x : Result KeptText) {f : Fault} → phraseOf x ≡ phrase.Not f → x ≡ Not f
 phrase-not (Is t n) e = never cc
 phrase-not (Not g) {f} e = let j : g ≡ f = cc in ap Not j
 
@@ -59,7 +59,7 @@ front-placed : (t : Title) (a b : Quoted) (i k u : ℕ) (x : Result Position) �
 front-placed t a b i k u (Is p n) e f g = rw (e, f, g)
 front-placed t a b i k u (Not h) e f g = refl
 
-module _ (bad : Bool) (d : List ℕ) (m : Manner) (l : List Entry) (q e : ℕ) where
+module _ (bad : Bool) (d : List ℕ) (m : Manner) (l : List XmlEntry) (q e : ℕ) where
   pub front-is : {i k u n : ℕ} (a b : Quoted) → titledOf (title bad d (m .old) l q e) ≡ titled.Is i k u n → phraseOf (nameIn bad d m l n)
       ≡ phrase.Is a
       → phraseOf (labelIn bad d (m .languages) (a .next)) ≡ phrase.Is b

@@ -16,13 +16,13 @@ use Rattle.statements.specs.declared.Position as located
 use Rattle.statements.specs.declared.Stated.the-variants as stated
 use Rattle.filters.specs.Code.{phraseEnd, phraseNext}
 use Rattle.sheets.specs.declared.Fronted.the-variants as fronted
-use Rattle.survey.specs.rule.Survey.{Text}
+use Rattle.survey.specs.rule.Survey.{KeptText}
 use Rattle.reading.specs.rule.Result.{Result, Is, Not, Reader, bind, give}
 use Rattle.reading.specs.rule.Statement.{Position}
 use Rattle.bridge.specs.Statements.{toStated}
 use Rattle.bridge.specs.Lowest.{never}
 use Rattle.xml_reading.specs.rule.Word.{VARIABLE}
-use Rattle.xml_reading.specs.rule.Open.{within, due}
+use Rattle.xml_reading.specs.rule.Open.{withinElement, due}
 use Rattle.elements.specs.declared.Due.{Due}
 use Rattle.elements.specs.declared.Due.the-variants as dues
 use Rattle.elements.specs.Code.{dueOf, phraseOf}
@@ -59,25 +59,25 @@ module _ (bad : Bool) (d : List ℕ) where
   due-after w (Not f) k = refl
 
   pub due-goes : {A : Type 0} (w : List ℕ) (k : ℕ → Reader A) (at : ℕ) {p e : ℕ} → dueOf (dueIn bad d w at) ≡ dues.At p e
-      → bind (within bad d VARIABLE at) (λ o. due bad d w o k) ≡ k p e
-  due-goes w k at f = due-after w (within bad d VARIABLE at) k ∙ rw (due-read (dueIn bad d w at) f)
+      → bind (withinElement bad d VARIABLE at) (λ o. due bad d w o k) ≡ k p e
+  due-goes w k at f = due-after w (withinElement bad d VARIABLE at) k ∙ rw (due-read (dueIn bad d w at) f)
 
   pub due-stops : {A : Type 0} (w : List ℕ) (k : ℕ → Reader A) (at : ℕ) {g : Fault} → dueOf (dueIn bad d w at) ≡ dues.Not g
-      → bind (within bad d VARIABLE at) (λ o. due bad d w o k) ≡ Not g
-  due-stops w k at f = due-after w (within bad d VARIABLE at) k ∙ rw (due-refused (dueIn bad d w at) f)
+      → bind (withinElement bad d VARIABLE at) (λ o. due bad d w o k) ≡ Not g
+  due-stops w k at f = due-after w (withinElement bad d VARIABLE at) k ∙ rw (due-refused (dueIn bad d w at) f)
 
   pub due-ends : (w : List ℕ) (at : ℕ) → DueEnds d (dueOf (dueIn bad d w at))
   due-ends w at = by (dueIn bad d w at) refl where
     by : (x : Result ℕ) → dueIn bad d w at ≡ x → DueEnds d (dueOf x)
     by (Is p e) f =
-        let b = bound (within bad d VARIABLE at) (λ o. due bad d w o give) p e f in
+        let b = bound (withinElement bad d VARIABLE at) (λ o. due bad d w o give) p e f in
         let x = due-is bad d w (b .value) give (b .place) (b .then-is) in
         let q : b .place ≡ e = cc in
         let l = within-long bad d VARIABLE at (b .first-is) in
         (rw (← q) (l .0), rw (← q) (l .1))
     by (Not g) f = tt
 
-  pub phrase-ends : (x : Result Text) → ((t : Text) (n : ℕ) → x ≡ Is t n → Lying bad d t n) → PhraseEnds d (phraseOf x)
+  pub phrase-ends : (x : Result KeptText) → ((t : KeptText) (n : ℕ) → x ≡ Is t n → Lying bad d t n) → PhraseEnds d (phraseOf x)
   phrase-ends (Is t n) h = let l = h t n refl in (l .inside, l .next)
   phrase-ends (Not g) h = tt
 

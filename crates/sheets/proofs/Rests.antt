@@ -23,7 +23,7 @@ use Rattle.reading.specs.rule.Result.{Result, Is, Not, Reader, bind, give}
 use Rattle.bridge.specs.Tokens.{toNumber}
 use Rattle.bridge.specs.Lowest.{never}
 use Rattle.xml_reading.specs.rule.Word.{SIZE, VALUES}
-use Rattle.xml_reading.specs.rule.Open.{within, due}
+use Rattle.xml_reading.specs.rule.Open.{withinElement, due}
 use Rattle.xml_reading.specs.rule.Open as rule
 use Rattle.xml_reading.specs.rule.Element.{size}
 use Rattle.xml_reading.specs.rule.Block.{values}

@@ -17,7 +17,7 @@ use Rattle.rows.specs.Cells.{SmallRow}
 use Rattle.rows.specs.rule.Cells.{rowCells}
 use Rattle.scan.specs.Number.{capped}
 use Rattle.spans.specs.rule.Heard.{Heard, heard}
-use Rattle.spans.specs.rule.Says.{wordOf}
+use Rattle.spans.specs.rule.Says.{heardWord}
 use Rattle.forms.specs.rule.Form as forms
 use Rattle.forms.specs.rule.Form.{fitsOf}
 use Rattle.tags.specs.rule.Tag.{tagOf, stretchFits}
@@ -36,9 +36,9 @@ use Rattle.measures.specs.Good.{GoodVariable}
 use Rattle.entries.specs.Entry.{settledBy}
 use Rattle.entries.specs.declared.Stood.{Stood}
 use Rattle.entries.specs.declared.Stood.the-variants as stood
-use Rattle.survey.specs.rule.Survey.{Figure, Text, Spread, Block, Content, single, multiple, quantity, character, logical, Variable}
+use Rattle.survey.specs.rule.Survey.{Figure, KeptText, Spread, Block, Content, single, multiple, quantity, character, logical, Variable}
 use Rattle.survey.specs.rule.Width.{blockIn, finishIn, roomIn}
-use Rattle.survey.specs.rule.Table.{typeOf, spreadIn, columnsOf, linesOf, linesAll, cellsOf, holds}
+use Rattle.survey.specs.rule.Table.{typeOf, spreadIn, variableColumns, linesOf, linesAll, cellsOf, holds}
 use Rattle.reading.specs.rule.Result.{Result, Is, Not, Reader, bind}
 use Rattle.reading.specs.rule.Least.{Charge, _when_, judged}
 use Rattle.reading.specs.rule.Statement.{Position}
@@ -46,10 +46,10 @@ use Rattle.reading.specs.rule.Variable.{identCharges, room, variableOf, held}
 use Rattle.bridge.specs.Lowest.{never}
 use Rattle.bridge.specs.Contents.{Parts, bits, fields}
 use Rattle.xml_reading.specs.rule.Word.{VARIABLE, NAME, LABEL, POSITION, VALUES, SIZE, IDENT, TYPE, USE}
-use Rattle.xml_reading.specs.rule.Open.{Open, within, due, over, unknownAt, onTag, entered}
+use Rattle.xml_reading.specs.rule.Open.{Open, withinElement, due, over, unknownAt, onTag, entered}
 use Rattle.xml_reading.specs.rule.Element.{figureOf, text, position, size}
 use Rattle.xml_reading.specs.rule.Block.{rich, values}
-use Rattle.xml_reading.specs.rule.Role.{Entry, Title, variablesOf, typeAt, useAt, useWrong, hasServed, title, naming}
+use Rattle.xml_reading.specs.rule.Role.{XmlEntry, Title, variablesOf, typeAt, useAt, useWrong, hasServed, title, naming}
 use Rattle.xml_reading.specs.rule.Variable.{Manner, Then, filtered, spreading, block, ended, content, variable}
 use Rattle.xml_reading.specs.rule.Whole.{usedBy, columnsFor}
 use Rattle.xml_bridge.specs.Book.{quotedAs, blockAs, headWith, tellingWith, bookOf, saids-count, columns-same, sizeIn}
@@ -98,10 +98,10 @@ pub record Known (t : Title) (n : ℕ) : Type 0 where
   pub short : t .ident .value < 10000
   pub typed : (1 ≤ t .type) × (t .type ≤ 5)
 
-type-most : (h : Heard) → forms.kindOf h ≤ 5
-unfolding forms.kindOf
-type-most h = by (wordOf forms.single h) (wordOf forms.multiple h) (wordOf forms.quantity h) (wordOf forms.character h)
-    (wordOf forms.logical h) where
+type-most : (h : Heard) → forms.formKind h ≤ 5
+unfolding forms.formKind
+type-most h = by (heardWord forms.single h) (heardWord forms.multiple h) (heardWord forms.quantity h) (heardWord forms.character h)
+    (heardWord forms.logical h) where
       by : (a b c d e : Bool) → cond a 1 (cond b 2 (cond c 3 (cond d 4 (cond e 5 0)))) ≤ 5
       by true b c d e = omega arith
       by false true c d e = omega arith
@@ -113,9 +113,9 @@ type-most h = by (wordOf forms.single h) (wordOf forms.multiple h) (wordOf forms
 module _ (d : List ℕ) (v e : ℕ) where
   type-within : stretchFits 4 d v e ≡ true → (1 ≤ typeAt d v e) × (typeAt d v e ≤ 5)
   unfolding stretchFits fitsOf typeAt
-  type-within f = (ltb-true 0 (forms.kindOf (heard (take (e - v) (drop v d)) 0)) f, type-most (heard (take (e - v) (drop v d)) 0))
+  type-within f = (ltb-true 0 (forms.formKind (heard (take (e - v) (drop v d)) 0)) f, type-most (heard (take (e - v) (drop v d)) 0))
 
-pub title-known : (bad : Bool) (d : List ℕ) (old : Bool) (l : List Entry) (p e : ℕ) {t : Title} {n : ℕ} → title bad d old l p e ≡ Is t n
+pub title-known : (bad : Bool) (d : List ℕ) (old : Bool) (l : List XmlEntry) (p e : ℕ) {t : Title} {n : ℕ} → title bad d old l p e ≡ Is t n
     → Known t n
 unfolding title
 title-known bad d old l p e {t} {n} f =
@@ -159,10 +159,11 @@ size-low fine-logical = refl
 -- ---- what a type has is of this type
 module _ (bad : Bool) (d : List ℕ) (m : Manner) where
   ended-same : (a : Content) (e : ℕ) {c : Content} {n : ℕ} → ended bad d m a e ≡ Is c n → a ≡ c
-  ended-same a e {c} {n} f = let b = bound (within bad d VARIABLE e) _ c n f in last (over bad d (b .value) (b .place)) (b .then-is) where
-    last : (r : Result Unit) → bind r (λ u j. Is a j) ≡ Is c n → a ≡ c
-    last (Is u j) g = cc
-    last (Not g) e = never cc
+  ended-same a e {c} {n} f = let b = bound (withinElement bad d VARIABLE e) _ c n f in
+      last (over bad d (b .value) (b .place)) (b .then-is) where
+        last : (r : Result Unit) → bind r (λ u j. Is a j) ≡ Is c n → a ≡ c
+        last (Is u j) g = cc
+        last (Not g) e = never cc
 
   type-same : (p : Position) (before t : ℕ) (o : Open) (e : ℕ) {c : Content} {n : ℕ} → (1 ≤ t) × (t ≤ 5) → content bad d m p before t o e
       ≡ Is c n → t ≡ typeOf c
@@ -240,8 +241,8 @@ small-plain b v g =
     small-columns (columnsIn b (bookOf v)) (g .counts) (g .places) (g .holds) (omega (arith, g .few)) (omega (arith, g .few)) (omega arith)
     (omega arith)
 
-small-used : (b : ℕ) (v : Variable) (u f : ℕ) → GoodVariable b (bookOf v) → u ≤ 2 → f ≤ 512 → SmallRow (usedBy u f (columnsOf b v))
-small-used b v u f g h k = wider (columnsOf b v) (rw (← columns-same b v) (small-plain b v g)) where
+small-used : (b : ℕ) (v : Variable) (u f : ℕ) → GoodVariable b (bookOf v) → u ≤ 2 → f ≤ 512 → SmallRow (usedBy u f (variableColumns b v))
+small-used b v u f g h k = wider (variableColumns b v) (rw (← columns-same b v) (small-plain b v g)) where
   wider : (c : Columns) → SmallRow c → SmallRow (usedBy u f c)
   wider c s = record {
     ident = s .ident;
@@ -266,7 +267,7 @@ small-used b v u f g h k = wider (columnsOf b v) (rw (← columns-same b v) (sma
 
 -- ---- what the answer of settling says
 pub record Settled (b : ℕ) (v : Variable) (n : ℕ) (c : Columns) (last k : ℕ) : Type 0 where
-  pub columns-are : c ≡ columnsOf b v
+  pub columns-are : c ≡ variableColumns b v
   pub last-is : last ≡ b + length (linesOf v)
   pub next-is : k ≡ n
   pub holding : holds v ≡ true
@@ -277,11 +278,11 @@ settled-is b v n c last k = by (held v n) refl where
   by : (r : Result Variable) → held v n ≡ r → stood.Is c last k ≡ stoodFrom b r → Settled b v n c last k
   by (Is w j) i e =
       let q = judged-is (fault 7 (v .start .place) when not (holds v) ∷ []) v n i in
-      let s : c ≡ columnsOf b w = cc in
+      let s : c ≡ variableColumns b w = cc in
       let t : last ≡ b + length (linesOf w) = cc in
       let u : k ≡ j = cc in
       record {
-        columns-are = s ∙ ap (columnsOf b) (sym (q .0));
+        columns-are = s ∙ ap (variableColumns b) (sym (q .0));
         last-is = t ∙ ap (λ (w : Variable). b + length (linesOf w)) (sym (q .0));
         next-is = u ∙ sym (q .1);
         holding = not-false (holds v) (clear-head (q .2));
@@ -296,7 +297,7 @@ settled-not b v n f = by (held v n) where
   by (Not g) e = let a : f ≡ g = cc in ap Not (sym a)
 
 -- ---- BEHIND THE POSITION
-module _ (bad : Bool) (d : List ℕ) (long : length d ≤ 1048576) (m : Manner) (l : List Entry) (g : FineEntries l) (b : ℕ)
+module _ (bad : Bool) (d : List ℕ) (long : length d ≤ 1048576) (m : Manner) (l : List XmlEntry) (g : FineEntries l) (b : ℕ)
     (be : b ≡ linesAll (variablesOf l))
     (h : Head) (usage at : ℕ) (x : FrontRead bad d m l h usage at) where
   abbrev t : Title
@@ -328,7 +329,7 @@ module _ (bad : Bool) (d : List ℕ) (long : length d ≤ 1048576) (m : Manner) 
 
   filter-then : behindFront bad d m l (x .front) at ≡ bind sifted (afterFilter bad d m l t (x .front .name) (x .front .label) p)
   unfolding behindFront afterPosition
-  filter-then = by (within bad d VARIABLE at) where
+  filter-then = by (withinElement bad d VARIABLE at) where
     by : (r : Result Open)
         → bind r (λ o k. bind (filtered bad d m l (x .front .name) (t .usage) o k)
         (afterFilter bad d m l t (x .front .name) (x .front .label) p))
@@ -381,7 +382,7 @@ module _ (bad : Bool) (d : List ℕ) (long : length d ≤ 1048576) (m : Manner) 
     by (Is y n) i e = on (content bad d m p b (t .type) (y .behind) n) refl where
       on : (q : Result Content) → content bad d m p b (t .type) (y .behind) n ≡ q → RestRead s r
       on (Is c k) j =
-          let w = bound (within bad d VARIABLE at) _ y n i in
+          let w = bound (withinElement bad d VARIABLE at) _ y n i in
           let ww = within-long bad d VARIABLE at (w .first-is) in
           let ff = filtered-fine bad d m l (x .front .name) (t .usage) (w .value) (w .place) (ww .0) (ww .1) (w .then-is) in
           let fi : s .filter ≡ y .it = ap (λ (s : Sifted). s .filter) e in
@@ -507,7 +508,7 @@ module _ (bad : Bool) (d : List ℕ) (long : length d ≤ 1048576) (m : Manner) 
           by : {c c′ : Columns} {u u′ : ℕ} → c ≡ c′ → u ≡ u′ → SmallRow (usedBy u′ (s .filter) c′) → SmallRow (usedBy u (s .filter) c)
           by e f a = rw (e, f) a
 
-      abbrev entry : Entry
+      abbrev entry : XmlEntry
       entry = record { variable = v; usage = t .usage; filter = s .filter }
 
       pub entry-is : behindFront bad d m l (x .front) at ≡ Is entry (o .place)
@@ -519,7 +520,7 @@ module _ (bad : Bool) (d : List ℕ) (long : length d ≤ 1048576) (m : Manner) 
       row-is = used-by (s .filter) (x .usage-is) (z .columns-are)
 
       pub ident-is : c .ident ≡ t .ident .value
-      unfolding columnsOf
+      unfolding variableColumns
       ident-is = ap (λ (c : Columns). c .ident) (z .columns-are)
 
     pub not-held : (f : Fault) → stood.Not f ≡ stoodFrom b (held v (o .place)) → behindFront bad d m l (x .front) at ≡ Not f
@@ -527,18 +528,18 @@ module _ (bad : Bool) (d : List ℕ) (long : length d ≤ 1048576) (m : Manner) 
     not-held f e = o .is ∙ rw (settled-not b v (o .place) f e)
 
 -- ---- the rows before may be asked
-names-lie : {d : List ℕ} {l : List Entry} → Named d l → NamesLie (length d) l
+names-lie : {d : List ℕ} {l : List XmlEntry} → Named d l → NamesLie (length d) l
 names-lie {d} none-named = lie-none (length d)
 names-lie {d} (more-named {l} v n h) = lie-more (length d) l v (names-lie n) h
 
-filters-low : {l : List Entry} → FineEntries l → (i : ℕ) (v : Entry) → kept.At l i v → v .filter ≤ length l
+filters-low : {l : List XmlEntry} → FineEntries l → (i : ℕ) (v : XmlEntry) → kept.At l i v → v .filter ≤ length l
 filters-low table.nothing i v a = absurd (at-none a refl)
 filters-low (table.more {l = l} {v = w} g f) i v a = by i v (at-split l w a) (λ i v a. filters-low g i v a) where
   on : table.Filters l w → w .filter ≤ length (l ++ w ∷ [])
   on (table.unfiltered e) = omega arith
   on (table.filtered p s u a b c k) = omega (arith, ap length b, length-append p (u ∷ s), length-append l (w ∷ []))
 
-  by : (i : ℕ) (v : Entry) → keeping.Split l w i v → ((i : ℕ) (v : Entry) → kept.At l i v → v .filter ≤ length l) → v .filter
+  by : (i : ℕ) (v : XmlEntry) → keeping.Split l w i v → ((i : ℕ) (v : XmlEntry) → kept.At l i v → v .filter ≤ length l) → v .filter
       ≤ length (l ++ w ∷ [])
   by i v (keeping.old a) ih = omega (arith, ih i v a, length-append l (w ∷ []))
   by i v (keeping.new e) ih = on (f .filters)
@@ -554,7 +555,12 @@ lies {d} {seen} {y} {rows} s =
       names = λ i k.
           let z = next-row (s .read) i (omega arith) in
           let e = row-reads h (z .at) .name in
-          omega (arith, ap (λ (t : Text). t .place) e, ap (λ (t : Text). t .length) e, names-lie (b .named) .lie i (z .row) (z .at));
+          omega (
+            arith,
+            ap (λ (t : KeptText). t .place) e,
+            ap (λ (t : KeptText). t .length) e,
+            names-lie (b .named) .lie i (z .row) (z .at),
+          );
       filters = λ i k.
           let z = next-row (s .read) i (omega arith) in
           omega (arith, row-reads h (z .at) .filter, filters-low (b .fine) i (z .row) (z .at));
@@ -564,7 +570,7 @@ pub knows : {latin : Bool} {d seen : List ℕ} {y : Tally} {rows : List ℤ} {su
     → summed.Known latin d rows (y .rows) sums
 knows k = record { lying = lies (k .sofar); summing = k .summing }
 
-lines-of : {d seen : List ℕ} {y : Tally} {rows : List ℤ} {l : List Entry} → Before d seen y rows l → y .lines ≡ linesAll (variablesOf l)
+lines-of : {d seen : List ℕ} {y : Tally} {rows : List ℤ} {l : List XmlEntry} → Before d seen y rows l → y .lines ≡ linesAll (variablesOf l)
 unfolding tallyOf
 lines-of b = ap (λ (y : Tally). y .lines) (b .tally)
 
@@ -575,7 +581,7 @@ lines-few s = omega (arith, lines-of (s .before), entries-few (s .before .fine) 
 module _ (bad : Bool) (d : List ℕ) (long : length d ≤ 1048576) (m : Manner) (seen : List ℕ) (y : Tally) (h : Head) (usage at : ℕ)
     (rows : List ℤ) where
   abbrev Given : Type 0
-  Given = (l : List Entry) → Before d seen y rows l → FrontRead bad d m l h usage at
+  Given = (l : List XmlEntry) → Before d seen y rows l → FrontRead bad d m l h usage at
 
   pub rows-left : Sofar d seen y rows → Given → y .rows < mostRows
   rows-left s f = omega (arith, f (s .read) (s .before) .titled .left, s .before .held .counted)
@@ -584,7 +590,7 @@ module _ (bad : Bool) (d : List ℕ) (long : length d ≤ 1048576) (m : Manner) 
   bytes = h .finish + 1 - h .start
 
   not-all : (rows′ lines lines′ : List ℤ) (f : Fault)
-      → ((l : List Entry) → Before d seen y rows l → (x : FrontRead bad d m l h usage at) → behindFront bad d m l (x .front) at ≡ Not f)
+      → ((l : List XmlEntry) → Before d seen y rows l → (x : FrontRead bad d m l h usage at) → behindFront bad d m l (x .front) at ≡ Not f)
       → Bodied bad d m seen y h usage at rows rows′ lines lines′ (entereds.Not f)
   not-all rows′ lines lines′ f n = record {
     is = λ l b x. ap (enteredOf y) (sym (n l b x));
@@ -597,7 +603,7 @@ module _ (bad : Bool) (d : List ℕ) (long : length d ≤ 1048576) (m : Manner) 
     abbrev content-of : Result Content
     content-of = bind (readOf (s .tag)) (contentBy bad d m bytes (y .lines) (h .kind))
 
-    sifted-is : (l : List Entry) → Before d seen y rows l → (x : FrontRead bad d m l h usage at)
+    sifted-is : (l : List XmlEntry) → Before d seen y rows l → (x : FrontRead bad d m l h usage at)
         → s ≡ siftedOf (siftedIn bad d m l (x .front .name) (x .front .title .usage) at)
     sifted-is l b x = said .is l (b .held) ∙ by (x .head-is) (x .usage-is) where
       by : {k : Head} {u : ℕ} → h ≡ k → usage ≡ u
@@ -613,7 +619,7 @@ module _ (bad : Bool) (d : List ℕ) (long : length d ≤ 1048576) (m : Manner) 
         (sifted-is l b x) (q .is)
 
     module _ (r : Rest) (rests : Rests bytes (y .lines) content-of lines lines′ (rested.Is r)) (q : Rest) (q-is : q ≡ placelessOf r) where
-      abbrev read : (l : List Entry) (b : Before d seen y rows l) (x : FrontRead bad d m l h usage at)
+      abbrev read : (l : List XmlEntry) (b : Before d seen y rows l) (x : FrontRead bad d m l h usage at)
           → RestRead bad d long m l (b .fine) (y .lines) (lines-of b) h usage at x s r
       read l b x = rest-read bad d long m l (b .fine) (y .lines) (lines-of b) h usage at x s r (sifted-is l b x) (rests .is)
 
@@ -627,7 +633,7 @@ module _ (bad : Bool) (d : List ℕ) (long : length d ≤ 1048576) (m : Manner) 
           by : {q p : Rest} → q ≡ p → Measurable lines′ h p (y .lines) → Measurable lines′ h q (y .lines)
           by e a = rw e a
 
-      module _ (l : List Entry) (b : Before d seen y rows l) (x : FrontRead bad d m l h usage at) where
+      module _ (l : List XmlEntry) (b : Before d seen y rows l) (x : FrontRead bad d m l h usage at) where
         abbrev whole : Variable
         whole = variableOf (x .front .title .ident) (x .front .name) (x .front .label) (x .front .position) (read l b x .what)
 
@@ -649,7 +655,7 @@ module _ (bad : Bool) (d : List ℕ) (long : length d ≤ 1048576) (m : Manner) 
 
       module _ (c : Columns) (last k : ℕ) (e : stood.Is c last k ≡ settledBy (numberIn lines′ (y .lines)) h q (y .lines) (At (r .next)))
         where
-          settles : (l : List Entry) (b : Before d seen y rows l) (x : FrontRead bad d m l h usage at)
+          settles : (l : List XmlEntry) (b : Before d seen y rows l) (x : FrontRead bad d m l h usage at)
               → Settled (y .lines) (whole l b x) (read l b x .place) c last k
           settles l b x = settled-is (y .lines) (whole l b x) (read l b x .place) c last k (e ∙ settled-all l b x)
 
@@ -660,17 +666,17 @@ module _ (bad : Bool) (d : List ℕ) (long : length d ≤ 1048576) (m : Manner) 
               small-row bad d long m (z .read) (b .fine) (y .lines) (lines-of b) h usage at x s r (read (z .read) b x) c last k
               (settles (z .read) b x)
 
-          made-is : (l : List Entry) (b : Before d seen y rows l) (x : FrontRead bad d m l h usage at)
+          made-is : (l : List XmlEntry) (b : Before d seen y rows l) (x : FrontRead bad d m l h usage at)
               → behindFront bad d m l (x .front) at
               ≡ Is (record { variable = whole l b x; usage = x .front .title .usage; filter = s .filter }) (read l b x .place)
           made-is l b x = entry-is bad d long m l (b .fine) (y .lines) (lines-of b) h usage at x s r (read l b x) c last k (settles l b x)
 
-          row-of : (l : List Entry) (b : Before d seen y rows l) (x : FrontRead bad d m l h usage at)
+          row-of : (l : List XmlEntry) (b : Before d seen y rows l) (x : FrontRead bad d m l h usage at)
               → usedBy usage (s .filter) c ≡ columnsFor (y .lines)
               (record { variable = whole l b x; usage = x .front .title .usage; filter = s .filter })
           row-of l b x = row-is bad d long m l (b .fine) (y .lines) (lines-of b) h usage at x s r (read l b x) c last k (settles l b x)
 
-          same-entry : {v w : Entry} {i j : ℕ} → Is v i ≡ Is w j → v ≡ w
+          same-entry : {v w : XmlEntry} {i j : ℕ} → Is v i ≡ Is w j → v ≡ w
           same-entry e = cc
 
           pub body-held : (rows′ : List ℤ) (o : Entered) → o ≡ entereds.Is (c .ident) (tallyWith y (usedBy usage (s .filter) c) last) k
@@ -684,12 +690,12 @@ module _ (bad : Bool) (d : List ℕ) (long : length d ≤ 1048576) (m : Manner) 
                 ∙ ap (enteredOf y) (sym (made-is l b x));
             row = λ l b x v n f.
                 z ∙ ap (λ (c : Columns). pasted rows (rowSize * y .rows) (rowCells c)) (row-of l b x)
-                ∙ ap (λ (v : Entry). pasted rows (rowSize * y .rows) (rowCells (columnsFor (y .lines) v)))
+                ∙ ap (λ (v : XmlEntry). pasted rows (rowSize * y .rows) (rowCells (columnsFor (y .lines) v)))
                 (same-entry (sym (made-is l b x) ∙ f));
             line = λ l b x v n f.
                 let p = read l b x in
                 rests .line (p .what) (p .place) (p .what-is)
-                ∙ ap (λ (v : Entry). pasted lines (lineSize * y .lines) (cellsOf (linesOf (v .variable))))
+                ∙ ap (λ (v : XmlEntry). pasted lines (lineSize * y .lines) (cellsOf (linesOf (v .variable))))
                 (same-entry (sym (made-is l b x) ∙ f));
           }
             where
@@ -698,11 +704,11 @@ module _ (bad : Bool) (d : List ℕ) (long : length d ≤ 1048576) (m : Manner) 
               by p q r s = rw (p, q, r, s)
 
 -- ---- UP TO THE POSITION
-pub record Fronts (bad : Bool) (d : List ℕ) (m : Manner) (l : List Entry) (q e : ℕ) (h : Head) (u n : ℕ) : Type 0 where
+pub record Fronts (bad : Bool) (d : List ℕ) (m : Manner) (l : List XmlEntry) (q e : ℕ) (h : Head) (u n : ℕ) : Type 0 where
   pub read : FrontRead bad d m l h u n
   pub is : frontOf bad d m l q e ≡ Is (read .front) n
 
-front-known : (bad : Bool) (d : List ℕ) (m : Manner) (l : List Entry) (q e : ℕ) {x : Front} {n : ℕ} → frontOf bad d m l q e ≡ Is x n
+front-known : (bad : Bool) (d : List ℕ) (m : Manner) (l : List XmlEntry) (q e : ℕ) {x : Front} {n : ℕ} → frontOf bad d m l q e ≡ Is x n
     → Fronts bad d m l q e (headOf x) (x .title .usage) n
 unfolding frontOf naming
 front-known bad d m l q e {x} {n} f =
@@ -711,14 +717,14 @@ front-known bad d m l q e {x} {n} f =
     let c = bound (labelIn bad d (m .languages) (b .place)) _ x n (b .then-is) in
     let g = bound (positionIn bad d (c .place)) _ x n (c .then-is) in
     let k = title-known bad d (m .old) l q e (a .first-is) in
-    let bw = bound (within bad d VARIABLE (a .place)) _ (b .value) (b .place) (b .first-is) in
+    let bw = bound (withinElement bad d VARIABLE (a .place)) _ (b .value) (b .place) (b .first-is) in
     let bd = due-is bad d NAME (bw .value) (naming bad d (m .latin) (m .standard) l) (bw .place) (bw .then-is) in
     let bt = bound (text bad d NAME 0 (bd .place) (bw .place)) _ (b .value) (b .place) (bd .then-is) in
     let bj = judged-is (fault 52 (bt .value .place) when hasServed (m .latin) (m .standard) d l (bt .value) ∷ []) (bt .value) (bt .place)
     (bt .then-is) in
-    let cw = bound (within bad d VARIABLE (b .place)) _ (c .value) (c .place) (c .first-is) in
+    let cw = bound (withinElement bad d VARIABLE (b .place)) _ (c .value) (c .place) (c .first-is) in
     let cd = due-is bad d LABEL (cw .value) (text bad d LABEL (rich (m .languages))) (cw .place) (cw .then-is) in
-    let gw = bound (within bad d VARIABLE (c .place)) _ (g .value) (g .place) (g .first-is) in
+    let gw = bound (withinElement bad d VARIABLE (c .place)) _ (g .value) (g .place) (g .first-is) in
     let gd = due-is bad d POSITION (gw .value) (position bad d) (gw .place) (gw .then-is) in
     let s : record { title = a .value; name = b .value; label = c .value; position = g .value } ≡ x = front-inj (g .then-is) in
     let i : g .place ≡ n = place-inj (g .then-is) in
@@ -746,7 +752,7 @@ front-known bad d m l q e {x} {n} f =
 
 module _ (bad : Bool) (d : List ℕ) (m : Manner) (seen : List ℕ) (y : Tally) (rows : List ℤ) (q e : ℕ) where
   pub front-given : (r : Fronted) (h : Head) (u n : ℕ) → FrontSaid bad d m rows (y .rows) seen q e r → r ≡ fronted.Is h u n
-      → (l : List Entry) → Before d seen y rows l → Fronts bad d m l q e h u n
+      → (l : List XmlEntry) → Before d seen y rows l → Fronts bad d m l q e h u n
   front-given r h u n said f l b = by (frontOf bad d m l q e) refl (sym f ∙ said .is l (b .held) (b .idents)) where
     moves : {i j : Head} {v w a k : ℕ} → i ≡ j → v ≡ w → a ≡ k → Fronts bad d m l q e j w k → Fronts bad d m l q e i v a
     moves a b c z = rw (a, b, c) z
@@ -759,41 +765,41 @@ module _ (bad : Bool) (d : List ℕ) (m : Manner) (seen : List ℕ) (y : Tally) 
         moves a b c (front-known bad d m l q e i)
     by (Not z) i g = never cc
 
-  variable-front : (l : List Entry) → variable bad d m l q e ≡ bind (frontOf bad d m l q e) (behindFront bad d m l)
+  variable-front : (l : List XmlEntry) → variable bad d m l q e ≡ bind (frontOf bad d m l q e) (behindFront bad d m l)
   unfolding frontOf behindFront afterTitle afterName afterLabel
   variable-front l = variable-is bad d m l q e ∙ one (title bad d (m .old) l q e) where
-    four : (t : Title) (a b : Text) (r : Result Position)
+    four : (t : Title) (a b : KeptText) (r : Result Position)
         → bind r (afterPosition bad d m l t a b)
         ≡ bind (bind r λ p n. Is (record { title = t; name = a; label = b; position = p }) n) (behindFront bad d m l)
     four t a b (Is p n) = refl
     four t a b (Not f) = refl
 
-    inner : (t : Title) (a b : Text) (r : Result Open)
+    inner : (t : Title) (a b : KeptText) (r : Result Open)
         → bind r (λ o k. bind (due bad d POSITION o (position bad d) k) (afterPosition bad d m l t a b))
         ≡ bind (bind (bind r λ o. due bad d POSITION o (position bad d)) λ p n. Is (record { title = t; name = a; label = b; position = p })
         n) (behindFront bad d m l)
     inner t a b (Is o k) = four t a b (due bad d POSITION o (position bad d) k)
     inner t a b (Not f) = refl
 
-    three : (t : Title) (a : Text) (r : Result Text)
+    three : (t : Title) (a : KeptText) (r : Result KeptText)
         → bind r (afterLabel bad d m l t a)
         ≡ bind (bind r λ b n. bind (positionIn bad d n) λ p n. Is (record { title = t; name = a; label = b; position = p }) n)
         (behindFront bad d m l)
-    three t a (Is b n) = inner t a b (within bad d VARIABLE n)
+    three t a (Is b n) = inner t a b (withinElement bad d VARIABLE n)
     three t a (Not f) = refl
 
-    label : (t : Title) (a : Text) (r : Result Open)
+    label : (t : Title) (a : KeptText) (r : Result Open)
         → bind r (λ o k. bind (due bad d LABEL o (text bad d LABEL (rich (m .languages))) k) (afterLabel bad d m l t a))
         ≡ bind (bind (bind r λ o. due bad d LABEL o (text bad d LABEL (rich (m .languages)))) λ b n. bind (positionIn bad d n) λ p n. Is
         (record { title = t; name = a; label = b; position = p }) n) (behindFront bad d m l)
     label t a (Is o k) = three t a (due bad d LABEL o (text bad d LABEL (rich (m .languages))) k)
     label t a (Not f) = refl
 
-    two : (t : Title) (r : Result Text)
+    two : (t : Title) (r : Result KeptText)
         → bind r (afterName bad d m l t)
         ≡ bind (bind r λ a n. bind (labelIn bad d (m .languages) n) λ b n. bind (positionIn bad d n) λ p n. Is
         (record { title = t; name = a; label = b; position = p }) n) (behindFront bad d m l)
-    two t (Is a n) = label t a (within bad d VARIABLE n)
+    two t (Is a n) = label t a (withinElement bad d VARIABLE n)
     two t (Not f) = refl
 
     name : (t : Title) (r : Result Open)
@@ -807,11 +813,11 @@ module _ (bad : Bool) (d : List ℕ) (m : Manner) (seen : List ℕ) (y : Tally) 
         → bind r (afterTitle bad d m l)
         ≡ bind (bind r λ t n. bind (nameIn bad d m l n) λ a n. bind (labelIn bad d (m .languages) n) λ b n. bind (positionIn bad d n) λ p n.
         Is (record { title = t; name = a; label = b; position = p }) n) (behindFront bad d m l)
-    one (Is t n) = name t (within bad d VARIABLE n)
+    one (Is t n) = name t (withinElement bad d VARIABLE n)
     one (Not f) = refl
 
   module _ (rows′ lines lines′ : List ℤ) where
-    pub joined : (h : Head) (u n : ℕ) (r : Entered) → ((l : List Entry) → Before d seen y rows l → Fronts bad d m l q e h u n)
+    pub joined : (h : Head) (u n : ℕ) (r : Entered) → ((l : List XmlEntry) → Before d seen y rows l → Fronts bad d m l q e h u n)
         → Bodied bad d m seen y h u n rows rows′ lines lines′ r → Joined d seen y rows rows′ lines lines′ (λ l. variable bad d m l q e) r
     joined h u n r f b = record {
       is = λ l z. b .is l z (f l z .read) ∙ ap (enteredOf y) (sym (goes l z));
@@ -819,7 +825,7 @@ module _ (bad : Bool) (d : List ℕ) (m : Manner) (seen : List ℕ) (y : Tally) 
       line = λ l z v k g. b .line l z (f l z .read) v k (sym (goes l z) ∙ g);
     }
       where
-        goes : (l : List Entry) (z : Before d seen y rows l) → variable bad d m l q e ≡ behindFront bad d m l (f l z .read .front) n
+        goes : (l : List XmlEntry) (z : Before d seen y rows l) → variable bad d m l q e ≡ behindFront bad d m l (f l z .read .front) n
         goes l z = variable-front l ∙ ap (λ (r : Result Front). bind r (behindFront bad d m l)) (f l z .is)
 
     pub unjoined : (r : Fronted) (g : Fault) → FrontSaid bad d m rows (y .rows) seen q e r → r ≡ fronted.Not g
@@ -834,7 +840,7 @@ module _ (bad : Bool) (d : List ℕ) (m : Manner) (seen : List ℕ) (y : Tally) 
         none (Is x k) i = never cc
         none (Not a) i = let b : g ≡ a = cc in ap Not (sym b)
 
-        stops : (l : List Entry) → Before d seen y rows l → variable bad d m l q e ≡ Not g
+        stops : (l : List XmlEntry) → Before d seen y rows l → variable bad d m l q e ≡ Not g
         stops l z =
             variable-front l
             ∙ ap (λ (r : Result Front). bind r (behindFront bad d m l))

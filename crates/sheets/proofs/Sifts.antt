@@ -6,13 +6,13 @@ use Prim.Native.Nat.{ℕ, _+_}
 use lib.ListN.{length}
 use Rattle.tags.specs.rule.Tag.{isNamed}
 use Rattle.tokens.specs.declared.Fault.{Fault}
-use Rattle.survey.specs.rule.Survey.{Text}
+use Rattle.survey.specs.rule.Survey.{KeptText}
 use Rattle.reading.specs.rule.Result.{Result, Is, Not, Reader, bind, give}
 use Rattle.bridge.specs.Lowest.{never}
 use Rattle.xml_reading.specs.rule.Word.{VARIABLE, FILTER}
-use Rattle.xml_reading.specs.rule.Open.{start, shut, within, either, due}
+use Rattle.xml_reading.specs.rule.Open.{start, shut, withinElement, eitherElement, due}
 use Rattle.xml_reading.specs.rule.Open as rule
-use Rattle.xml_reading.specs.rule.Role.{Entry, filter}
+use Rattle.xml_reading.specs.rule.Role.{XmlEntry, filter}
 use Rattle.xml_reading.specs.rule.Variable.{Manner, Then, with, filtered}
 use Rattle.elements.specs.declared.Open.{Open}
 use Rattle.elements.specs.declared.Open.the-variants as opened
@@ -39,7 +39,7 @@ filter-not (Not h) {g} e = let a : h ≡ g = cc in ap Not a
 
 module _ (bad : Bool) (d : List ℕ) where
   either-starts : {A : Type 0} (w : List ℕ) (o : Open) (k : ℕ → Reader A) (q : rule.Open → Reader A) {p e : ℕ} → startsOf d o w ≡ true
-      → dueOf (bind (readOf o) λ x. due bad d w x give) ≡ dues.At p e → bind (readOf o) (λ x. either bad d w x k (q x)) ≡ k p e
+      → dueOf (bind (readOf o) λ x. due bad d w x give) ≡ dues.At p e → bind (readOf o) (λ x. eitherElement bad d w x k (q x)) ≡ k p e
   either-starts {A} w (opened.Start i j) k q {p} {e} h f = by (isNamed d (i + 1) j w) h f where
     by : (t : Bool) → t ≡ true → dueOf (cond t (give i j) (rule.misplaced bad d {A = ℕ} i j)) ≡ dues.At p e → cond t (k i j) (q (start i) j)
         ≡ k p e
@@ -58,21 +58,22 @@ module _ (bad : Bool) (d : List ℕ) where
   starts-due w (opened.Not e) h f = never cc
 
   either-other : {A : Type 0} (w : List ℕ) (o : Open) (k : ℕ → Reader A) (q : rule.Open → Reader A) → startsOf d o w ≡ false
-      → bind (readOf o) (λ x. either bad d w x k (q x)) ≡ bind (readOf o) q
+      → bind (readOf o) (λ x. eitherElement bad d w x k (q x)) ≡ bind (readOf o) q
   either-other w (opened.Start i j) k q h = rw h
   either-other w (opened.Shut i j) k q h = refl
   either-other w (opened.Not g) k q h = refl
 
-  module _ (m : Manner) (l : List Entry) (name : Text) (usage : ℕ) where
+  module _ (m : Manner) (l : List XmlEntry) (name : KeptText) (usage : ℕ) where
     abbrev pub noneAt : rule.Open → Reader (Then ℕ)
     noneAt x n = Is (with 0 x) n
 
     abbrev pub filterAt : ℕ → Reader (Then ℕ)
-    filterAt p e = bind (filter bad d (m .latin) (m .standard) l name usage p e) λ f n. bind (within bad d VARIABLE n) λ o k. Is (with f o)
+    filterAt p e = bind (filter bad d (m .latin) (m .standard) l name usage p e) λ f n. bind (withinElement bad d VARIABLE n) λ o k. Is
+        (with f o)
         k
 
     all-by : (o : Open) → m .old ≡ false → bind (readOf o) (filtered bad d m l name usage)
-        ≡ bind (readOf o) (λ x. either bad d FILTER x filterAt (noneAt x))
+        ≡ bind (readOf o) (λ x. eitherElement bad d FILTER x filterAt (noneAt x))
     unfolding filtered
     all-by (opened.Start i j) e = rw e
     all-by (opened.Shut i j) e = rw e

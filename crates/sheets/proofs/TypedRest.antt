@@ -24,7 +24,7 @@ use Rattle.reading.specs.rule.Result.{Result, Is, Not, Reader, bind, give}
 use Rattle.bridge.specs.Statements.{toSpreading, evenOr}
 use Rattle.bridge.specs.Lowest.{never}
 use Rattle.xml_reading.specs.rule.Word.{VARIABLE, SPREAD, SIZE}
-use Rattle.xml_reading.specs.rule.Open.{within, due, over}
+use Rattle.xml_reading.specs.rule.Open.{withinElement, due, over}
 use Rattle.xml_reading.specs.rule.Open as rule
 use Rattle.xml_reading.specs.rule.Element.{size, spread}
 use Rattle.xml_reading.specs.rule.Variable.{Manner, Then, with, block, ended, spreading, content}
@@ -89,7 +89,7 @@ rests-not e = record { is = rw e; line = λ y n f. never cc }
 module _ (bad : Bool) (d : List ℕ) (m : Manner) (before : ℕ) where
   block-ended : (f : Block → Content) (r : Result Block)
       → bind r (λ b. ended bad d m (f b)) ≡ bind (bind r (λ b n. bind (endIn bad d n) λ u n. Is b n)) (λ b n. Is (f b) n)
-  block-ended f (Is b n) = by (within bad d VARIABLE n) where
+  block-ended f (Is b n) = by (withinElement bad d VARIABLE n) where
     by : (x : Result rule.Open) → bind x (λ o n. bind (over bad d o n) λ a j. Is (f b) j)
         ≡ bind (bind (bind x (over bad d)) λ u n. Is b n) (λ b n. Is (f b) n)
     by (Is o j) = on (over bad d o j) where
@@ -126,7 +126,7 @@ module _ (bad : Bool) (d : List ℕ) (m : Manner) (before : ℕ) where
   afterSpread s n = bind (block bad d m false before (s .behind) n) λ b. ended bad d m (multiple (s .it) b)
 
   abbrev thenInside : Spread → Reader (Then (Option Spread))
-  thenInside s n = bind (within bad d VARIABLE n) λ o n. Is (with (some s) o) n
+  thenInside s n = bind (withinElement bad d VARIABLE n) λ o n. Is (with (some s) o) n
 
   multiple-on : (room : ℕ) (x : Result rule.Open) → bind x (contentBy bad d m room before 2)
       ≡ bind (bind x (spreading bad d m room)) afterSpread
@@ -174,13 +174,13 @@ module _ (bad : Bool) (d : List ℕ) (m : Manner) (before : ℕ) where
       (g : dueOf (bind (readOf o) λ x. due bad d SPREAD x give) ≡ dues.At p e) where
     pub content-spread : (s : Spread) (n : ℕ) → spread bad d room p e ≡ Is s n
         → bind (readOf o) (contentBy bad d m room before 2)
-        ≡ bind (bind (within bad d VARIABLE n) (valuesEnded bad d (m .languages) false before)) (λ b n. Is (multiple (some s) b) n)
+        ≡ bind (bind (withinElement bad d VARIABLE n) (valuesEnded bad d (m .languages) false before)) (λ b n. Is (multiple (some s) b) n)
     content-spread s n i =
         multiple-on room (readOf o)
         ∙ ap (λ (r : Result (Then (Option Spread))). bind r afterSpread)
         (one-stands room o f g ∙ ap (λ (r : Result Spread). bind r thenInside) i)
-        ∙ bind-on (within bad d VARIABLE n) (λ x n. Is (with (some s) x) n) afterSpread
-        ∙ block-then false (multiple (some s)) (within bad d VARIABLE n)
+        ∙ bind-on (withinElement bad d VARIABLE n) (λ x n. Is (with (some s) x) n) afterSpread
+        ∙ block-then false (multiple (some s)) (withinElement bad d VARIABLE n)
 
     pub spread-not : {z : Fault} → spread bad d room p e ≡ Not z → bind (readOf o) (contentBy bad d m room before 2) ≡ Not z
     spread-not i =
@@ -191,7 +191,7 @@ module _ (bad : Bool) (d : List ℕ) (m : Manner) (before : ℕ) where
   -- a size
   size-ended : (r : Result Figure)
       → bind r (λ x. ended bad d m (character x)) ≡ bind (bind r (λ x n. bind (endIn bad d n) λ u n. Is x n)) (λ x n. Is (character x) n)
-  size-ended (Is x n) = by (within bad d VARIABLE n) where
+  size-ended (Is x n) = by (withinElement bad d VARIABLE n) where
     by : (z : Result rule.Open) → bind z (λ o n. bind (over bad d o n) λ a j. Is (character x) j)
         ≡ bind (bind (bind z (over bad d)) λ u n. Is x n) (λ x n. Is (character x) n)
     by (Is o j) = on (over bad d o j) where

@@ -25,7 +25,7 @@ use Rattle.variables.specs.declared.Head.{Head}
 use Rattle.variables.specs.declared.Rest.{Rest}
 use Rattle.variables.specs.declared.Rested.{Rested}
 use Rattle.variables.specs.declared.Rested.the-variants as rested
-use Rattle.survey.specs.rule.Survey.{Figure, Text, Spread, Block, Content, single, multiple, quantity, character, logical}
+use Rattle.survey.specs.rule.Survey.{Figure, KeptText, Spread, Block, Content, single, multiple, quantity, character, logical}
 use Rattle.survey.specs.rule.Width.{blockIn}
 use Rattle.survey.specs.rule.Table.{linesOf, linesAll, highestIn, cellsOf, allLines, spreadIn}
 use Rattle.reading.specs.rule.Result.{Result, Is, Not, Reader, bind, give}
@@ -33,14 +33,14 @@ use Rattle.reading.specs.rule.Statement.{Position}
 use Rattle.bridge.specs.Statements.{evenOr}
 use Rattle.prologs.specs.rule.Told.{declarationOf}
 use Rattle.xml_reading.specs.rule.Word.{VARIABLE, NAME, LABEL, POSITION, VALUES, SIZE, RECORD}
-use Rattle.xml_reading.specs.rule.Open.{within, due, over}
+use Rattle.xml_reading.specs.rule.Open.{withinElement, due, over}
 use Rattle.xml_reading.specs.rule.Open as rule
 use Rattle.xml_reading.specs.rule.Element.{text, position, size}
 use Rattle.xml_reading.specs.rule.Block.{rich, values}
-use Rattle.xml_reading.specs.rule.Role.{Entry, Title, variablesOf, title, naming, filter}
+use Rattle.xml_reading.specs.rule.Role.{XmlEntry, Title, variablesOf, title, naming, filter}
 use Rattle.xml_reading.specs.rule.Variable.{Manner, Then, with, filtered, content, variable}
 use Rattle.xml_reading.specs.rule.Sheet.{onOpen, variables}
-use Rattle.xml_reading.specs.rule.Whole.{columnsFor, rowsFrom, tableOf, Outcome, Refusal, fitting, judgeNames, declared}
+use Rattle.xml_reading.specs.rule.Whole.{columnsFor, xmlRows, xmlTable, XmlOutcome, Refusal, xmlFitting, judgeXmlNames, declared}
 use Rattle.laying.specs.declared.Tally.{Tally}
 use Rattle.laying.specs.declared.Rooms.{Rooms}
 use Rattle.laying.specs.declared.Rooms.the-variants as rooms
@@ -72,17 +72,17 @@ use Rattle.sheets.specs.declared.Run.the-variants as run
 module _ (bad : Bool) (d : List ℕ) where
   -- the start tag of an element w is due
   abbrev pub dueIn : List ℕ → Reader ℕ
-  dueIn w n = bind (within bad d VARIABLE n) λ o. due bad d w o give
+  dueIn w n = bind (withinElement bad d VARIABLE n) λ o. due bad d w o give
 
-  abbrev pub labelIn : Bool → Reader Text
-  labelIn languages n = bind (within bad d VARIABLE n) λ o. due bad d LABEL o (text bad d LABEL (rich languages))
+  abbrev pub labelIn : Bool → Reader KeptText
+  labelIn languages n = bind (withinElement bad d VARIABLE n) λ o. due bad d LABEL o (text bad d LABEL (rich languages))
 
   abbrev pub positionIn : Reader Position
-  positionIn n = bind (within bad d VARIABLE n) λ o. due bad d POSITION o (position bad d)
+  positionIn n = bind (withinElement bad d VARIABLE n) λ o. due bad d POSITION o (position bad d)
 
   -- the end tag of the variable
   abbrev pub endIn : Reader Unit
-  endIn n = bind (within bad d VARIABLE n) (over bad d)
+  endIn n = bind (withinElement bad d VARIABLE n) (over bad d)
 
 -- ---- where answers lie
 abbrev pub DueEnds : List ℕ → Due → Type 0
@@ -179,13 +179,13 @@ sizedOf before (Not f) = rested.Not f
 -- ---- a variable up to its position
 pub record Front : Type 0 where
   pub title : Title
-  pub name : Text
-  pub label : Text
+  pub name : KeptText
+  pub label : KeptText
   pub position : Position
 
-module _ (bad : Bool) (d : List ℕ) (m : Manner) (l : List Entry) where
-  abbrev pub nameIn : Reader Text
-  nameIn n = bind (within bad d VARIABLE n) λ o. due bad d NAME o (naming bad d (m .latin) (m .standard) l)
+module _ (bad : Bool) (d : List ℕ) (m : Manner) (l : List XmlEntry) where
+  abbrev pub nameIn : Reader KeptText
+  nameIn n = bind (withinElement bad d VARIABLE n) λ o. due bad d NAME o (naming bad d (m .latin) (m .standard) l)
 
   unfoldable pub frontOf : ℕ → Reader Front
   frontOf q e =
@@ -193,12 +193,12 @@ module _ (bad : Bool) (d : List ℕ) (m : Manner) (l : List Entry) where
       bind (positionIn bad d n) λ p n. Is (record { title = t; name = name; label = label; position = p }) n
 
   -- behind it
-  unfoldable pub behindFront : Front → Reader Entry
+  unfoldable pub behindFront : Front → Reader XmlEntry
   behindFront x = afterPosition bad d m l (x .title) (x .name) (x .label) (x .position)
 
   -- a filter or none
-  abbrev pub siftedIn : Text → ℕ → Reader (Then ℕ)
-  siftedIn name usage n = bind (within bad d VARIABLE n) λ o. filtered bad d m l name usage o
+  abbrev pub siftedIn : KeptText → ℕ → Reader (Then ℕ)
+  siftedIn name usage n = bind (withinElement bad d VARIABLE n) λ o. filtered bad d m l name usage o
 
 abbrev pub headOf : Front → Head
 headOf x = record {
@@ -230,7 +230,7 @@ placedOf ident kind usage a b (Is p n) = fronted.Is (record {
 placedOf ident kind usage a b (Not f) = fronted.Not f
 
 -- what was read of a variable up to its position, behind l
-pub record FrontRead (bad : Bool) (d : List ℕ) (m : Manner) (l : List Entry) (h : Head) (usage at : ℕ) : Type 0 where
+pub record FrontRead (bad : Bool) (d : List ℕ) (m : Manner) (l : List XmlEntry) (h : Head) (usage at : ℕ) : Type 0 where
   pub front : Front
   pub head-is : h ≡ headOf front
   pub usage-is : usage ≡ front .title .usage
@@ -248,10 +248,10 @@ siftedOf (Is x n) = record { filter = x .it; tag = openOf (Is (x .behind) n) }
 siftedOf (Not f) = record { filter = 0; tag = opened.Not f }
 
 -- ---- what the code keeps of the variables l that were read
-unfoldable pub tallyOf : List Entry → Tally
+unfoldable pub tallyOf : List XmlEntry → Tally
 tallyOf l = record { rows = length l; lines = linesAll (variablesOf l); length = highestIn (variablesOf l) }
 
-pub record Before (d : List ℕ) (seen : List ℕ) (y : Tally) (rows : List ℤ) (l : List Entry) : Type 0 where
+pub record Before (d : List ℕ) (seen : List ℕ) (y : Tally) (rows : List ℤ) (l : List XmlEntry) : Type 0 where
   pub tally : y ≡ tallyOf l
   pub held : RowsOf rows (y .rows) l
   pub idents : Idents seen l
@@ -259,7 +259,7 @@ pub record Before (d : List ℕ) (seen : List ℕ) (y : Tally) (rows : List ℤ)
   pub named : Named d l
 
 pub record Sofar (d : List ℕ) (seen : List ℕ) (y : Tally) (rows : List ℤ) : Type 0 where
-  pub read : List Entry
+  pub read : List XmlEntry
   pub before : Before d seen y rows read
   pub seen-long : length seen ≡ 10000
   pub rows-long : length rows ≡ rowSize * mostRows
@@ -272,106 +272,106 @@ pub record Knowing (latin : Bool) (d : List ℕ) (seen : List ℕ) (y : Tally) (
 -- ---- what the code says, for whatever variables stand before
 module _ (bad : Bool) (d : List ℕ) (m : Manner) (rows : List ℤ) (count : ℕ) where
   pub record NameSaid (at : ℕ) (r : Phrase) : Type 0 where
-    pub is : (l : List Entry) → RowsOf rows count l → r ≡ phraseOf (nameIn bad d m l at)
+    pub is : (l : List XmlEntry) → RowsOf rows count l → r ≡ phraseOf (nameIn bad d m l at)
     pub ends : PhraseEnds d r
 
   pub record FrontSaid (seen : List ℕ) (q e : ℕ) (r : Fronted) : Type 0 where
-    pub is : (l : List Entry) → RowsOf rows count l → Idents seen l → r ≡ frontedOf (frontOf bad d m l q e)
+    pub is : (l : List XmlEntry) → RowsOf rows count l → Idents seen l → r ≡ frontedOf (frontOf bad d m l q e)
     pub ends : FrontEnds d r
 
-  pub record SiftSaid (name : Text) (usage at : ℕ) (r : Sifted) : Type 0 where
-    pub is : (l : List Entry) → RowsOf rows count l → r ≡ siftedOf (siftedIn bad d m l name usage at)
+  pub record SiftSaid (name : KeptText) (usage at : ℕ) (r : Sifted) : Type 0 where
+    pub is : (l : List XmlEntry) → RowsOf rows count l → r ≡ siftedOf (siftedIn bad d m l name usage at)
     pub ends : Within d 0 (r .tag)
 
-  pub record FilterSaid (name : Text) (usage p e : ℕ) (r : Sifted) : Type 0 where
-    pub is : (l : List Entry) → RowsOf rows count l
-        → r ≡ siftedOf (bind (filter bad d (m .latin) (m .standard) l name usage p e) λ f n. bind (within bad d VARIABLE n) λ o k. Is
+  pub record FilterSaid (name : KeptText) (usage p e : ℕ) (r : Sifted) : Type 0 where
+    pub is : (l : List XmlEntry) → RowsOf rows count l
+        → r ≡ siftedOf (bind (filter bad d (m .latin) (m .standard) l name usage p e) λ f n. bind (withinElement bad d VARIABLE n) λ o k. Is
         (with f o) k)
     pub ends : Within d 0 (r .tag)
 
-abbrev pub enteredOf : Tally → Result Entry → Entered
+abbrev pub enteredOf : Tally → Result XmlEntry → Entered
 enteredOf y (Is v n) =
     entered.Is (v .variable .ident .value) (tallyWith y (columnsFor (y .lines) v) (y .lines + length (linesOf (v .variable)))) n
 enteredOf y (Not f) = entered.Not f
 
 -- what a reader k of one more variable gives, and its row and lines behind those before
-pub record Joined (d : List ℕ) (seen : List ℕ) (y : Tally) (rows rows′ lines lines′ : List ℤ) (k : List Entry → Result Entry)
+pub record Joined (d : List ℕ) (seen : List ℕ) (y : Tally) (rows rows′ lines lines′ : List ℤ) (k : List XmlEntry → Result XmlEntry)
     (r : Entered) : Type 0 where
-  pub is : (l : List Entry) → Before d seen y rows l → r ≡ enteredOf y (k l)
-  pub row : (l : List Entry) → Before d seen y rows l → (v : Entry) (n : ℕ) → k l ≡ Is v n
+  pub is : (l : List XmlEntry) → Before d seen y rows l → r ≡ enteredOf y (k l)
+  pub row : (l : List XmlEntry) → Before d seen y rows l → (v : XmlEntry) (n : ℕ) → k l ≡ Is v n
       → rows′ ≡ pasted rows (rowSize * y .rows) (rowCells (columnsFor (y .lines) v))
-  pub line : (l : List Entry) → Before d seen y rows l → (v : Entry) (n : ℕ) → k l ≡ Is v n
+  pub line : (l : List XmlEntry) → Before d seen y rows l → (v : XmlEntry) (n : ℕ) → k l ≡ Is v n
       → lines′ ≡ pasted lines (lineSize * y .lines) (cellsOf (linesOf (v .variable)))
 
 -- behind the position
 pub record Bodied (bad : Bool) (d : List ℕ) (m : Manner) (seen : List ℕ) (y : Tally) (h : Head) (usage at : ℕ)
     (rows rows′ lines lines′ : List ℤ) (r : Entered)
     : Type 0 where
-  pub is : (l : List Entry) → Before d seen y rows l → (x : FrontRead bad d m l h usage at) → r
+  pub is : (l : List XmlEntry) → Before d seen y rows l → (x : FrontRead bad d m l h usage at) → r
       ≡ enteredOf y (behindFront bad d m l (x .front) at)
-  pub row : (l : List Entry) → Before d seen y rows l → (x : FrontRead bad d m l h usage at) → (v : Entry) (n : ℕ)
+  pub row : (l : List XmlEntry) → Before d seen y rows l → (x : FrontRead bad d m l h usage at) → (v : XmlEntry) (n : ℕ)
       → behindFront bad d m l (x .front) at ≡ Is v n → rows′ ≡ pasted rows (rowSize * y .rows) (rowCells (columnsFor (y .lines) v))
-  pub line : (l : List Entry) → Before d seen y rows l → (x : FrontRead bad d m l h usage at) → (v : Entry) (n : ℕ)
+  pub line : (l : List XmlEntry) → Before d seen y rows l → (x : FrontRead bad d m l h usage at) → (v : XmlEntry) (n : ℕ)
       → behindFront bad d m l (x .front) at ≡ Is v n → lines′ ≡ pasted lines (lineSize * y .lines) (cellsOf (linesOf (v .variable)))
 
 -- ---- all variables
 module _ (bad : Bool) (d : List ℕ) (m : Manner) where
   -- one more: the first is due, behind it the record may end
-  abbrev pub orOver : List Entry → rule.Open → Reader (Next (List Entry) (List Entry))
+  abbrev pub orOver : List XmlEntry → rule.Open → Reader (Next (List XmlEntry) (List XmlEntry))
   orOver [] o = due bad d VARIABLE o (λ p n. bind (variable bad d m [] p n) λ v k. Is (Again (v ∷ [])) k)
   orOver (w ∷ l) o = onOpen bad d m (w ∷ l) o
 
-  unfoldable pub oneMore : List Entry → Reader (Next (List Entry) (List Entry))
-  oneMore l n = bind (within bad d RECORD n) (orOver l)
+  unfoldable pub oneMore : List XmlEntry → Reader (Next (List XmlEntry) (List XmlEntry))
+  oneMore l n = bind (withinElement bad d RECORD n) (orOver l)
 
 -- the ident of the last one
-unfoldable pub lastIdent : List Entry → ℕ
+unfoldable pub lastIdent : List XmlEntry → ℕ
 lastIdent [] = 0
 lastIdent (v ∷ []) = v .variable .ident .value
 lastIdent (v ∷ w ∷ l) = lastIdent (w ∷ l)
 
-abbrev pub turnOf : Tally → Result (Next (List Entry) (List Entry)) → Turn
+abbrev pub turnOf : Tally → Result (Next (List XmlEntry) (List XmlEntry)) → Turn
 turnOf y (Is (Again l) n) = turns.More (lastIdent l) (tallyOf l) n
 turnOf y (Is (Done l) n) = turns.Over y n
 turnOf y (Not f) = turns.Not f
 
 pub record Turned (bad : Bool) (d : List ℕ) (m : Manner) (seen : List ℕ) (y : Tally) (at : ℕ) (rows rows′ lines lines′ : List ℤ)
     (r : Turn) : Type 0 where
-  pub is : (l : List Entry) → Before d seen y rows l → r ≡ turnOf y (oneMore bad d m l at)
-  pub row : (l : List Entry) → Before d seen y rows l → (v : Entry) (n : ℕ) → oneMore bad d m l at ≡ Is (Again (l ++ v ∷ [])) n
+  pub is : (l : List XmlEntry) → Before d seen y rows l → r ≡ turnOf y (oneMore bad d m l at)
+  pub row : (l : List XmlEntry) → Before d seen y rows l → (v : XmlEntry) (n : ℕ) → oneMore bad d m l at ≡ Is (Again (l ++ v ∷ [])) n
       → rows′ ≡ pasted rows (rowSize * y .rows) (rowCells (columnsFor (y .lines) v))
-  pub line : (l : List Entry) → Before d seen y rows l → (v : Entry) (n : ℕ) → oneMore bad d m l at ≡ Is (Again (l ++ v ∷ [])) n
+  pub line : (l : List XmlEntry) → Before d seen y rows l → (v : XmlEntry) (n : ℕ) → oneMore bad d m l at ≡ Is (Again (l ++ v ∷ [])) n
       → lines′ ≡ pasted lines (lineSize * y .lines) (cellsOf (linesOf (v .variable)))
 
-abbrev pub runOf : Result (List Entry) → Run
+abbrev pub runOf : Result (List XmlEntry) → Run
 runOf (Is l n) = run.Is (tallyOf l) n
 runOf (Not f) = run.Not f
 
 -- their rows and lines stand at the start of the rooms
-pub record Laid (r : Result (List Entry)) (rows rows′ lines lines′ : List ℤ) : Type 0 where
-  pub rows-laid : (l : List Entry) (n : ℕ) → r ≡ Is l n → rows′ ≡ pasted rows 0 (rowsFrom 0 l)
-  pub lines-laid : (l : List Entry) (n : ℕ) → r ≡ Is l n → lines′ ≡ pasted lines 0 (allLines (variablesOf l))
+pub record Laid (r : Result (List XmlEntry)) (rows rows′ lines lines′ : List ℤ) : Type 0 where
+  pub rows-laid : (l : List XmlEntry) (n : ℕ) → r ≡ Is l n → rows′ ≡ pasted rows 0 (xmlRows 0 l)
+  pub lines-laid : (l : List XmlEntry) (n : ℕ) → r ≡ Is l n → lines′ ≡ pasted lines 0 (allLines (variablesOf l))
 
 -- ---- the whole: the rooms hold its table, which is all but for the room of a lent one; or it is refused
-pub record Standing (o : ℕ → Outcome) (rows lines : List ℤ) (y : Tally) : Type 0 where
-  pub read : List Entry
+pub record Standing (o : ℕ → XmlOutcome) (rows lines : List ℤ) (y : Tally) : Type 0 where
+  pub read : List XmlEntry
   pub fine : FineEntries read
   pub tally : y ≡ tallyOf read
   pub few : (y .rows ≤ mostRows) × (y .lines ≤ mostLines) × (y .length ≤ 16384)
-  pub cells : cellsIn markXml y rows lines ≡ tableOf read
-  pub outcome : (n : ℕ) → o n ≡ fitting n read
+  pub cells : cellsIn markXml y rows lines ≡ xmlTable read
+  pub outcome : (n : ℕ) → o n ≡ xmlFitting n read
 
-pub record RoomsRead (o : ℕ → Outcome) (rows lines : List ℤ) (r : Rooms) : Type 0 where
+pub record RoomsRead (o : ℕ → XmlOutcome) (rows lines : List ℤ) (r : Rooms) : Type 0 where
   pub stands : {y : Tally} → r ≡ rooms.Held y → Standing o rows lines y
   pub refuses : {k p : ℕ} → r ≡ rooms.Refused k p → (n : ℕ) → o n ≡ Refusal k p
 
 -- 9 judged of the variables that the rooms hold
 pub record NamesSettled (d : List ℕ) (m : Manner) (y : Tally) (rows : List ℤ) (r : Rooms) : Type 0 where
-  pub passes : {z : Tally} → r ≡ rooms.Held z → (l : List Entry) → RowsOf rows (y .rows) l
-      → (z ≡ y) × ((n : ℕ) → judgeNames (m .latin) d n (m .standard) l ≡ fitting n l)
-  pub fails : {k p : ℕ} → r ≡ rooms.Refused k p → (l : List Entry) → RowsOf rows (y .rows) l
-      → (n : ℕ) → judgeNames (m .latin) d n (m .standard) l ≡ Refusal k p
+  pub passes : {z : Tally} → r ≡ rooms.Held z → (l : List XmlEntry) → RowsOf rows (y .rows) l
+      → (z ≡ y) × ((n : ℕ) → judgeXmlNames (m .latin) d n (m .standard) l ≡ xmlFitting n l)
+  pub fails : {k p : ℕ} → r ≡ rooms.Refused k p → (l : List XmlEntry) → RowsOf rows (y .rows) l
+      → (n : ℕ) → judgeXmlNames (m .latin) d n (m .standard) l ≡ Refusal k p
 
 -- for a lent table of n numbers
-abbrev pub outcomeIn : List ℕ → ℕ → Outcome
+abbrev pub outcomeIn : List ℕ → ℕ → XmlOutcome
 outcomeIn d n = declared d n (declarationOf d)

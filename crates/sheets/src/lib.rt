@@ -44,10 +44,10 @@ ghost use Rattle.bridge.specs.Statements.{toStated};
 ghost use Rattle.laying.specs.Code.{zeros, tallyWith};
 ghost use Rattle.xml_reading.specs.rule.Open.{over};
 ghost use Rattle.xml_reading.specs.rule.Block.{rich};
-ghost use Rattle.xml_reading.specs.rule.Role.{Entry};
+ghost use Rattle.xml_reading.specs.rule.Role.{XmlEntry};
 ghost use Rattle.xml_reading.specs.rule.Variable.{with, variable};
 ghost use Rattle.xml_reading.specs.rule.Sheet.{variables, sheet};
-ghost use Rattle.xml_reading.specs.rule.Whole.{usedBy, settled};
+ghost use Rattle.xml_reading.specs.rule.Whole.{usedBy, xmlSettled};
 ghost use Rattle.elements.specs.Code.{readOf, dueOf, Within, phraseOf};
 ghost use Rattle.filters.specs.Sums.{Known};
 ghost use Rattle.prefaces.specs.Code.{readingOf, ruleOf, Inside};
@@ -665,7 +665,7 @@ fn body_at(
     requires { ⌜ (length (now d) ≤ 1048576) × Knowing (m .latin) (now d) (now seen) y (now rows) (now sums) ⌝ }
     requires { ⌜ (length (now lines) ≡ lineSize * mostLines) × (length (now marks) ≡ 16384) ⌝ }
     requires { ⌜ FrontEnds (now d) (fronted.Is h usage at) ⌝ }
-    requires { ⌜ ((l : List Entry) → Before (now d) (now seen) y (now rows) l → FrontRead bad (now d) (ruleOf m) l h usage at) ⌝ }
+    requires { ⌜ ((l : List XmlEntry) → Before (now d) (now seen) y (now rows) l → FrontRead bad (now d) (ruleOf m) l h usage at) ⌝ }
     ensures { λ r. ⌜ Bodied bad (now (d .entry)) (ruleOf m) (now (seen .entry)) y h usage at (now (rows .entry)) (now (rows .exit))
         (now (lines .entry)) (now (lines .exit)) r ⌝ }
 {

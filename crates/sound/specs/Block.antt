@@ -22,9 +22,9 @@ use Rattle.layout.specs.declared.Row.{Row}
 use Rattle.layout.specs.declared.Spread.the-variants.{Bits, Fields}
 use Rattle.layout.specs.declared.Kind.{Kind}
 use Rattle.layout.specs.declared.Kind.the-variants.{Single, Multiple, Quantity, Character, Logical}
-use Rattle.widths.specs.rule.Width.{need, fitsKind, lowest, highest, sizeOf, quantityWidth}
+use Rattle.widths.specs.rule.Width.{need, fitsKind, lowest, highest, sizeOf, quantityWidth, decimalsOf}
 use Rattle.widths.specs.Width.{need-between}
-use Rattle.widths.specs.Width.{size-small, FewDecimals, decimalsOf, tail-few, whole-upto}
+use Rattle.widths.specs.Width.{size-small, FewDecimals, tail-few, whole-upto}
 use Rattle.sound.specs.rule.Sound.{valuesFit, linesPlain, linesGood, valueAt, rangeGood, rangeWidth, widest}
 use Rattle.strides.specs.declared.Hull.{Hull}
 use Rattle.strides.specs.Stride.{Strided}

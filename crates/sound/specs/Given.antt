@@ -16,7 +16,8 @@ use Rattle.layout.specs.declared.Header.{Header}
 use Rattle.layout.specs.rule.Row.{kindOf}
 use Rattle.layout.specs.Row.{kind-cases}
 use Rattle.layout.specs.declared.Columns.{Columns}
-use Rattle.widths.specs.Width.{FewDecimals, decimalsOf}
+use Rattle.widths.specs.Width.{FewDecimals}
+use Rattle.widths.specs.rule.Width.{decimalsOf}
 use Rattle.sound.specs.rule.Sound.{countsGood, subfieldsGood, placesGood}
 use Rattle.sound.specs.rule.Sound.{columnsGood, rowGood, markKnown, headCounts, headSums, rowsGood, identsDiffer, wellFormed}
 use Rattle.uses.specs.rule.Uses.{kindGood}

@@ -25,9 +25,9 @@ use Rattle.layout.specs.declared.Row.{Row}
 use Rattle.layout.specs.declared.Spread.the-variants.{Bits, Fields}
 use Rattle.layout.specs.declared.Kind.{Kind}
 use Rattle.layout.specs.declared.Kind.the-variants.{Single, Multiple, Quantity, Character, Logical}
-use Rattle.widths.specs.rule.Width.{need, fitsKind, lowest, highest, sizeOf}
+use Rattle.widths.specs.rule.Width.{need, fitsKind, lowest, highest, sizeOf, decimalsOf}
 use Rattle.widths.specs.Width.{need-between, need-most, need-some, Valued, mostWidth}
-use Rattle.widths.specs.Width.{decimalsOf, size-small, FewDecimals}
+use Rattle.widths.specs.Width.{size-small, FewDecimals}
 use Rattle.fields.specs.rule.Legal.{legal, inRange, onLine, lineValue}
 use Rattle.fields.specs.Facts.{LineFacts, PositionFacts, WidthFacts, SpreadFacts, QuantityFacts, KindFacts, RowFacts}
 use Rattle.uses.specs.rule.Uses.{kindGood}

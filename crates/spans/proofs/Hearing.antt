@@ -13,7 +13,7 @@ use Rattle.scan.proofs.Loops.{loop-again, loop-done}
 use Rattle.utf.proofs.Strides.{drop-1}
 use Rattle.markup.specs.rule.Bytes.{stands}
 use Rattle.markup.specs.rule.Reference.{referenceOf}
-use Rattle.markup.specs.rule.Gap.{commentOf}
+use Rattle.markup.specs.rule.Gap.{xmlComment}
 use Rattle.markup.specs.declared.Char.{Char}
 use Rattle.markup.specs.declared.Char.the-variants.{Is, Bad}
 use Rattle.markup.specs.declared.Skip.{Skip}
@@ -21,7 +21,7 @@ use Rattle.markup.specs.declared.Skip.the-variants.{Past, Broken}
 use Rattle.markup.proofs.Runs.{first-at, onward}
 use Rattle.markup.proofs.References.{Referred, reference-sound, reference-complete}
 use Rattle.markup.proofs.Gaps.{Noted, comment-sound, comment-complete, stands-split}
-use Rattle.spans.specs.rule.Heard.{Says, nothing, plain, refer, note, ofChar, ofNote, notedOf, partOf, ofPart, firstOf, Heard, All}
+use Rattle.spans.specs.rule.Heard.{Says, nothing, plain, refer, note, ofChar, ofNote, notedOf, partOf, ofPart, firstHeard, Heard, All}
 use Rattle.spans.specs.rule.Heard.{Ill, after, onFirst, heardBy, heard}
 use Rattle.spans.specs.declared.First.{First}
 use Rattle.spans.specs.declared.First.the-variants.{One, End, Not}
@@ -54,7 +54,7 @@ module _ (s : List ℕ) where
       let a : drop p s ≡ (38 ∷ r .bytes) ++ r .rest = drop-1 s p h ∙ rw (e, r .split) in
       stepped s p m (38 ∷ r .bytes) (r .rest) (c ∷ []) a (omega arith) (omega arith) h (λ t cs v. refer (r .ref) v)
 
-  with-note : (p m : ℕ) → p < length s → stands (60 ∷ 33 ∷ 45 ∷ 45 ∷ []) (drop p s) ≡ true → commentOf false p (p + 4) (drop (p + 4) s)
+  with-note : (p m : ℕ) → p < length s → stands (60 ∷ 33 ∷ 45 ∷ 45 ∷ []) (drop p s) ≡ true → xmlComment false p (p + 4) (drop (p + 4) s)
       ≡ Past m → Step s p m []
   with-note p m h e f =
       let x = stands-split (60 ∷ 33 ∷ 45 ∷ 45 ∷ []) (drop p s) e in
@@ -69,16 +69,16 @@ module _ (s : List ℕ) where
   unfolding partOf notedOf
   part-passed p m e = by (leb (length s) p) (eqb (getD s p 0) 38) (eqb (getD s p 0) 60) refl e where
     noted : (r : Bool) → stands (60 ∷ 33 ∷ 45 ∷ 45 ∷ []) (drop p s) ≡ r → p < length s
-        → cond r (ofNote (commentOf false p (p + 4) (drop (p + 4) s))) (Stop Not) ≡ Passed m → Step s p m []
-    noted true f h e = past (commentOf false p (p + 4) (drop (p + 4) s)) refl e where
-      past : (k : Skip) → commentOf false p (p + 4) (drop (p + 4) s) ≡ k → ofNote k ≡ Passed m → Step s p m []
+        → cond r (ofNote (xmlComment false p (p + 4) (drop (p + 4) s))) (Stop Not) ≡ Passed m → Step s p m []
+    noted true f h e = past (xmlComment false p (p + 4) (drop (p + 4) s)) refl e where
+      past : (k : Skip) → xmlComment false p (p + 4) (drop (p + 4) s) ≡ k → ofNote k ≡ Passed m → Step s p m []
       past (Past n) g e = let i : n ≡ m = cc in with-note p m h f (g ∙ ap Past i)
       past (Broken q) g e = let z : _≡_ {A = ℕ} 0 1 = cc in absurd (omega arith)
     noted false f h e = let z : _≡_ {A = ℕ} 0 1 = cc in absurd (omega arith)
 
     by : (a b c : Bool) → leb (length s) p ≡ a
         → cond a (Stop End) (cond b (Stop (ofChar (referenceOf p (drop (p + 1) s))))
-        (cond c (cond (stands (60 ∷ 33 ∷ 45 ∷ 45 ∷ []) (drop p s)) (ofNote (commentOf false p (p + 4) (drop (p + 4) s))) (Stop Not))
+        (cond c (cond (stands (60 ∷ 33 ∷ 45 ∷ 45 ∷ []) (drop p s)) (ofNote (xmlComment false p (p + 4) (drop (p + 4) s))) (Stop Not))
         (Stop (One (getD s p 0) (p + 1))))) ≡ Passed m
         → Step s p m []
     by true b c f e = let z : _≡_ {A = ℕ} 0 1 = cc in absurd (omega arith)
@@ -104,12 +104,12 @@ module _ (s : List ℕ) where
 
     by : (a b r : Bool) → leb (length s) p ≡ a → eqb (getD s p 0) 38 ≡ b → eqb (getD s p 0) 60 ≡ r
         → cond a (Stop End) (cond b (Stop (ofChar (referenceOf p (drop (p + 1) s))))
-        (cond r (cond (stands (60 ∷ 33 ∷ 45 ∷ 45 ∷ []) (drop p s)) (ofNote (commentOf false p (p + 4) (drop (p + 4) s))) (Stop Not))
+        (cond r (cond (stands (60 ∷ 33 ∷ 45 ∷ 45 ∷ []) (drop p s)) (ofNote (xmlComment false p (p + 4) (drop (p + 4) s))) (Stop Not))
         (Stop (One (getD s p 0) (p + 1))))) ≡ Stop (One c n)
         → Step s p n (c ∷ [])
     by true b r f g h e = let z : _≡_ {A = ℕ} 0 1 = cc in absurd (omega arith)
     by false true r f g h e = char (referenceOf p (drop (p + 1) s)) refl (leb-false (length s) p f) (eqb-true (getD s p 0) 38 g) e
-    by false false true f g h e = noted (stands (60 ∷ 33 ∷ 45 ∷ 45 ∷ []) (drop p s)) (commentOf false p (p + 4) (drop (p + 4) s)) e
+    by false false true f g h e = noted (stands (60 ∷ 33 ∷ 45 ∷ 45 ∷ []) (drop p s)) (xmlComment false p (p + 4) (drop (p + 4) s)) e
     by false false false f g h e =
         let l = leb-false (length s) p f in
         let k : p + 1 ≡ n = cc in
@@ -132,12 +132,12 @@ module _ (s : List ℕ) where
 
     by : (a b r : Bool) → leb (length s) p ≡ a
         → cond a (Stop End) (cond b (Stop (ofChar (referenceOf p (drop (p + 1) s))))
-        (cond r (cond (stands (60 ∷ 33 ∷ 45 ∷ 45 ∷ []) (drop p s)) (ofNote (commentOf false p (p + 4) (drop (p + 4) s))) (Stop Not))
+        (cond r (cond (stands (60 ∷ 33 ∷ 45 ∷ 45 ∷ []) (drop p s)) (ofNote (xmlComment false p (p + 4) (drop (p + 4) s))) (Stop Not))
         (Stop (One (getD s p 0) (p + 1))))) ≡ Stop End
         → length s ≤ p
     by true b r f e = leb-true (length s) p f
     by false true r f e = char (referenceOf p (drop (p + 1) s)) e
-    by false false true f e = noted (stands (60 ∷ 33 ∷ 45 ∷ 45 ∷ []) (drop p s)) (commentOf false p (p + 4) (drop (p + 4) s)) e
+    by false false true f e = noted (stands (60 ∷ 33 ∷ 45 ∷ 45 ∷ []) (drop p s)) (xmlComment false p (p + 4) (drop (p + 4) s)) e
     by false false false f e = let z : _≡_ {A = ℕ} 0 1 = cc in absurd (omega arith)
 
   -- ---- the first character
@@ -151,12 +151,12 @@ module _ (s : List ℕ) where
         omega arith
     by (Stop r) f e = let z : _≡_ {A = ℕ} 0 1 = cc in absurd (omega arith)
 
-  pub first-next : (p m : ℕ) → partOf s p ≡ Passed m → firstOf s p ≡ firstOf s m
-  unfolding firstOf
+  pub first-next : (p m : ℕ) → partOf s p ≡ Passed m → firstHeard s p ≡ firstHeard s m
+  unfolding firstHeard
   first-next p m e = loop-again step Not (λ p. length s - p) less (rw e)
 
-  pub first-stop : (p : ℕ) (r : First) → partOf s p ≡ Stop r → firstOf s p ≡ r
-  unfolding firstOf
+  pub first-stop : (p : ℕ) (r : First) → partOf s p ≡ Stop r → firstHeard s p ≡ r
+  unfolding firstHeard
   first-stop p r e = loop-done step Not (λ p. length s - p) less (rw e)
 
   joined : (p m n : ℕ) (said : List ℕ) → Step s p m [] → Step s m n said → Step s p n said
@@ -174,13 +174,14 @@ module _ (s : List ℕ) where
         says = λ t cs v. rw (append-assoc (x .bytes) (y .bytes) t) (x .says (y .bytes ++ t) (said ++ cs) (y .says t cs v));
       }
 
-  one-by : (k p c n : ℕ) → length s - p ≤ k → firstOf s p ≡ One c n → Step s p n (c ∷ [])
+  one-by : (k p c n : ℕ) → length s - p ≤ k → firstHeard s p ≡ One c n → Step s p n (c ∷ [])
   one-by zero p c n h e = by (partOf s p) refl where
     by : (r : Part) → partOf s p ≡ r → Step s p n (c ∷ [])
     by (Passed m) f = let g = part-passed p m f in let a = g .place in let b = g .some in let i = g .within in absurd (omega arith)
     by (Stop r) f = part-one p c n (f ∙ ap Stop (sym (first-stop p r f) ∙ e))
   one-by (suc k) p c n h e = by (one-by k) (partOf s p) refl where
-    by : ((p c n : ℕ) → length s - p ≤ k → firstOf s p ≡ One c n → Step s p n (c ∷ [])) → (r : Part) → partOf s p ≡ r → Step s p n (c ∷ [])
+    by : ((p c n : ℕ) → length s - p ≤ k → firstHeard s p ≡ One c n → Step s p n (c ∷ [])) → (r : Part) → partOf s p ≡ r
+        → Step s p n (c ∷ [])
     by ih (Passed m) f =
         let g = part-passed p m f in
         let a = g .place in
@@ -189,23 +190,23 @@ module _ (s : List ℕ) where
         joined p m n (c ∷ []) g (ih m c n (omega arith) (sym (first-next p m f) ∙ e))
     by ih (Stop r) f = part-one p c n (f ∙ ap Stop (sym (first-stop p r f) ∙ e))
 
-  pub first-one : (p c n : ℕ) → firstOf s p ≡ One c n → Step s p n (c ∷ [])
+  pub first-one : (p c n : ℕ) → firstHeard s p ≡ One c n → Step s p n (c ∷ [])
   first-one p c n e = one-by (length s) p c n (omega arith) e
 
-  pub first-on : (p c n : ℕ) → firstOf s p ≡ One c n → (p < n) × (n ≤ length s)
+  pub first-on : (p c n : ℕ) → firstHeard s p ≡ One c n → (p < n) × (n ≤ length s)
   first-on p c n e =
       let g = first-one p c n e in
       let a = g .place in
       let b = g .some in
       (omega arith, g .within)
 
-  end-by : (k p : ℕ) → length s - p ≤ k → firstOf s p ≡ End → Says (drop p s) []
+  end-by : (k p : ℕ) → length s - p ≤ k → firstHeard s p ≡ End → Says (drop p s) []
   end-by zero p h e = by (partOf s p) refl where
     by : (r : Part) → partOf s p ≡ r → Says (drop p s) []
     by (Passed m) f = let g = part-passed p m f in let a = g .place in let b = g .some in let i = g .within in absurd (omega arith)
     by (Stop r) f = rw (drop-of-length-le s (part-end p (f ∙ ap Stop (sym (first-stop p r f) ∙ e)))) nothing
   end-by (suc k) p h e = by (end-by k) (partOf s p) refl where
-    by : ((p : ℕ) → length s - p ≤ k → firstOf s p ≡ End → Says (drop p s) []) → (r : Part) → partOf s p ≡ r → Says (drop p s) []
+    by : ((p : ℕ) → length s - p ≤ k → firstHeard s p ≡ End → Says (drop p s) []) → (r : Part) → partOf s p ≡ r → Says (drop p s) []
     by ih (Passed m) f =
         let g = part-passed p m f in
         let a = g .place in
@@ -215,7 +216,7 @@ module _ (s : List ℕ) where
     by ih (Stop r) f = rw (drop-of-length-le s (part-end p (f ∙ ap Stop (sym (first-stop p r f) ∙ e)))) nothing
 
   -- ---- all of them
-  cases : (f g p : ℕ) (r : First) → firstOf s p ≡ r → ((c n : ℕ) → firstOf s p ≡ One c n → heardBy f s n ≡ heardBy g s n)
+  cases : (f g p : ℕ) (r : First) → firstHeard s p ≡ r → ((c n : ℕ) → firstHeard s p ≡ One c n → heardBy f s n ≡ heardBy g s n)
       → onFirst r (heardBy f s) ≡ onFirst r (heardBy g s)
   cases f g p (One c n) e ih = ap (after c) (ih c n e)
   cases f g p End e ih = refl
@@ -226,33 +227,33 @@ module _ (s : List ℕ) where
   enough zero g p h k = absurd (omega arith)
   enough (suc f) zero p h k = absurd (omega arith)
   enough (suc f) (suc g) p h k =
-      cases f g p (firstOf s p) refl (λ c n e. let o = first-on p c n e in
+      cases f g p (firstHeard s p) refl (λ c n e. let o = first-on p c n e in
       enough f g n (omega (arith, o .0, o .1)) (omega (arith, o .0, o .1)))
 
-  pub heard-one : (p c n : ℕ) → firstOf s p ≡ One c n → heard s p ≡ after c (heard s n)
+  pub heard-one : (p c n : ℕ) → firstHeard s p ≡ One c n → heard s p ≡ after c (heard s n)
   unfolding heard heardBy
   heard-one p c n e =
       let o = first-on p c n e in
       rw e (ap (after c) (enough (length s - p) (suc (length s - n)) n (omega (arith, o .0, o .1)) (omega arith)))
 
-  pub heard-end : (p : ℕ) → firstOf s p ≡ End → heard s p ≡ All []
+  pub heard-end : (p : ℕ) → firstHeard s p ≡ End → heard s p ≡ All []
   unfolding heard heardBy
   heard-end p e = rw e
 
-  pub heard-not : (p : ℕ) → firstOf s p ≡ Not → heard s p ≡ Ill
+  pub heard-not : (p : ℕ) → firstHeard s p ≡ Not → heard s p ≡ Ill
   unfolding heard heardBy
   heard-not p e = rw e
 
   -- ---- in XML's words
-  heard-same : (p m : ℕ) → firstOf s p ≡ firstOf s m → heard s p ≡ heard s m
-  heard-same p m e = by (firstOf s m) refl where
-    by : (r : First) → firstOf s m ≡ r → heard s p ≡ heard s m
+  heard-same : (p m : ℕ) → firstHeard s p ≡ firstHeard s m → heard s p ≡ heard s m
+  heard-same p m e = by (firstHeard s m) refl where
+    by : (r : First) → firstHeard s m ≡ r → heard s p ≡ heard s m
     by (One c n) f = heard-one p c n (e ∙ f) ∙ sym (heard-one m c n f)
     by End f = heard-end p (e ∙ f) ∙ sym (heard-end m f)
     by Not f = heard-not p (e ∙ f) ∙ sym (heard-not m f)
 
   -- what follows the first character says the rest
-  sound-more : (p c n : ℕ) (cs : List ℕ) → firstOf s p ≡ One c n → ((q : List ℕ) → heard s n ≡ All q → Says (drop n s) q) → heard s p
+  sound-more : (p c n : ℕ) (cs : List ℕ) → firstHeard s p ≡ One c n → ((q : List ℕ) → heard s n ≡ All q → Says (drop n s) q) → heard s p
       ≡ All cs → Says (drop p s) cs
   sound-more p c n cs f ih e = tail (heard s n) refl where
     tail : (t : Heard) → heard s n ≡ t → Says (drop p s) cs
@@ -264,21 +265,21 @@ module _ (s : List ℕ) where
     tail Ill i = let g : Ill ≡ All cs = ap (after c) (sym i) ∙ sym (heard-one p c n f) ∙ e in let z : _≡_ {A = ℕ} 0 1 = cc in
         absurd (omega arith)
 
-  sound-end : (p : ℕ) (cs : List ℕ) → firstOf s p ≡ End → heard s p ≡ All cs → Says (drop p s) cs
+  sound-end : (p : ℕ) (cs : List ℕ) → firstHeard s p ≡ End → heard s p ≡ All cs → Says (drop p s) cs
   sound-end p cs f e = let g : All [] ≡ All cs = sym (heard-end p f) ∙ e in let i : [] ≡ cs = cc in
       rw (← i) (end-by (length s) p (omega arith) f)
 
-  sound-not : (p : ℕ) (cs : List ℕ) → firstOf s p ≡ Not → heard s p ≡ All cs → Says (drop p s) cs
+  sound-not : (p : ℕ) (cs : List ℕ) → firstHeard s p ≡ Not → heard s p ≡ All cs → Says (drop p s) cs
   sound-not p cs f e = let g : Ill ≡ All cs = sym (heard-not p f) ∙ e in let z : _≡_ {A = ℕ} 0 1 = cc in absurd (omega arith)
 
   sound : (k p : ℕ) (cs : List ℕ) → length s - p ≤ k → heard s p ≡ All cs → Says (drop p s) cs
-  sound zero p cs h e = by (firstOf s p) refl where
-    by : (r : First) → firstOf s p ≡ r → Says (drop p s) cs
+  sound zero p cs h e = by (firstHeard s p) refl where
+    by : (r : First) → firstHeard s p ≡ r → Says (drop p s) cs
     by End f = sound-end p cs f e
     by Not f = sound-not p cs f e
     by (One c n) f = let o = first-on p c n f in absurd (omega (arith, o .0, o .1))
-  sound (suc k) p cs h e = by (sound k) (firstOf s p) refl where
-    by : ((p : ℕ) (cs : List ℕ) → length s - p ≤ k → heard s p ≡ All cs → Says (drop p s) cs) → (r : First) → firstOf s p ≡ r
+  sound (suc k) p cs h e = by (sound k) (firstHeard s p) refl where
+    by : ((p : ℕ) (cs : List ℕ) → length s - p ≤ k → heard s p ≡ All cs → Says (drop p s) cs) → (r : First) → firstHeard s p ≡ r
         → Says (drop p s) cs
     by ih End f = sound-end p cs f e
     by ih Not f = sound-not p cs f e
@@ -303,7 +304,7 @@ module _ (s : List ℕ) where
   complete (note {u} {s = t} {cs} w v) p e =
       let r = first-at s p 60 (33 ∷ 45 ∷ 45 ∷ u ++ t) e in
       let o : drop (p + 4) s ≡ u ++ t = onward s p 4 (60 ∷ 33 ∷ 45 ∷ 45 ∷ []) (u ++ t) e refl in
-      let i : commentOf false p (p + 4) (drop (p + 4) s) ≡ Past (p + 4 + length u) = rw o (comment-complete false p (p + 4) w t) in
+      let i : xmlComment false p (p + 4) (drop (p + 4) s) ≡ Past (p + 4 + length u) = rw o (comment-complete false p (p + 4) w t) in
       heard-same p (p + 4 + length u) (first-next p (p + 4 + length u) (rw (r .1, lt-leb (length s) p (r .0), e, i)))
       ∙ complete v (p + 4 + length u) (onward s (p + 4) (length u) u t o refl)
 

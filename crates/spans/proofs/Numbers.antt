@@ -11,10 +11,10 @@ use borrow.Author.Tests.{eq-eqb, ne-eqb, eqb-false, ltb-true, ltb-false, le-ltb}
 use Rattle.scan.specs.rule.Number.{decimalOf}
 use Rattle.scan.specs.Number.{capped, pushOf}
 use Rattle.markup.specs.rule.Bytes.{isDigit}
-use Rattle.spans.specs.rule.Heard.{Says, Heard, All, Ill, after, firstOf, heard}
+use Rattle.spans.specs.rule.Heard.{Says, Heard, All, Ill, after, firstHeard, heard}
 use Rattle.spans.specs.declared.First.the-variants.{One, End, Not}
 use Rattle.spans.proofs.Hearing.{heard-one, heard-end, heard-not, heard-exactly}
-use Rattle.spans.specs.rule.Says.{eachOf}
+use Rattle.spans.specs.rule.Says.{eachChar}
 use Rattle.spans.specs.Figures.{figuresAfter, figuresOf}
 use Rattle.spans.specs.declared.Figures.{Figures}
 use Rattle.spans.specs.declared.Figures.the-variants.{Good, Wrong}
@@ -47,37 +47,37 @@ held v s = by (ltb 1000000000000000 v) refl where
 -- ---- one digit more, and the end
 module _ (v k c : ℕ) where
   pub figures-next : (h : Heard) → isDigit c ≡ true → figuresAfter v k (after c h) ≡ figuresAfter (pushOf v c) (k + 1) h
-  unfolding figuresAfter eachOf decimalOf pushOf
+  unfolding figuresAfter eachChar decimalOf pushOf
   figures-next (All cs) e =
       let n : k + suc (length cs) ≡ k + 1 + length cs = omega arith in
       rw (e, n) (rw (held (v * 10 + (c - 48)) cs))
   figures-next Ill e = refl
 
   pub figures-wrong : (h : Heard) → isDigit c ≡ false → figuresAfter v k (after c h) ≡ Wrong
-  unfolding figuresAfter eachOf
+  unfolding figuresAfter eachChar
   figures-wrong (All cs) e = rw e
   figures-wrong Ill e = refl
 
 pub figures-some : (v k : ℕ) → v ≤ 1000000000000000 → (k ≡ 0 → ⊥) → figuresAfter v k (All []) ≡ Good v k
-unfolding figuresAfter eachOf decimalOf
+unfolding figuresAfter eachChar decimalOf
 figures-some v k h e = let n : k + 0 ≡ k = omega arith in rw (n, ne-eqb k 0 e, small v h)
 
 pub figures-none : (v : ℕ) → figuresAfter v 0 (All []) ≡ Wrong
-unfolding figuresAfter eachOf
+unfolding figuresAfter eachChar
 figures-none v = refl
 
 module _ (v k : ℕ) (s : List ℕ) (n : ℕ) where
-  pub figures-on : {c m : ℕ} → firstOf s n ≡ One c m → isDigit c ≡ true → figuresAfter v k (heard s n)
+  pub figures-on : {c m : ℕ} → firstHeard s n ≡ One c m → isDigit c ≡ true → figuresAfter v k (heard s n)
       ≡ figuresAfter (pushOf v c) (k + 1) (heard s m)
   figures-on {c} {m} e t = ap (figuresAfter v k) (heard-one s n c m e) ∙ figures-next v k c (heard s m) t
 
-  pub figures-off : {c m : ℕ} → firstOf s n ≡ One c m → isDigit c ≡ false → figuresAfter v k (heard s n) ≡ Wrong
+  pub figures-off : {c m : ℕ} → firstHeard s n ≡ One c m → isDigit c ≡ false → figuresAfter v k (heard s n) ≡ Wrong
   figures-off {c} {m} e t = ap (figuresAfter v k) (heard-one s n c m e) ∙ figures-wrong v k c (heard s m) t
 
-  pub figures-over : firstOf s n ≡ End → figuresAfter v k (heard s n) ≡ figuresAfter v k (All [])
+  pub figures-over : firstHeard s n ≡ End → figuresAfter v k (heard s n) ≡ figuresAfter v k (All [])
   figures-over e = ap (figuresAfter v k) (heard-end s n e)
 
-  pub figures-bad : firstOf s n ≡ Not → figuresAfter v k (heard s n) ≡ Wrong
+  pub figures-bad : firstHeard s n ≡ Not → figuresAfter v k (heard s n) ≡ Wrong
   unfolding figuresAfter
   figures-bad e = rw (heard-not s n e)
 
@@ -86,7 +86,7 @@ module _ (v k : ℕ) (s : List ℕ) (n : ℕ) where
 pub record Numbered (s : List ℕ) (size count : ℕ) : Type 0 where
   pub digits : List ℕ
   pub says : Says s digits
-  pub each : eachOf isDigit digits ≡ true
+  pub each : eachChar isDigit digits ≡ true
   pub size-is : size ≡ capped (decimalOf 0 digits)
   pub count-is : count ≡ length digits
   pub some : length digits ≡ 0 → ⊥
@@ -94,7 +94,7 @@ pub record Numbered (s : List ℕ) (size count : ℕ) : Type 0 where
 pub figures-exactly : (s : List ℕ) (size count : ℕ) → (figuresOf (heard s 0) ≡ Good size count) ↔ Numbered s size count
 unfolding figuresAfter
 figures-exactly s size count = (sound (heard s 0) refl, complete) where
-  all : (cs : List ℕ) → heard s 0 ≡ All cs → (p q : Bool) → eachOf isDigit cs ≡ p → eqb (0 + length cs) 0 ≡ q
+  all : (cs : List ℕ) → heard s 0 ≡ All cs → (p q : Bool) → eachChar isDigit cs ≡ p → eqb (0 + length cs) 0 ≡ q
       → cond p (cond q Wrong (Good (capped (decimalOf 0 cs)) (0 + length cs))) Wrong ≡ Good size count → Numbered s size count
   all cs f true true g h e = let z : _≡_ {A = ℕ} 0 1 = cc in absurd (omega arith)
   all cs f true false g h e =
@@ -110,7 +110,7 @@ figures-exactly s size count = (sound (heard s 0) refl, complete) where
   all cs f false q g h e = let z : _≡_ {A = ℕ} 0 1 = cc in absurd (omega arith)
 
   sound : (h : Heard) → heard s 0 ≡ h → figuresOf h ≡ Good size count → Numbered s size count
-  sound (All cs) f e = all cs f (eachOf isDigit cs) (eqb (0 + length cs) 0) refl refl e
+  sound (All cs) f e = all cs f (eachChar isDigit cs) (eqb (0 + length cs) 0) refl refl e
   sound Ill f e = let z : _≡_ {A = ℕ} 0 1 = cc in absurd (omega arith)
 
   complete : Numbered s size count → figuresOf (heard s 0) ≡ Good size count

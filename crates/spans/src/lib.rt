@@ -8,10 +8,10 @@ ghost use Prim.Native.Nat.{_+_, _*_, _-_, _≤_, _<_};
 ghost use lib.ListN.{length};
 ghost use Rattle.markup.specs.rule.Bytes.{isDigit};
 ghost use Rattle.scan.specs.Number.{pushOf};
-ghost use Rattle.spans.specs.rule.Heard.{notedOf, partOf, firstOf, heard};
+ghost use Rattle.spans.specs.rule.Heard.{notedOf, partOf, firstHeard, heard};
 ghost use Rattle.spans.specs.rule.Heard.{All};
 ghost use Rattle.spans.specs.Figures.{figuresAfter, figuresOf};
-ghost use Rattle.spans.specs.rule.Says.{isLetter, isValue, ofClass, countOf, wordOf};
+ghost use Rattle.spans.specs.rule.Says.{isLetter, isValue, ofClass, heardCount, heardWord};
 ghost use mathlib.Core.List.{[]};
 
 // The first character of what is left, with the place after it; or nothing is left; or what stands there says nothing.
@@ -77,7 +77,7 @@ fn part_in(s: &[u8], at: usize) -> Part
 // The next character where a mark may stand first: behind comments, by a reference.
 fn marked_char(s: &[u8], at: usize) -> First
     requires { ⌜ at ≤ length (now s) ⌝ }
-    ensures { λ r. ⌜ r ≡ firstOf (now (s .entry)) at ⌝ }
+    ensures { λ r. ⌜ r ≡ firstHeard (now (s .entry)) at ⌝ }
 {
     let mut n = at;
     loop {
@@ -95,7 +95,7 @@ fn marked_char(s: &[u8], at: usize) -> First
 // The next character, behind comments. Most say themselves: they are told here, without the loop.
 pub fn next_char(s: &[u8], at: usize) -> First
     requires { ⌜ at ≤ length (now s) ⌝ }
-    ensures { λ r. ⌜ r ≡ firstOf (now (s .entry)) at ⌝ }
+    ensures { λ r. ⌜ r ≡ firstHeard (now (s .entry)) at ⌝ }
 {
     if s.len() <= at {
         return First::End;
@@ -201,7 +201,7 @@ fn of_class(class: usize, c: u64) -> bool
 
 // How many characters a stretch has that are all of a class; 0 where one is not.
 pub fn count_in(class: usize, s: &[u8]) -> usize
-    ensures { λ r. ⌜ r ≡ countOf class (heard (now (s .entry)) 0) ⌝ }
+    ensures { λ r. ⌜ r ≡ heardCount class (heard (now (s .entry)) 0) ⌝ }
 {
     let mut n: usize = 0;
     let mut count: usize = 0;
@@ -226,7 +226,7 @@ pub fn count_in(class: usize, s: &[u8]) -> usize
 
 // Whether a stretch says just a word.
 pub fn is_word(s: &[u8], w: &[u8]) -> bool
-    ensures { λ r. ⌜ r ≡ wordOf (now (w .entry)) (heard (now (s .entry)) 0) ⌝ }
+    ensures { λ r. ⌜ r ≡ heardWord (now (w .entry)) (heard (now (s .entry)) 0) ⌝ }
 {
     let mut n: usize = 0;
     let mut i: usize = 0;

@@ -10,9 +10,9 @@ use Rattle.scan.specs.rule.Word.{wordAt}
 use Rattle.scan.specs.Word.{capitals}
 use Rattle.scan.specs.Number.{capped}
 use Rattle.statements.specs.rule.Words.{NOTE}
-use Rattle.survey.specs.rule.Survey.{Figure, Amount, Text}
+use Rattle.survey.specs.rule.Survey.{Figure, Amount, KeptText}
 use Rattle.reading.specs.rule.Result.{Result, Is}
-use Rattle.reading.specs.rule.Token.{amountOf}
+use Rattle.reading.specs.rule.Token.{amountRead}
 use Rattle.bridge.specs.Tokens.{number-on, string-on}
 use Rattle.bridge.specs.Notes.{notes-on}
 use Rattle.grammar.specs.Token.{Gap, Here, NoWord, Keyword, keyword, Number, Value, String, Notes, Statement, Phrase, End, Optional}
@@ -91,9 +91,9 @@ module _ (d : List ℕ) where
   number-end (token.number g r) = refl
 
   pub value-past : {n m : ℕ} {a : Amount} → Value d n a m → valueSpan d n ≡ span (a .place) (a .end) m 0
-  unfolding valueSpan amountOf
+  unfolding valueSpan amountRead
   value-past (token.value r) = rw (run-there r .0) refl
 
-  pub string-past : {n m : ℕ} {t : Text} → String d n t m → stringSpan d n ≡ span (t .place) (m - 1) m 0
+  pub string-past : {n m : ℕ} {t : KeptText} → String d n t m → stringSpan d n ≡ span (t .place) (m - 1) m 0
   unfolding stringSpan phraseIn
   string-past {n} (token.string g e s) = rw (string-on d (Is n n), string-is d (token.string g e s))

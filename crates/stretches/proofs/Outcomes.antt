@@ -13,11 +13,11 @@ use borrow.Author.Tests.{le-leb, lt-leb, leb-true, lt-ltb, le-ltb, ltb-true, ltb
 use Rattle.below.specs.Below.{and-left, and-right}
 use Rattle.signs.specs.declared.Sign.{Sign}
 use Rattle.utf.specs.rule.Chars.{encode}
-use Rattle.texts.specs.rule.Decode.{cutOff, Outcome, signs, refused, numbersOf, said, fitting, listAfter}
+use Rattle.texts.specs.rule.Decode.{cutOff, DecodeOutcome, signs, refused, numbersOf, decodeSaid, decodeFitting, signsAfter}
 use Rattle.texts.specs.declared.Decoded.{Decoded}
 use Rattle.texts.specs.declared.Decoded.the-variants as decoded
-use Rattle.contents.specs.rule.Grammar.{bytesOf}
-use Rattle.contents.specs.rule.Content.{begun, startOf, signsFrom, signsAt, textOf}
+use Rattle.contents.specs.rule.Grammar.{byteSigns}
+use Rattle.contents.specs.rule.Content.{begun, startOf, signsFrom, contentSigns, isText}
 use Rattle.contents.specs.Told.{partSigns, partNext, partCode, Tells}
 use Rattle.contents.specs.declared.Cursor.{Cursor}
 use Rattle.contents.specs.declared.Part.{Part}
@@ -29,13 +29,13 @@ use Rattle.stretches.specs.declared.Room.{Room}
 use Rattle.stretches.specs.declared.Room.the-variants.{Signs, Short}
 
 -- ---- sign by sign
-pub start-signs : (l : Bool) (d : List ℕ) (at : ℕ) → signsAt l d (startOf at) ≡ signsFrom l d (begun at)
-unfolding signsAt bytesOf encode
+pub start-signs : (l : Bool) (d : List ℕ) (at : ℕ) → contentSigns l d (startOf at) ≡ signsFrom l d (begun at)
+unfolding contentSigns byteSigns encode
 start-signs l d at = refl
 
 -- where the decoder begins
 pub record Begun (l : Bool) (d : List ℕ) (at : ℕ) (c : Cursor) : Type 0 where
-  pub signs : signsAt l d c ≡ signsFrom l d (begun at)
+  pub signs : contentSigns l d c ≡ signsFrom l d (begun at)
   pub next : c .next ≤ length d
   pub small : c .code < 2097152
 
@@ -43,7 +43,7 @@ pub begins : (l : Bool) (d : List ℕ) (at : ℕ) (c : Cursor) → c ≡ startOf
 begins l d at c e h = rw e (record { signs = start-signs l d at; next = h; small = omega arith })
 
 pub record One (l : Bool) (d : List ℕ) (c : Cursor) (s : Sign) (c′ : Cursor) : Type 0 where
-  pub split : signsAt l d c ≡ s ∷ signsAt l d c′
+  pub split : contentSigns l d c ≡ s ∷ contentSigns l d c′
   pub next : c′ .next ≤ length d
   pub small : c′ .code < 2097152
 
@@ -53,7 +53,7 @@ told-one {l} {d} s c′ t e =
     let k = t .small in
     record { split = t .signs ∙ ap (partSigns l d) e; next = omega (arith, ap partNext e); small = omega (arith, ap partCode e) }
 
-pub told-over : {l : Bool} {d : List ℕ} {c : Cursor} {r : Part} → Tells l d c r → r ≡ part.Over → signsAt l d c ≡ []
+pub told-over : {l : Bool} {d : List ℕ} {c : Cursor} {r : Part} → Tells l d c r → r ≡ part.Over → contentSigns l d c ≡ []
 told-over {l} {d} t e = t .signs ∙ ap (partSigns l d) e
 
 pub room-short : (room n : ℕ) → room < n → Short ≡ roomOf room n
@@ -67,7 +67,7 @@ room-fits room n m h e = rw (le-ltb room n h, e)
 -- ---- the promise
 module _ (l : Bool) (d : List ℕ) (place long : ℕ) (list : List ℤ) where
   refuses : stretchText l d place long ≡ false → StretchDecoded l d place long list list decoded.NotText
-  unfolding said stretchAs listAfter
+  unfolding decodeSaid stretchAs signsAfter
   refuses e = record { says = rw e; leaves = rw e }
 
   pub beyond : length d < place + long → StretchDecoded l d place long list list decoded.NotText
@@ -75,11 +75,11 @@ module _ (l : Bool) (d : List ℕ) (place long : ℕ) (list : List ℤ) where
   beyond h = refuses (rw (lt-leb (place + long) (length d) h))
 
   module _ (h : place + long ≤ length d) where
-    pub no-text : textOf l (cutOff d place long) place ≡ false → StretchDecoded l d place long list list decoded.NotText
+    pub no-text : isText l (cutOff d place long) place ≡ false → StretchDecoded l d place long list list decoded.NotText
     unfolding stretchText
     no-text e = refuses (rw (le-leb (place + long) (length d) h, e))
 
-    is-text : textOf l (cutOff d place long) place ≡ true → stretchText l d place long ≡ true
+    is-text : isText l (cutOff d place long) place ≡ true → stretchText l d place long ≡ true
     unfolding stretchText
     is-text e = rw (le-leb (place + long) (length d) h, e)
 
@@ -101,10 +101,10 @@ module _ (l : Bool) (d : List ℕ) (place long : ℕ) (list : List ℤ) where
       by true k g = let z : _≡_ {A = ℕ} 0 1 = cc in absurd (omega arith)
       by false k g = (k, cc)
 
-    pub no-room : textOf l (cutOff d place long) place ≡ true → (r : Room) → r
+    pub no-room : isText l (cutOff d place long) place ≡ true → (r : Room) → r
         ≡ roomOf (length list) (length (signsFrom l (cutOff d place long) (begun place))) → r ≡ Short
         → StretchDecoded l d place long list list decoded.ShortList
-    unfolding said stretchAs listAfter fitting stretchSigns
+    unfolding decodeSaid stretchAs signsAfter decodeFitting stretchSigns
     no-room t r e f = let q = short-is r e f in record { says = rw (is-text t, q); leaves = rw (is-text t, q) }
 
     pub counted : (r : Room) (n : ℕ) → r ≡ roomOf (length list) (length (signsFrom l (cutOff d place long) (begun place))) → r ≡ Signs n
@@ -113,11 +113,11 @@ module _ (l : Bool) (d : List ℕ) (place long : ℕ) (list : List ℤ) where
     counted r n e f = let q = fits-is r n e f in let g = ltb-false (length list) (length (signsFrom l (cutOff d place long) (begun place)))
         (q .0) in let k = q .1 in (k, omega arith)
 
-    pub decodes : textOf l (cutOff d place long) place ≡ true → (r : Room) (n : ℕ) (list′ : List ℤ) → r
+    pub decodes : isText l (cutOff d place long) place ≡ true → (r : Room) (n : ℕ) (list′ : List ℤ) → r
         ≡ roomOf (length list) (length (signsFrom l (cutOff d place long) (begun place))) → r ≡ Signs n
         → list′ ≡ numbersOf (signsFrom l (cutOff d place long) (begun place)) ++ drop n list
         → StretchDecoded l d place long list list′ (decoded.Signs n)
-    unfolding said stretchAs listAfter fitting stretchSigns
+    unfolding decodeSaid stretchAs signsAfter decodeFitting stretchSigns
     decodes t r n list′ e f g =
         let q = fits-is r n e f in
         let k = q .1 in
@@ -136,11 +136,11 @@ module _ (l : Bool) (d : List ℕ) (place long : ℕ) where
   sound : stretchText l d place long ≡ true → StretchAt l d place long
   unfolding stretchText
   sound e =
-      let h = leb-true (place + long) (length d) (and-left (leb (place + long) (length d)) (textOf l (cutOff d place long) place) e) in
+      let h = leb-true (place + long) (length d) (and-left (leb (place + long) (length d)) (isText l (cutOff d place long) place) e) in
       record {
         inside = h;
         text = text-exactly l (cutOff d place long) place (cut-long d place long h) .0
-            (and-right (leb (place + long) (length d)) (textOf l (cutOff d place long) place) e);
+            (and-right (leb (place + long) (length d)) (isText l (cutOff d place long) place) e);
       }
 
   complete : StretchAt l d place long → stretchText l d place long ≡ true
@@ -160,5 +160,5 @@ stretch-says l d place long s = text-says l (cutOff d place long) place (cut-lon
 
 -- two answers for one stretch and one list are one
 pub stretch-once : {l : Bool} {d : List ℕ} {place long : ℕ} {list a b : List ℤ} {r t : Decoded} → StretchDecoded l d place long list a r
-    → StretchDecoded l d place long list b t → (said r ≡ said t) × (a ≡ b)
+    → StretchDecoded l d place long list b t → (decodeSaid r ≡ decodeSaid t) × (a ≡ b)
 stretch-once x y = (x .says ∙ sym (y .says), x .leaves ∙ sym (y .leaves))

@@ -18,7 +18,7 @@ use Rattle.quotient.specs.rule.Value.{valueOf}
 use Rattle.quotient.specs.Limits.{Scaled, Power}
 use Rattle.quotient.specs.Order.{value-order, value-real}
 use Rattle.summary.specs.declared.Summary.{Summary}
-use Rattle.summary.specs.rule.Summary.{none, lowerOf, higherOf, extendOf, extendedBy, summaryOf}
+use Rattle.summary.specs.rule.Summary.{noneSummed, lowerOf, higherOf, extendOf, extendedBy, summaryOf}
 
 -- the values of numbers over one power of ten
 unfoldable pub valuesOf : ℕ → List ℤ → List Float
@@ -164,7 +164,7 @@ module _ (p : ℕ) (P : Power p) where
         most = valueOf
             (firstOf above n ns) p;
       }
-  unfolding summaryOf none extendedBy extendOf valuesOf
+  unfolding summaryOf noneSummed extendedBy extendOf valuesOf
   summary-is n ns e = extended-is ns 0 n n (e .0) (e .0) (e .1) ∙ rw (suc-add 0 (length ns), zero-add)
 
   scaled-of : (ns : List ℤ) (m : ℤ) → Each ns → Among m ns → Scaled m
@@ -197,7 +197,7 @@ module _ (p : ℕ) (P : Power p) where
       })
 
 -- both zero where none is present
-pub summary-none : summaryOf [] ≡ none
+pub summary-none : summaryOf [] ≡ noneSummed
 unfolding summaryOf extendedBy
 summary-none = refl
 

@@ -2,7 +2,7 @@
 // stands the matrix.
 ghost use mathlib.Core.Path.{_≡_};
 ghost use Prim.Native.Nat.{_<_};
-ghost use Rattle.summary.specs.rule.Summary.{none, extendOf, lowerOf, higherOf};
+ghost use Rattle.summary.specs.rule.Summary.{noneSummed, extendOf, lowerOf, higherOf};
 
 pub struct Summary {
     pub count: u64,
@@ -11,7 +11,7 @@ pub struct Summary {
 }
 
 pub fn empty() -> Summary
-    ensures { λ r. ⌜ r ≡ none ⌝ }
+    ensures { λ r. ⌜ r ≡ noneSummed ⌝ }
 {
     Summary {
         count: 0,

@@ -12,7 +12,7 @@ use Rattle.attributes.specs.rule.Attribute.{attributeOf}
 use Rattle.attributes.specs.declared.Attribute.{Attribute}
 use Rattle.attributes.specs.declared.Attribute.the-variants.{One, Shut, Faulty}
 use Rattle.attributes.proofs.Exactly.{Attributed, attribute-exactly}
-use Rattle.tags.specs.rule.Tag.{slotOf, formOf, stretchFits, placedOf, putOf, missesOf, shutOf, turned, turnOf, turnsOf, nothing}
+use Rattle.tags.specs.rule.Tag.{slotOf, formOf, stretchFits, placedOf, putOf, missesOf, shutTag, turned, turnOf, turnsOf, nothingHeld}
 use Rattle.tags.specs.rule.Tag.{tagOf}
 use Rattle.tags.specs.declared.Held.{Held}
 use Rattle.tags.specs.declared.Tag.{Tag}
@@ -102,7 +102,7 @@ module _ (bad : Bool) (d : List ℕ) (opened : ℕ) (x y z : List ℕ) (f g k re
     by (Faulty p) o q = let t : _≡_ {A = ℕ} 0 1 = cc in absurd (omega arith)
 
   over-is : (h j : Held) (em : Bool) (p nx : ℕ) → turnOf bad d opened x y z f g k required h ≡ Over (Read j em p nx) → Tagged h j em p nx
-  unfolding turnOf shutOf
+  unfolding turnOf shutTag
   over-is h j em p nx q = by (attributeOf bad d opened (h .next)) refl q where
     here : (b : Bool) (em′ : Bool) (p′ nx′ : ℕ) → attributeOf bad d opened (h .next) ≡ Shut em′ p′ nx′ → missesOf required h ≡ b
         → Over (cond b (Fault 2 p′) (Read h em′ p′ nx′)) ≡ Over (Read j em p nx) → Tagged h j em p nx
@@ -144,7 +144,7 @@ module _ (bad : Bool) (d : List ℕ) (opened : ℕ) (x y z : List ℕ) (f g k re
 
   complete : {h j : Held} → Placed d x y z f g k h j → (em : Bool) (p nx : ℕ) → attributeOf bad d opened (j .next) ≡ Shut em p nx
       → missesOf required j ≡ false → turnsOf bad d opened x y z f g k required h ≡ Read j em p nx
-  unfolding turnOf shutOf
+  unfolding turnOf shutTag
   complete {h} none em p nx s m = turns-over bad d opened x y z f g k required h (Read h em p nx) (rw (s, m))
   complete {h} (one {i = i} a q r) em p nx s m =
       turns-next bad d opened x y z f g k required h i (rw (attribute-exactly bad d opened (h .next) .1 a) q) ∙ complete r em p nx s m
@@ -152,8 +152,8 @@ module _ (bad : Bool) (d : List ℕ) (opened : ℕ) (x y z : List ℕ) (f g k re
 -- TAG: it is read with j held exactly when attributes in XML's form, each of its element's once and of its form, lead to j, none that is
 -- required is missing, and the tag's end stands behind them
 pub tag-exactly : (bad : Bool) (d : List ℕ) (opened at : ℕ) (x y z : List ℕ) (f g k required : ℕ) (j : Held) (em : Bool) (p nx : ℕ)
-    → (tagOf bad d opened at x y z f g k required ≡ Read j em p nx) ↔ Tagged bad d opened x y z f g k required (nothing at) j em p nx
+    → (tagOf bad d opened at x y z f g k required ≡ Read j em p nx) ↔ Tagged bad d opened x y z f g k required (nothingHeld at) j em p nx
 tag-exactly bad d opened at x y z f g k required j em p nx = (
-  sound bad d opened x y z f g k required (length d) (nothing at) j em p nx (omega arith),
+  sound bad d opened x y z f g k required (length d) (nothingHeld at) j em p nx (omega arith),
   λ t. complete bad d opened x y z f g k required (t .placed) em p nx (t .shut) (t .whole),
 )

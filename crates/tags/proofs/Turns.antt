@@ -12,7 +12,7 @@ use Rattle.attributes.specs.rule.Attribute.{attributeOf}
 use Rattle.attributes.specs.declared.Attribute.{Attribute}
 use Rattle.attributes.specs.declared.Attribute.the-variants.{One, Shut, Faulty}
 use Rattle.attributes.proofs.Places.{attribute-one}
-use Rattle.tags.specs.rule.Tag.{slotOf, formOf, stretchFits, placedOf, putOf, shutOf, turned, turnOf, onTurn, turnsOf}
+use Rattle.tags.specs.rule.Tag.{slotOf, formOf, stretchFits, placedOf, putOf, shutTag, turned, turnOf, onTurn, turnsOf}
 use Rattle.tags.specs.declared.Held.{Held}
 use Rattle.tags.specs.declared.Tag.{Tag}
 use Rattle.tags.specs.declared.Tag.the-variants.{Read, Fault}

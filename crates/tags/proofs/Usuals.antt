@@ -19,7 +19,7 @@ use Rattle.markup.proofs.Stretches.{Stretch}
 use Rattle.attributes.specs.rule.Attribute.{valueMove, quotedOf, attributeOf}
 use Rattle.attributes.proofs.Values.{value-next, value-stop, quoted-sound}
 use Rattle.attributes.proofs.Exactly.{Attributed, attribute-exactly, plain, empty, shut-exactly}
-use Rattle.tags.specs.rule.Tag.{isNamed, slotOf, formOf, stretchFits, putOf, shutOf, turnOf, nothing}
+use Rattle.tags.specs.rule.Tag.{isNamed, slotOf, formOf, stretchFits, putOf, shutTag, turnOf, nothingHeld}
 use Rattle.tags.specs.Usual.{Usual, Valued, Given, EndAt, holding}
 use Rattle.tags.specs.declared.Held.{Held}
 use Rattle.tags.specs.declared.Turn.the-variants.{More, Over}
@@ -133,7 +133,7 @@ module _ (d : List ℕ) (p : ℕ) where
 
 -- ---- turns
 module _ (bad : Bool) (d : List ℕ) (opened : ℕ) (x y z : List ℕ) (f g k required : ℕ) where
-  pub turn-first : (p e : ℕ) → Given d p x f e → turnOf bad d opened x y z f g k required (nothing p)
+  pub turn-first : (p e : ℕ) → Given d p x f e → turnOf bad d opened x y z f g k required (nothingHeld p)
       ≡ More (holding (p + length x + 3) e 0 0 (e + 1))
   unfolding turnOf slotOf formOf putOf
   turn-first p e v = rw (v .reads bad opened) (rw (v .named) (rw (v .fits)))
@@ -144,6 +144,6 @@ module _ (bad : Bool) (d : List ℕ) (opened : ℕ) (x y z : List ℕ) (f g k re
   turn-second a ae p e v n = rw (v .reads bad opened) (rw (n, v .named) (rw (v .fits)))
 
   pub turn-end : (h : Held) (n : ℕ) → EndAt d (h .next) n → turnOf bad d opened x y z f g k required h
-      ≡ Over (shutOf required h (eqb n 2) (h .next) (h .next + n))
+      ≡ Over (shutTag required h (eqb n 2) (h .next) (h .next + n))
   unfolding turnOf
   turn-end h n e = rw (e .ends bad opened)

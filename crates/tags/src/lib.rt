@@ -7,7 +7,7 @@ ghost use mathlib.Core.Bool.{true, false, cond};
 ghost use lib.Dec.{eqb};
 ghost use Prim.Native.Nat.{_+_, _-_, _≤_, _<_};
 ghost use lib.ListN.{length, drop};
-ghost use Rattle.tags.specs.rule.Tag.{isNamed, slotOf, formOf, stretchFits, placedOf, putOf, missesOf, shutOf, turnOf, turnsOf};
+ghost use Rattle.tags.specs.rule.Tag.{isNamed, slotOf, formOf, stretchFits, placedOf, putOf, missesOf, shutTag, turnOf, turnsOf};
 ghost use Rattle.tags.specs.rule.Tag.{tagOf};
 ghost use Rattle.markup.specs.rule.Bytes.{ofKind, stands};
 ghost use Rattle.markup.specs.rule.Grammar.{Each};
@@ -151,7 +151,7 @@ fn misses(required: usize, h: Held) -> bool
 }
 
 fn shut(required: usize, h: Held, empty: bool, place: usize, next: usize) -> Tag
-    ensures { λ r. ⌜ r ≡ shutOf required h empty place next ⌝ }
+    ensures { λ r. ⌜ r ≡ shutTag required h empty place next ⌝ }
 {
     if misses(required, h) {
         return Tag::Fault { number: 2, place };

@@ -20,7 +20,7 @@ use Rattle.marks.specs.rule.Spelling.{givesOf, decodeOf}
 use Rattle.marks.specs.Spelling.{Pairs, last, more, Piece, plain, quote, brace, line, bytes, Spelt, closed, piece}
 use Rattle.marks.proofs.Complete.{skip-piece, string-decoded, string-complete}
 use Rattle.marks.proofs.Spellings.{string-exactly}
-use Rattle.texts.specs.rule.Decode.{cutOff, insideText, signsAt, numbersOf, decodedAs, Outcome, signs, refused, fitting}
+use Rattle.texts.specs.rule.Decode.{cutOff, insideText, signsAt, numbersOf, decodedAs, DecodeOutcome, signs, refused, decodeFitting}
 use Rattle.text_laws.specs.Cut.{none, inside-exactly}
 
 -- ---- by computation, over bytes
@@ -47,31 +47,31 @@ numbers-apart = (refl, refl)
 
 -- the call on `a{NL}b` in a list with room for three, for two; on `{nl}`, on a quote, on an unfinished form, beyond the end
 three-signs : decodedAs (97 ∷ 123 ∷ 78 ∷ 76 ∷ 125 ∷ 98 ∷ []) 0 6 3 ≡ signs 3
-unfolding decodedAs insideText fitting stringOf signsAt text kept decodeOf givesOf insideOf isHex isDigit classOf upperOf
+unfolding decodedAs insideText decodeFitting stringOf signsAt text kept decodeOf givesOf insideOf isHex isDigit classOf upperOf
 three-signs = refl
 
 no-room : decodedAs (97 ∷ 123 ∷ 78 ∷ 76 ∷ 125 ∷ 98 ∷ []) 0 6 2 ≡ refused 25
-unfolding decodedAs insideText fitting stringOf signsAt text kept decodeOf givesOf insideOf isHex isDigit classOf upperOf
+unfolding decodedAs insideText decodeFitting stringOf signsAt text kept decodeOf givesOf insideOf isHex isDigit classOf upperOf
 no-room = refl
 
 small-letters : decodedAs (123 ∷ 110 ∷ 108 ∷ 125 ∷ []) 0 4 9 ≡ refused 3
-unfolding decodedAs insideText fitting stringOf signsAt text kept decodeOf givesOf insideOf isHex isDigit classOf upperOf
+unfolding decodedAs insideText decodeFitting stringOf signsAt text kept decodeOf givesOf insideOf isHex isDigit classOf upperOf
 small-letters = refl
 
 bare-quote : decodedAs (97 ∷ 34 ∷ 98 ∷ []) 0 3 9 ≡ refused 3
-unfolding decodedAs insideText fitting stringOf signsAt text kept decodeOf givesOf insideOf isHex isDigit classOf upperOf
+unfolding decodedAs insideText decodeFitting stringOf signsAt text kept decodeOf givesOf insideOf isHex isDigit classOf upperOf
 bare-quote = refl
 
 cut-form : decodedAs (97 ∷ 123 ∷ 48 ∷ 65 ∷ 125 ∷ []) 0 4 9 ≡ refused 3
-unfolding decodedAs insideText fitting stringOf signsAt text kept decodeOf givesOf insideOf isHex isDigit classOf upperOf
+unfolding decodedAs insideText decodeFitting stringOf signsAt text kept decodeOf givesOf insideOf isHex isDigit classOf upperOf
 cut-form = refl
 
 past-the-end : decodedAs (97 ∷ []) 1 1 9 ≡ refused 3
-unfolding decodedAs insideText fitting stringOf signsAt text kept decodeOf givesOf insideOf isHex isDigit classOf upperOf
+unfolding decodedAs insideText decodeFitting stringOf signsAt text kept decodeOf givesOf insideOf isHex isDigit classOf upperOf
 past-the-end = refl
 
 nothing-at-the-end : decodedAs (97 ∷ []) 1 0 0 ≡ signs 0
-unfolding decodedAs insideText fitting stringOf signsAt text kept decodeOf givesOf insideOf isHex isDigit classOf upperOf
+unfolding decodedAs insideText decodeFitting stringOf signsAt text kept decodeOf givesOf insideOf isHex isDigit classOf upperOf
 nothing-at-the-end = refl
 
 -- ---- which sign is a break, and which piece is {NL}

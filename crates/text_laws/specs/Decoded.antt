@@ -12,8 +12,8 @@ use Rattle.marks.specs.declared.Skip.the-variants.{Past}
 use Rattle.marks.specs.rule.Marks.{stringOf}
 use Rattle.marks.specs.rule.Spelling.{decodeOf}
 use Rattle.values.specs.declared.Said.{Said}
-use Rattle.survey.specs.rule.Survey.{Text, Line, Variable}
-use Rattle.survey.specs.rule.Table.{linesOf, columnsOf}
+use Rattle.survey.specs.rule.Survey.{KeptText, Line, Variable}
+use Rattle.survey.specs.rule.Table.{linesOf, variableColumns}
 use Rattle.layout.specs.declared.Columns.{Columns}
 use Rattle.measures.specs.Width.{plainColumns, widened, fullColumns}
 use Rattle.measures.specs.Survey.{columnsIn}
@@ -23,24 +23,25 @@ use Rattle.bridge.specs.Blocks as blocks
 use Rattle.bridge.specs.Entries.{SameVariable}
 use Rattle.definition.specs.Books as books
 use Rattle.definition.specs.rule.Definition as definition
-use Rattle.definition.specs.rule.Definition.{Built, outcomeOf}
+use Rattle.definition.specs.rule.Definition.{Built, sssOutcome}
 use Rattle.definition.proofs.Bridge.{Sames, SameOutcome, outcome-same}
 use Rattle.definition.proofs.Bridge as bridge
 use Rattle.texts.specs.declared.Decoded.{Decoded}
 use Rattle.texts.specs.declared.Decoded.the-variants as decoded
-use Rattle.texts.specs.rule.Decode.{insideText, signsAt, numbersOf, Outcome, signs, refused, said, fitting, decodedAs, listAfter}
+use Rattle.texts.specs.rule.Decode.{insideText, signsAt, numbersOf, DecodeOutcome, signs, refused, decodeSaid, decodeFitting, decodedAs}
+use Rattle.texts.specs.rule.Decode.{signsAfter}
 use Rattle.texts.specs.rule.Decode.{TextDecoded}
 use Rattle.text_laws.specs.Cut.{none, Says, string-says}
 use Rattle.text_laws.specs.Stand.{Each, nil, more, LineStands, VariableStands, built-stands}
 
 -- ---- NO TWO OUTCOMES
 -- the answer that says an outcome
-abbrev unsaid : Outcome → Decoded
+abbrev unsaid : DecodeOutcome → Decoded
 unsaid (signs n) = decoded.Signs n
 unsaid (refused k) = cond (eqb k 3) decoded.NotText decoded.ShortList
 
-said-back : (r : Decoded) → unsaid (said r) ≡ r
-unfolding said
+said-back : (r : Decoded) → unsaid (decodeSaid r) ≡ r
+unfolding decodeSaid
 said-back (decoded.Signs n) = refl
 said-back decoded.NotText = refl
 said-back decoded.ShortList = refl
@@ -52,13 +53,13 @@ text-settled d place long list l₁ l₂ r₁ r₂ a b =
 
 -- ---- THE TEXTS OF A TABLE
 -- the call decodes the text q of the definition d: whatever the list, its answer is that of the text's signs, and 3 is none
-pub record Decodes (d : List ℕ) (q : Text) : Type 0 where
+pub record Decodes (d : List ℕ) (q : KeptText) : Type 0 where
   pub inside : insideText d (q .place) (q .length) ≡ true
   pub decodes : signsAt d (q .place) (q .length) ≡ decodeOf Plain 0 (text d (q .place))
   pub answers : {list list′ : List ℤ} {r : Decoded} → TextDecoded d (q .place) (q .length) list list′ r
-      → said r ≡ fitting (length list) (decodeOf Plain 0 (text d (q .place)))
+      → decodeSaid r ≡ decodeFitting (length list) (decodeOf Plain 0 (text d (q .place)))
 
-pub decodes-of : (d : List ℕ) (q : Text) → Says d (q .place) (q .length) → Decodes d q
+pub decodes-of : (d : List ℕ) (q : KeptText) → Says d (q .place) (q .length) → Decodes d q
 unfolding decodedAs
 decodes-of d q s = record {
   inside = s .inside;
@@ -84,7 +85,7 @@ module _ (d : List ℕ) where
 
   -- what the code's books have of a variable is what the rule has of it
   variable-decodes : {v : kept.Variable} {w : Variable} → SameVariable d v w → VariableStands d v → VariableDecodes d w
-  unfolding columnsIn fullColumns widened plainColumns columnsOf
+  unfolding columnsIn fullColumns widened plainColumns variableColumns
   variable-decodes {v} {w} h s =
       let c = h .columns 0 in
       let e : v .head .name .length ≡ w .name .length = ap (λ (x : Columns). x .«name_len») c in
@@ -101,9 +102,9 @@ module _ (d : List ℕ) where
   variables-decode (bridge.more h r) (more s k) = more (variable-decodes h s) (variables-decode r k)
 
 -- every text of every variable that was read
-pub texts-decode : (d : List ℕ) (n : ℕ) (l : List Variable) → outcomeOf d n ≡ Built l → Each (VariableDecodes d) l
+pub texts-decode : (d : List ℕ) (n : ℕ) (l : List Variable) → sssOutcome d n ≡ Built l → Each (VariableDecodes d) l
 texts-decode d n l e = by refl (outcome-same d n) e where
-  by : {o : books.Outcome} {q : definition.Outcome} → books.outcomeIn d n ≡ o → SameOutcome d o q → q ≡ Built l
+  by : {o : books.Outcome} {q : definition.SssOutcome} → books.outcomeIn d n ≡ o → SameOutcome d o q → q ≡ Built l
       → Each (VariableDecodes d) l
   by i (bridge.built {l = k} {m = m} s) e = let j : m ≡ l = cc in rw (← j) (variables-decode d s (built-stands d n k i))
   by i bridge.refused e = none cc

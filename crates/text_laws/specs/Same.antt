@@ -16,14 +16,14 @@ use Rattle.ascii.specs.rule.Class.{classOf, upperOf, within}
 use Rattle.signs.specs.declared.Sign.{Sign}
 use Rattle.signs.specs.declared.Sign.the-variants.{Byte, Break}
 use Rattle.scan.specs.rule.Number.{isDigit}
-use Rattle.names.specs.rule.Standard.{isLetter, lettersOrDigits, beginsWithLetter, wellNamed, sameSign, agree}
+use Rattle.names.specs.rule.Standard.{isLetter, lettersOrDigits, beginsWithLetter, wellNamed, sameCapital, agree}
 use Rattle.names.specs.rule.Standard.{nameAt, nameWrong, nameFaultFrom}
 use Rattle.names.specs.rule.Standard.{nameFault}
 use Rattle.names.proofs.Capitals.{letter-upper, digit-upper}
 use Rattle.survey.specs.rule.Survey.{Variable, Survey}
 use Rattle.reading.specs.rule.Result.{Result, Is, Not}
 use Rattle.reading.specs.rule.Whole.{surveyOf}
-use Rattle.definition.specs.rule.Definition.{namesOf, quoteAt, Outcome, Refusal, fitting, judgeNames, settled, outcomeOf}
+use Rattle.definition.specs.rule.Definition.{namesOf, quoteAt, SssOutcome, Refusal, sssFitting, judgeNames, sssSettled, sssOutcome}
 use Rattle.text_laws.specs.Cut.{none}
 use Rattle.text_laws.specs.Breaks.{breakAt}
 
@@ -41,16 +41,16 @@ flatAll [] = []
 flatAll (s ∷ l) = flat s ∷ flatAll l
 
 -- the outcome as it was
-unfoldable pub namedFlat : List ℕ → ℕ → Bool → List Variable → Outcome
+unfoldable pub namedFlat : List ℕ → ℕ → Bool → List Variable → SssOutcome
 namedFlat d n standard l =
     let i = nameFault (flatAll (namesOf d l)) in
-    cond standard (cond (ltb i (length l)) (Refusal 9 (quoteAt l i)) (fitting n l)) (fitting n l)
+    cond standard (cond (ltb i (length l)) (Refusal 9 (quoteAt l i)) (sssFitting n l)) (sssFitting n l)
 
-abbrev pub settledFlat : List ℕ → ℕ → Result Survey → Outcome
+abbrev pub settledFlat : List ℕ → ℕ → Result Survey → SssOutcome
 settledFlat d n (Is s m) = namedFlat d n (s .heading .standard) (s .variables)
 settledFlat d n (Not f) = Refusal (f .number) (f .place)
 
-unfoldable pub outcomeFlat : List ℕ → ℕ → Outcome
+unfoldable pub outcomeFlat : List ℕ → ℕ → SssOutcome
 outcomeFlat d n = cond (ltb 1048576 (length d)) (Refusal 1 0) (settledFlat d n (surveyOf d))
 
 -- ---- byte 10 is neither letter nor digit, nor is a break
@@ -153,10 +153,10 @@ unfolding nameFault
 flat-fault l = rw (flat-count l) (flat-from l (length l) 0)
 
 -- SAME: every definition is read or refused as before, with the same number and place
-pub same-refusals : (d : List ℕ) (n : ℕ) → outcomeFlat d n ≡ outcomeOf d n
-unfolding outcomeFlat outcomeOf namedFlat judgeNames
+pub same-refusals : (d : List ℕ) (n : ℕ) → outcomeFlat d n ≡ sssOutcome d n
+unfolding outcomeFlat sssOutcome namedFlat judgeNames
 same-refusals d n = ap (cond (ltb 1048576 (length d)) (Refusal 1 0)) (by (surveyOf d)) where
-  by : (r : Result Survey) → settledFlat d n r ≡ settled d n r
+  by : (r : Result Survey) → settledFlat d n r ≡ sssSettled d n r
   by (Is s m) = rw (flat-fault (namesOf d (s .variables)))
   by (Not f) = refl
 
@@ -190,8 +190,8 @@ names-count d (v ∷ l) = ap suc (names-count d l)
 -- UNDER 9: a definition that is read with STANDARD NAMES, and has a break in name i, is refused with 9, at that name or one before it
 pub break-nine : (d : List ℕ) (n : ℕ) (s : Survey) (m i k : ℕ) → length d ≤ 1048576 → surveyOf d ≡ Is s m → s .heading .standard ≡ true
     → i < length (s .variables) → breakAt (nameAt (namesOf d (s .variables)) i) k ≡ true
-    → (j : ℕ) × (j ≤ i) × (outcomeOf d n ≡ Refusal 9 (quoteAt (s .variables) j))
-unfolding outcomeOf judgeNames nameFault nameWrong
+    → (j : ℕ) × (j ≤ i) × (sssOutcome d n ≡ Refusal 9 (quoteAt (s .variables) j))
+unfolding sssOutcome judgeNames nameFault nameWrong
 break-nine d n s m i k long read standard few e =
     let l = namesOf d (s .variables) in
     let w : nameWrong l i ≡ true = rw (break-refused (nameAt l i) k e) in

@@ -18,7 +18,7 @@ use Rattle.values.specs.declared.Said.{Said}
 use Rattle.values.specs.Line.{lineCells, cellsOf}
 use Rattle.values.proofs.Rooms.{cells-length}
 use Rattle.sound.specs.rule.Sound.{columnsOf}
-use Rattle.survey.specs.rule.Survey.{Text}
+use Rattle.survey.specs.rule.Survey.{KeptText}
 use Rattle.measures.specs.Survey.{Variable, linesIn, columnsIn, countedIn, linesAll, tableOf}
 use Rattle.measures.specs.Width.{plainColumns, widened, fullColumns}
 use Rattle.measures.specs.Good.{Good}
@@ -27,7 +27,7 @@ use Rattle.built.specs.Nth.{Nth, nth}
 use Rattle.built.specs.Cells.{laid, columns-of, line-of}
 use Rattle.definition.specs.declared.Answer.the-variants as answer
 use Rattle.definition.specs.Books.{Outcome, Built, Refusal, answerIn, tableIn, outcomeIn}
-use Rattle.definition.specs.rule.Definition.{DefinitionRead}
+use Rattle.definition.specs.rule.Definition.{SssRead}
 use Rattle.definition.proofs.Bridge.{answer-same, table-same}
 use Rattle.definition.proofs.Goods.{built-good}
 use Rattle.text_laws.specs.Cut.{none, string-says}
@@ -35,13 +35,13 @@ use Rattle.text_laws.specs.Stand.{Each, nil, more, LineStands, VariableS
 use Rattle.text_laws.specs.Decoded.{Decodes, decodes-of}
 
 -- the texts that the numbers of a row and of a line tell of
-abbrev pub nameOf : Columns → Text
+abbrev pub nameOf : Columns → KeptText
 nameOf c = record { place = c .name; length = c .«name_len» }
 
-abbrev pub labelOf : Columns → Text
+abbrev pub labelOf : Columns → KeptText
 labelOf c = record { place = c .label; length = c .«label_len» }
 
-abbrev pub textOf : Line → Text
+abbrev pub textOf : Line → KeptText
 textOf s = record { place = s .text; length = s .«text_len» }
 
 -- row i of v rows: the call decodes its name, its label and the texts of its lines
@@ -96,7 +96,7 @@ module _ (d : List ℕ) where
         }
 
 -- TABLE: every text of a table that was read
-pub table-decodes : {d : List ℕ} {t t′ : List ℤ} {v e : ℕ} → DefinitionRead d t t′ (answer.Read v e) → (i : ℕ) → i < v
+pub table-decodes : {d : List ℕ} {t t′ : List ℤ} {v e : ℕ} → SssRead d t t′ (answer.Read v e) → (i : ℕ) → i < v
     → RowDecodes d t′ v i
 unfolding answerIn tableIn
 table-decodes {d} {t} {t′} {v} {e} w i h = by (outcomeIn d (length t)) refl where

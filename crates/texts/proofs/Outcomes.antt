@@ -14,14 +14,15 @@ use Rattle.marks.specs.rule.Spelling.{decodeOf}
 use Rattle.texts.specs.declared.Extent.{Extent}
 use Rattle.texts.specs.declared.Extent.the-variants.{Signs, NotText}
 use Rattle.texts.specs.declared.Decoded.the-variants as decoded
-use Rattle.texts.specs.rule.Decode.{cutOff, insideText, signsAt, numbersOf, said, fitting, decodedAs, listAfter, TextDecoded}
+use Rattle.texts.specs.rule.Decode.{cutOff, insideText, signsAt, numbersOf, decodeSaid, decodeFitting, decodedAs, signsAfter}
+use Rattle.texts.specs.rule.Decode.{TextDecoded}
 use Rattle.texts.specs.Measured.{measureFrom}
 use Rattle.texts.proofs.Measures.{measure-is}
 
 module _ (d : List ℕ) (place long : ℕ) (list : List ℤ) where
   -- no text: 3, and the list is kept
   refuses : insideText d place long ≡ false → TextDecoded d place long list list decoded.NotText
-  unfolding said decodedAs listAfter
+  unfolding decodeSaid decodedAs signsAfter
   refuses e = record { says = rw e; leaves = rw e }
 
   pub beyond : length d < place + long → TextDecoded d place long list list decoded.NotText
@@ -51,7 +52,7 @@ module _ (d : List ℕ) (place long : ℕ) (list : List ℤ) where
 
     -- a text that the list has no room for: 25, and the list is kept
     pub no-room : {n : ℕ} → r ≡ Signs n → length list < n → TextDecoded d place long list list decoded.ShortList
-    unfolding said decodedAs listAfter fitting
+    unfolding decodeSaid decodedAs signsAfter decodeFitting
     no-room f g =
         let m = measures f in
         let l : ltb (length list) (length (signsAt d place long)) ≡ true = lt-ltb _ _ (rw (m .1) at g) in
@@ -61,7 +62,7 @@ module _ (d : List ℕ) (place long : ℕ) (list : List ℤ) where
     pub decodes : {n : ℕ} {list′ : List ℤ} → r ≡ Signs n → n ≤ length list → list′
         ≡ numbersOf (decodeOf Plain 0 (text (cutOff d place long) place)) ++ drop n list
         → TextDecoded d place long list list′ (decoded.Signs n)
-    unfolding said decodedAs listAfter fitting signsAt
+    unfolding decodeSaid decodedAs signsAfter decodeFitting signsAt
     decodes f g q =
         let m = measures f in
         let l : ltb (length list) (length (signsAt d place long)) ≡ false = le-ltb _ _ (rw (m .1) at g) in

@@ -20,7 +20,7 @@ use Rattle.marks.specs.declared.Inside.{Inside}
 use Rattle.marks.specs.declared.Inside.the-variants.{Plain, Opened, Shut, Ell, Pair, Low}
 use Rattle.marks.specs.declared.Move.the-variants.{Go, Closed, Wrong}
 use Rattle.marks.specs.rule.Marks.{isHex, insideOf}
-use Rattle.marks.specs.rule.Spelling.{hexOf, pairOf, givesOf, gone, decodeOf}
+use Rattle.marks.specs.rule.Spelling.{hexOf, hexPair, givesOf, gone, decodeOf}
 use Rattle.marks.proofs.Complete.{before}
 use Rattle.marks.proofs.Parts.{hex-letter}
 use Rattle.texts.specs.Measured.{isMark, completes, measured, measureFrom, Says, formSign, Form, FormEnd}
@@ -79,11 +79,11 @@ module _ (d : List ℕ) where
     second = let y : n + 1 + 1 ≡ n + 2 = omega arith in
         rw (← y) (here (n + 1) (getD d (n + 1) 0) (omega arith) refl (hex-kept (getD d (n + 1) 0) g))
 
-    pair-on : PairSays d o n (Byte (pairOf (getD d n 0) (getD d (n + 1) 0))) (n + 2) (Pair o)
+    pair-on : PairSays d o n (Byte (hexPair (getD d n 0) (getD d (n + 1) 0))) (n + 2) (Pair o)
     unfolding decodeOf givesOf insideOf measureFrom completes
     pair-on = record {
       hex = f;
-      split = rw (second, g) (ap (λ r. Byte (pairOf (getD d n 0) (getD d (n + 1) 0)) ∷ r) (idle-pair (getD d (n + 1) 0) (text d (n + 2))));
+      split = rw (second, g) (ap (λ r. Byte (hexPair (getD d n 0) (getD d (n + 1) 0)) ∷ r) (idle-pair (getD d (n + 1) 0) (text d (n + 2))));
       counts = λ c. rw (second, g);
       ahead = omega arith;
       within = omega arith;
@@ -92,7 +92,7 @@ module _ (d : List ℕ) where
       idle-pair y (stop p) = refl
       idle-pair y (sign p b t) = refl
 
-    pair-shut : n + 3 ≤ length d → getD d (n + 2) 0 ≡ 125 → PairSays d o n (Byte (pairOf (getD d n 0) (getD d (n + 1) 0))) (n + 3) Plain
+    pair-shut : n + 3 ≤ length d → getD d (n + 2) 0 ≡ 125 → PairSays d o n (Byte (hexPair (getD d n 0) (getD d (n + 1) 0))) (n + 3) Plain
     unfolding decodeOf givesOf insideOf measureFrom completes
     pair-shut l e =
         let y : n + 2 + 1 ≡ n + 3 = omega arith in
@@ -106,7 +106,7 @@ module _ (d : List ℕ) where
         }
 
     -- PAIR: one more pair of a form
-    pub pair-step : Says d (Pair o) n (Byte (pairOf (getD d n 0) (getD d (n + 1) 0))) (n + 2) (Pair o)
+    pub pair-step : Says d (Pair o) n (Byte (hexPair (getD d n 0) (getD d (n + 1) 0))) (n + 2) (Pair o)
     pair-step = pair-says o n h pair-on
 
   -- ---- forms

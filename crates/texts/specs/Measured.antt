@@ -19,7 +19,7 @@ use Rattle.marks.specs.rule.Marks.{isHex, insideOf}
 use Rattle.texts.specs.declared.Pace.{Pace}
 use Rattle.texts.specs.declared.Pace.the-variants.{On}
 use Rattle.texts.specs.declared.Pace.the-variants as pace
-use Rattle.marks.specs.rule.Spelling.{pairOf, givesOf, decodeOf}
+use Rattle.marks.specs.rule.Spelling.{hexPair, givesOf, decodeOf}
 use Rattle.texts.specs.declared.Extent.{Extent}
 use Rattle.texts.specs.declared.Extent.the-variants.{Signs, NotText}
 use Rattle.texts.specs.declared.Run.{Run}
@@ -88,7 +88,7 @@ pub record Says (d : List ℕ) (s : Inside) (n : ℕ) (x : Sign) (m : ℕ) (t : 
 unfoldable pub formSign : List ℕ → ℕ → Sign
 formSign d n =
     let b = getD d (n + 1) 0 in
-    cond (eqb b 78) Break (cond (isMark b) (Byte b) (Byte (pairOf b (getD d (n + 2) 0))))
+    cond (eqb b 78) Break (cond (isMark b) (Byte b) (Byte (hexPair b (getD d (n + 2) 0))))
 
 -- such a form from n to m
 pub record Form (d : List ℕ) (n m : ℕ) : Type 0 where

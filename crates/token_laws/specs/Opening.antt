@@ -10,7 +10,7 @@ use lib.Dec.{eqb, ltb, leb}
 use borrow.Author.Tests.{eqb-true, eqb-false, eq-eqb, ne-eqb, ltb-false}
 use Rattle.ascii.specs.rule.Class.{classOf, upperOf}
 use Rattle.scan.specs.rule.Text.{Text, stop, sign, text, placeOf}
-use Rattle.scan.specs.rule.Number.{isSpace, isDigit, isValue, runOf, bytesOf}
+use Rattle.scan.specs.rule.Number.{isSpace, isDigit, isValue, runOf, runBytes}
 use Rattle.scan.specs.rule.Word.{wordOf, wordAt}
 use Rattle.scan.specs.Word.{Written, capitals}
 use Rattle.scan.specs.declared.Word.{Word}
@@ -90,11 +90,11 @@ pub data Goes (d : List ℕ) (n : ℕ) : Type 0 where
 -- what the opening says: 1.1, with what is read next behind it; or 2 at what stands where SSS, VERSION or a run is due; or 4 at a run that
 -- is not 1.1
 pub data Opens (d : List ℕ) : Reading → Type 0 where
-  one-one : {a p : ℕ} → Goes d a → Spaces d a p → bytesOf isValue (text d p) ≡ ONE-ONE → Opens d (At (runOf isValue p (text d p)))
+  one-one : {a p : ℕ} → Goes d a → Spaces d a p → runBytes isValue (text d p) ≡ ONE-ONE → Opens d (At (runOf isValue p (text d p)))
   sss-due : ((n : ℕ) → Begins d n → ⊥) → Opens d (Refused (fault 2 (placeOf (text d 0))))
   version-due : {a p : ℕ} → Begins d a → Spaces d a p → ((n : ℕ) → Written VERSION p (text d p) n → ⊥) → Opens d (Refused (fault 2 p))
-  run-due : {a p : ℕ} → Goes d a → Spaces d a p → bytesOf isValue (text d p) ≡ [] → Opens d (Refused (fault 2 p))
-  other-run : {a p : ℕ} → Goes d a → Spaces d a p → (bytesOf isValue (text d p) ≡ [] → ⊥) → (bytesOf isValue (text d p) ≡ ONE-ONE → ⊥)
+  run-due : {a p : ℕ} → Goes d a → Spaces d a p → runBytes isValue (text d p) ≡ [] → Opens d (Refused (fault 2 p))
+  other-run : {a p : ℕ} → Goes d a → Spaces d a p → (runBytes isValue (text d p) ≡ [] → ⊥) → (runBytes isValue (text d p) ≡ ONE-ONE → ⊥)
       → Opens d (Refused (fault 4 p))
 
 -- ---- spaces
@@ -142,16 +142,16 @@ first-of x w m at (sign p b u) h e = by (eqb (upperOf b) x) refl e where
   by false f e = let z : _≡_ {A = ℕ} 0 1 = cc in absurd (omega arith)
 
 data Head (x : ℕ) (s : List ℕ) : Text → Type 0 where
-  head : {p : ℕ} {u : Text} → bytesOf isValue u ≡ s → Head x s (sign p x u)
+  head : {p : ℕ} {u : Text} → runBytes isValue u ≡ s → Head x s (sign p x u)
 
-head-of : (x : ℕ) (s : List ℕ) (t : Text) → bytesOf isValue t ≡ x ∷ s → Head x s t
-unfolding bytesOf
+head-of : (x : ℕ) (s : List ℕ) (t : Text) → runBytes isValue t ≡ x ∷ s → Head x s t
+unfolding runBytes
 head-of x s (stop p) e = let z : _≡_ {A = ℕ} 0 1 = cc in absurd (omega arith)
 head-of x s (sign p b u) e = by (isValue b) e where
-  by : (q : Bool) → cond q (b ∷ bytesOf isValue u) [] ≡ x ∷ s → Head x s (sign p b u)
+  by : (q : Bool) → cond q (b ∷ runBytes isValue u) [] ≡ x ∷ s → Head x s (sign p b u)
   by true e =
       let h : b ≡ x = cc in
-      let i : bytesOf isValue u ≡ s = cc in
+      let i : runBytes isValue u ≡ s = cc in
       rw h (head i)
   by false e = let z : _≡_ {A = ℕ} 0 1 = cc in absurd (omega arith)
 
@@ -176,12 +176,12 @@ module _ (d : List ℕ) where
     by (first {p = p} {u = u} f) = by-2 (first-of 46 (49 ∷ []) m (p + 1) u (omega arith) f)
 
   -- matched up to the run's end, it is the run
-  matched-run : {n : ℕ} {t : Text} → From d n t → Ones n (runOf isValue n t) t → bytesOf isValue t ≡ ONE-ONE
-  unfolding bytesOf runOf isValue isDigit classOf
+  matched-run : {n : ℕ} {t : Text} → From d n t → Ones n (runOf isValue n t) t → runBytes isValue t ≡ ONE-ONE
+  unfolding runBytes runOf isValue isDigit classOf
   matched-run r (ones e) = rw (run-empty d (tail (tail (tail r))) .0 e)
 
   -- and a run 1.1 is matched up to its end
-  run-matched : {n : ℕ} {t : Text} → From d n t → bytesOf isValue t ≡ ONE-ONE → wordOf n t ONE-ONE ≡ Matched (runOf isValue n t)
+  run-matched : {n : ℕ} {t : Text} → From d n t → runBytes isValue t ≡ ONE-ONE → wordOf n t ONE-ONE ≡ Matched (runOf isValue n t)
   unfolding wordOf upperOf runOf isValue isDigit classOf
   run-matched {n} {t} r e = by (head-of 49 (46 ∷ 49 ∷ []) t e) r where
     by-3 : {p q : ℕ} {u : Text} → Head 49 [] u → From d n (sign p 49 (sign q 46 u))
@@ -197,7 +197,7 @@ module _ (d : List ℕ) where
 
   -- ---- the version
   abbrev runAt : ℕ → List ℕ
-  runAt p = bytesOf isValue (text d p)
+  runAt p = runBytes isValue (text d p)
 
   abbrev past : ℕ → ℕ
   past p = runOf isValue p (text d p)

@@ -11,7 +11,7 @@ use lib.ListN.{length}
 use borrow.Author.Tests.{eqb-true, eq-eqb, ne-eqb, ltb-true, ltb-false}
 use Rattle.ascii.specs.rule.Class.{classOf}
 use Rattle.scan.specs.rule.Text.{Text, stop, sign, text}
-use Rattle.scan.specs.rule.Number.{isDigit, isValue, runOf, bytesOf, decimalOf}
+use Rattle.scan.specs.rule.Number.{isDigit, isValue, runOf, runBytes, decimalOf}
 use Rattle.scan.specs.Number.{capped, digitsFrom}
 use Rattle.scan.proofs.Texts.{From, at-stop, at-sign, from-text}
 use Rattle.scan.proofs.Runs.{held}
@@ -54,38 +54,38 @@ digit-value b e = rw e
 
 module _ (d : List ℕ) where
   abbrev runAt : ℕ → List ℕ
-  runAt n = bytesOf isValue (text d n)
+  runAt n = runBytes isValue (text d n)
 
   abbrev digitsAt : ℕ → List ℕ
-  digitsAt n = bytesOf isDigit (text d n)
+  digitsAt n = runBytes isDigit (text d n)
 
   abbrev past : ℕ → ℕ
   past n = runOf isDigit n (text d n)
 
   -- digits, and what the run has behind them
-  after-digits : {n : ℕ} {t : Text} → From d n t → t ≡ text d n → bytesOf isValue t ≡ bytesOf isDigit t ++ runAt (runOf isDigit n t)
-  unfolding bytesOf runOf
-  after-digits at-stop q = ap (bytesOf isValue) q
+  after-digits : {n : ℕ} {t : Text} → From d n t → t ≡ text d n → runBytes isValue t ≡ runBytes isDigit t ++ runAt (runOf isDigit n t)
+  unfolding runBytes runOf
+  after-digits at-stop q = ap (runBytes isValue) q
   after-digits {n} (at-sign {p = p} {b = b} {u = u} g w i r) q = by (isDigit b) refl (after-digits r i) where
-    by : (x : Bool) → isDigit b ≡ x → bytesOf isValue u ≡ bytesOf isDigit u ++ runAt (runOf isDigit (p + 1) u)
-        → bytesOf isValue (sign p b u) ≡ cond x (b ∷ bytesOf isDigit u) [] ++ runAt (cond x (runOf isDigit (p + 1) u) n)
+    by : (x : Bool) → isDigit b ≡ x → runBytes isValue u ≡ runBytes isDigit u ++ runAt (runOf isDigit (p + 1) u)
+        → runBytes isValue (sign p b u) ≡ cond x (b ∷ runBytes isDigit u) [] ++ runAt (cond x (runOf isDigit (p + 1) u) n)
     by true f ih = rw (digit-value b f) (ap (λ (l : List ℕ). b ∷ l) ih)
-    by false f ih = ap (bytesOf isValue) q
+    by false f ih = ap (runBytes isValue) q
 
-  all-digits : (t : Text) → Digits (bytesOf isDigit t)
-  unfolding bytesOf
+  all-digits : (t : Text) → Digits (runBytes isDigit t)
+  unfolding runBytes
   all-digits (stop p) = none
   all-digits (sign p b t) = by (isDigit b) refl (all-digits t) where
-    by : (x : Bool) → isDigit b ≡ x → Digits (bytesOf isDigit t) → Digits (cond x (b ∷ bytesOf isDigit t) [])
+    by : (x : Bool) → isDigit b ≡ x → Digits (runBytes isDigit t) → Digits (cond x (b ∷ runBytes isDigit t) [])
     by true f r = more f r
     by false f r = none
 
   -- a run of digits is the longest: no digit stands behind it
   digits-stop : {n : ℕ} {t : Text} → From d n t → t ≡ text d n → Stops isDigit (runAt (runOf isDigit n t))
-  unfolding bytesOf runOf
+  unfolding runBytes runOf
   digits-stop at-stop q = rw (← q) empty
   digits-stop {n} (at-sign {p = p} {b = b} {u = u} g w i r) q = by (isDigit b) refl (digits-stop r i) where
-    first : isDigit b ≡ false → (y : Bool) → Stops isDigit (cond y (b ∷ bytesOf isValue u) [])
+    first : isDigit b ≡ false → (y : Bool) → Stops isDigit (cond y (b ∷ runBytes isValue u) [])
     first f true = other f
     first f false = empty
 
@@ -109,15 +109,15 @@ module _ (d : List ℕ) where
   -- ---- a byte that may stand
   module _ (c : ℕ) (v : isValue c ≡ true) where
     after-mark : {n : ℕ} {t : Text} → From d n t → t ≡ text d n
-        → bytesOf isValue t ≡ perhaps (markOf n c t .there) c ++ runAt (markOf n c t .next)
-    unfolding bytesOf markOf
-    after-mark at-stop q = ap (bytesOf isValue) q
+        → runBytes isValue t ≡ perhaps (markOf n c t .there) c ++ runAt (markOf n c t .next)
+    unfolding runBytes markOf
+    after-mark at-stop q = ap (runBytes isValue) q
     after-mark {n} (at-sign {p = p} {b = b} {u = u} g w i r) q = by (eqb b c) refl where
       by : (x : Bool) → eqb b c ≡ x →
           let m = cond {A = Mark} x (record { there = true; next = p + 1 }) (record { there = false; next = n }) in
-          bytesOf isValue (sign p b u) ≡ perhaps (m .there) c ++ runAt (m .next)
+          runBytes isValue (sign p b u) ≡ perhaps (m .there) c ++ runAt (m .next)
       by true f = rw (eqb-true b c f, v, i)
-      by false f = ap (bytesOf isValue) q
+      by false f = ap (runBytes isValue) q
 
     past-mark : {n : ℕ} {t : Text} → From d n t → t ≡ text d n
         → runOf isValue n t ≡ runOf isValue (markOf n c t .next) (text d (markOf n c t .next))
@@ -132,10 +132,10 @@ module _ (d : List ℕ) where
 
     mark-stops : {n : ℕ} {t : Text} → From d n t → t ≡ text d n → markOf n c t .there ≡ false
         → (markOf n c t .next ≡ n) × Stops (λ b. eqb b c) (runAt (markOf n c t .next))
-    unfolding bytesOf markOf
+    unfolding runBytes markOf
     mark-stops at-stop q e = (refl, rw (← q) empty)
     mark-stops {n} (at-sign {p = p} {b = b} {u = u} g w i r) q e = by (eqb b c) refl e where
-      first : eqb b c ≡ false → (y : Bool) → Stops (λ b. eqb b c) (cond y (b ∷ bytesOf isValue u) [])
+      first : eqb b c ≡ false → (y : Bool) → Stops (λ b. eqb b c) (cond y (b ∷ runBytes isValue u) [])
       first f true = other f
       first f false = empty
 
@@ -146,12 +146,12 @@ module _ (d : List ℕ) where
       by false f e = (refl, rw (← q) (first f (isValue b)))
 
   -- ---- nothing is left of the run
-  pub run-empty : {n : ℕ} {t : Text} → From d n t → (runOf isValue n t ≡ n) ↔ (bytesOf isValue t ≡ [])
-  unfolding bytesOf runOf
+  pub run-empty : {n : ℕ} {t : Text} → From d n t → (runOf isValue n t ≡ n) ↔ (runBytes isValue t ≡ [])
+  unfolding runBytes runOf
   run-empty at-stop = (λ e. refl, λ e. refl)
   run-empty {n} (at-sign {p = p} {b = b} {u = u} g w i r) = by (isValue b) (run-ahead d isValue r) where
     by : (x : Bool) → p + 1 ≤ runOf isValue (p + 1) u
-        → (cond x (runOf isValue (p + 1) u) n ≡ n) ↔ (cond x (b ∷ bytesOf isValue u) [] ≡ [])
+        → (cond x (runOf isValue (p + 1) u) n ≡ n) ↔ (cond x (b ∷ runBytes isValue u) [] ≡ [])
     by true h = (λ e. absurd (omega arith), λ e. let z : _≡_ {A = ℕ} 0 1 = cc in absurd (omega arith))
     by false h = (λ e. refl, λ e. refl)
 
@@ -332,5 +332,5 @@ module _ (d : List ℕ) (at : ℕ) where
     by false y z e g h i = let z : _≡_ {A = ℕ} 0 1 = cc in absurd (omega arith)
 
   -- FORM: a value is formed exactly when its run, the longest one, has the form
-  pub value-exactly : (valueAt d at .formed ≡ true) ↔ Form (bytesOf isValue (text d at))
+  pub value-exactly : (valueAt d at .formed ≡ true) ↔ Form (runBytes isValue (text d at))
   value-exactly = (form-of, formed-so)

@@ -9,7 +9,7 @@ use lib.ListN.{length, getD}
 use borrow.Author.Tests.{eq-eqb, ne-eqb, eqb-true, lt-ltb, le-ltb, le-leb, lt-leb}
 use Rattle.ascii.specs.rule.Class.{classOf, within}
 use Rattle.scan.specs.rule.Text.{Text, stop, sign, text}
-use Rattle.scan.specs.rule.Number.{isDigit, isValue, runOf, bytesOf, decimalOf}
+use Rattle.scan.specs.rule.Number.{isDigit, isValue, runOf, runBytes, decimalOf}
 use Rattle.scan.specs.Number.{capped, digitsFrom, pushOf}
 use Rattle.scan.specs.declared.Digits.{Digits}
 use Rattle.scan.proofs.Texts.{text-dropped, text-kept, kept-byte}
@@ -109,10 +109,10 @@ unfolding isDigit classOf
 minus = refl
 
 no-minus : (n : ℕ) (t : Text) → 0 < digitsFrom 0 0 n t .count → markOf n 45 t ≡ noMark n
-unfolding digitsFrom bytesOf markOf
+unfolding digitsFrom runBytes markOf
 no-minus n (stop p) h = absurd (omega arith)
 no-minus n (sign p b t) h = by (eqb b 45) refl (isDigit b) refl h where
-  by : (x : Bool) → eqb b 45 ≡ x → (y : Bool) → isDigit b ≡ y → 0 < 0 + length (cond y (b ∷ bytesOf isDigit t) [])
+  by : (x : Bool) → eqb b 45 ≡ x → (y : Bool) → isDigit b ≡ y → 0 < 0 + length (cond y (b ∷ runBytes isDigit t) [])
       → cond {A = Mark} x (record { there = true; next = p + 1 }) (noMark n) ≡ noMark n
   by false e y f h = refl
   by true e true f h = let o : _≡_ {A = ℕ} 0 1 = cc (sym f, ap isDigit (eqb-true b 45 e), minus) in absurd (omega arith)

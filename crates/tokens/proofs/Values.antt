@@ -8,7 +8,7 @@ use lib.Dec.{eqb, leb}
 use borrow.Author.Tests.{eqb-true, lt-leb, le-leb}
 use Rattle.ascii.specs.rule.Class.{classOf}
 use Rattle.scan.specs.rule.Text.{Text, stop, sign, text}
-use Rattle.scan.specs.rule.Number.{isDigit, runOf, bytesOf, decimalOf}
+use Rattle.scan.specs.rule.Number.{isDigit, runOf, runBytes, decimalOf}
 use Rattle.scan.specs.Number.{capped, digitsFrom}
 use Rattle.scan.specs.Order.{digitsTo, valueOf}
 use Rattle.scan.proofs.Texts.{From, at-stop, at-sign, from-text}
@@ -23,15 +23,15 @@ dot = refl
 
 module _ (d : List ℕ) (e : ℕ) where
   -- digits up to e: a run of them, and then those from its end on
-  digits-split : {n : ℕ} {t : Text} → From d n t → t ≡ text d n → runOf isDigit n t ≤ e → digitsTo e t ≡ bytesOf isDigit t
+  digits-split : {n : ℕ} {t : Text} → From d n t → t ≡ text d n → runOf isDigit n t ≤ e → digitsTo e t ≡ runBytes isDigit t
       ++ digitsTo e (text d (runOf isDigit n t))
-  unfolding digitsTo bytesOf runOf
+  unfolding digitsTo runBytes runOf
   digits-split at-stop q h = ap (digitsTo e) q
   digits-split {n} (at-sign {p = p} {b = b} {u = u} g w i r) q h = by (isDigit b) refl (run-ahead d isDigit r) (digits-split r i) q h where
     by : (x : Bool) → isDigit b ≡ x → p + 1 ≤ runOf isDigit (p + 1) u
-        → (runOf isDigit (p + 1) u ≤ e → digitsTo e u ≡ bytesOf isDigit u ++ digitsTo e (text d (runOf isDigit (p + 1) u))) → sign p b u
+        → (runOf isDigit (p + 1) u ≤ e → digitsTo e u ≡ runBytes isDigit u ++ digitsTo e (text d (runOf isDigit (p + 1) u))) → sign p b u
         ≡ text d n → cond x (runOf isDigit (p + 1) u) n ≤ e → cond (leb e p) [] (cond (isDigit b) (b ∷ digitsTo e u) (digitsTo e u))
-        ≡ cond x (b ∷ bytesOf isDigit u) [] ++ digitsTo e (text d (cond x (runOf isDigit (p + 1) u) n))
+        ≡ cond x (b ∷ runBytes isDigit u) [] ++ digitsTo e (text d (cond x (runOf isDigit (p + 1) u) n))
     by true f k ih q h = rw (lt-leb e p (omega arith), f, ih h)
     by false f k ih q h = ap (digitsTo e) q
 
@@ -71,14 +71,14 @@ runs : (d : List ℕ) (m : ℕ) →
     let k = runOf isDigit m (text d m) in
     let o = markOf k 46 (text d k) .next in
     let e = runOf isDigit o (text d o) in
-    capped (decimalOf (capped (decimalOf 0 (bytesOf isDigit (text d m)))) (bytesOf isDigit (text d o))) ≡ capped (valueOf d m e)
+    capped (decimalOf (capped (decimalOf 0 (runBytes isDigit (text d m)))) (runBytes isDigit (text d o))) ≡ capped (valueOf d m e)
 unfolding valueOf
 runs d m =
     let k = runOf isDigit m (text d m) in
     let o = markOf k 46 (text d k) .next in
     let e = runOf isDigit o (text d o) in
-    let w = bytesOf isDigit (text d m) in
-    let f = bytesOf isDigit (text d o) in
+    let w = runBytes isDigit (text d m) in
+    let f = runBytes isDigit (text d o) in
     let ke : k ≤ o = mark-ahead d k 46 (from-text d k) in
     let oe : o ≤ e = run-ahead d isDigit (from-text d o) in
     let s : digitsTo e (text d m) ≡ w ++ digitsTo e (text d k) = digits-split d e (from-text d m) refl (omega arith) in

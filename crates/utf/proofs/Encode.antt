@@ -9,8 +9,8 @@ use lib.Dec.{ltb}
 use lib.ListN.{length, take}
 use lib.Seq.{take-at}
 use borrow.Author.Tests.{ltb-true, ltb-false, lt-ltb, le-ltb}
-use Rattle.utf.specs.rule.Chars.{legal, Spelt, one, two, three, four, encode}
-use Rattle.utf.specs.rule.Cut.{widthOf}
+use Rattle.utf.specs.rule.Chars.{legalCharacter, Spelt, one, two, three, four, encode}
+use Rattle.utf.specs.rule.Cut.{characterWidth}
 use Rattle.utf.proofs.Exactly.{width-complete}
 
 -- the bytes written for a number, by its size
@@ -65,8 +65,9 @@ encode-spells c h = by (ltb c 128) (ltb c 2048) (ltb c 65536) refl refl refl whe
       four {c = c} {x = c / 64 / 64 / 64} {y = c / 64 / 64 % 64} {z = c / 64 % 64} {w = c % 64} (omega arith) (omega arith) n l b i
 
 -- ALONE: where two legal characters' bytes begin one text, they are the same bytes
-pub begin-once : {l : Bool} {c c′ : ℕ} {u u′ : List ℕ} (t t′ : List ℕ) → legal c ≡ true → legal c′ ≡ true → Spelt l c u → Spelt l c′ u′ → u
+pub begin-once : {l : Bool} {c c′ : ℕ} {u u′ : List ℕ} (t t′ : List ℕ) → legalCharacter c ≡ true → legalCharacter c′ ≡ true → Spelt l c u
+    → Spelt l c′ u′ → u
     ++ t ≡ u′ ++ t′ → u ≡ u′
 begin-once {l} {u = u} {u′ = u′} t t′ g g′ s s′ e =
-    let n : length u ≡ length u′ = sym (width-complete t g s) ∙ ap (widthOf l) e ∙ width-complete t′ g′ s′ in
+    let n : length u ≡ length u′ = sym (width-complete t g s) ∙ ap (characterWidth l) e ∙ width-complete t′ g′ s′ in
     sym (take-at u t (length u) refl) ∙ ap (take (length u)) e ∙ take-at u′ t′ (length u) (sym n)

@@ -11,8 +11,9 @@ use lib.ListN.{length, drop, length-append, length-drop}
 use lib.Seq.{drop-at, drop-drop}
 use borrow.Author.Tests.{lt-ltb, le-ltb, le-leb, ltb-true, ltb-false, leb-true, eqb-true, eqb-false}
 use Rattle.below.specs.Below.{and-left, and-right}
-use Rattle.utf.specs.rule.Chars.{legal, Spelt, latin, one, two, three, four, Chars, none, more, NoneAt, Cut}
-use Rattle.utf.specs.rule.Cut.{plainOf, follows, pairOf, tripleOf, fourOf, twoIn, threeIn, fourIn, longOf, widthOf, firstBad}
+use Rattle.utf.specs.rule.Chars.{legalCharacter, Spelt, latin, one, two, three, four, Chars, none, more, NoneAt, Cut}
+use Rattle.utf.specs.rule.Cut.{plainOf, follows, validPair, tripleOf, validFour, twoIn, threeIn, fourIn, longOf, characterWidth}
+use Rattle.utf.specs.rule.Cut.{firstBad}
 use Rattle.utf.proofs.Strides.{bad-here, bad-next, width-within}
 
 -- ---- a byte that follows, both ways
@@ -31,10 +32,11 @@ follows-high b e = ltb-true b 192 (and-right (leb 128 b) (ltb b 192) e)
 -- ---- a legal character's bytes are found
 no-plain : (a : ℕ) → 128 ≤ a → plainOf false a ≡ false
 unfolding plainOf
-no-plain a h = rw (le-ltb a 128 h) (and-false (legal a))
+no-plain a h = rw (le-ltb a 128 h) (and-false (legalCharacter a))
 
-pub width-complete : {l : Bool} {c : ℕ} {u : List ℕ} (t : List ℕ) → legal c ≡ true → Spelt l c u → widthOf l (u ++ t) ≡ length u
-unfolding widthOf plainOf longOf twoIn threeIn fourIn pairOf tripleOf fourOf
+pub width-complete : {l : Bool} {c : ℕ} {u : List ℕ} (t : List ℕ) → legalCharacter c ≡ true → Spelt l c u → characterWidth l (u ++ t)
+    ≡ length u
+unfolding characterWidth plainOf longOf twoIn threeIn fourIn validPair tripleOf validFour
 width-complete {c = c} t q (latin h) = rw (q, lt-ltb c 256 h)
 width-complete {c = c} t q (one h) = rw (q, lt-ltb c 128 h)
 width-complete t q (two {c} {x} {y} e h k m) =
@@ -66,7 +68,7 @@ pub record Found (l : Bool) (s : List ℕ) (n : ℕ) : Type 0 where
   pub char : ℕ
   pub bytes : List ℕ
   pub rest : List ℕ
-  pub good : legal char ≡ true
+  pub good : legalCharacter char ≡ true
   pub spelt : Spelt l char bytes
   pub split : s ≡ bytes ++ rest
   pub long : length bytes ≡ n
@@ -75,15 +77,15 @@ never : {A : Type 0} {k : ℕ} → _≡_ {A = ℕ} 0 (suc k) → A
 never e = absurd (omega arith)
 
 two-sound : (a k : ℕ) (s : List ℕ) → 192 ≤ a → a < 224 → twoIn a s ≡ suc k → Found false (a ∷ s) (suc k)
-unfolding twoIn pairOf
+unfolding twoIn validPair
 two-sound a k [] g h e = never e
-two-sound a k (b ∷ s) g h e = by (pairOf a b) refl e where
-  by : (q : Bool) → pairOf a b ≡ q → cond q 2 0 ≡ suc k → Found false (a ∷ b ∷ s) (suc k)
+two-sound a k (b ∷ s) g h e = by (validPair a b) refl e where
+  by : (q : Bool) → validPair a b ≡ q → cond q 2 0 ≡ suc k → Found false (a ∷ b ∷ s) (suc k)
   by false f e = never e
   by true f e =
       let v = (a - 192) * 64 + (b - 128) in
-      let fb = and-left (follows b) (leb 128 v && legal v) f in
-      let r = and-right (follows b) (leb 128 v && legal v) f in
+      let fb = and-left (follows b) (leb 128 v && legalCharacter v) f in
+      let r = and-right (follows b) (leb 128 v && legalCharacter v) f in
       let lo = follows-low b fb in
       let hi = follows-high b fb in
       let x : 192 + (a - 192) ≡ a = omega arith in
@@ -92,8 +94,9 @@ two-sound a k (b ∷ s) g h e = by (pairOf a b) refl e where
         char = v;
         bytes = (192 + (a - 192)) ∷ (128 + (b - 128)) ∷ [];
         rest = s;
-        good = and-right (leb 128 v) (legal v) r;
-        spelt = two {x = a - 192} {y = b - 128} refl (omega arith) (omega arith) (leb-true 128 v (and-left (leb 128 v) (legal v) r));
+        good = and-right (leb 128 v) (legalCharacter v) r;
+        spelt = two {x = a - 192} {y = b - 128} refl (omega arith) (omega arith)
+            (leb-true 128 v (and-left (leb 128 v) (legalCharacter v) r));
         split = rw (x, y);
         long = e;
       }
@@ -107,10 +110,10 @@ three-sound a k (b ∷ c ∷ s) g h e = by (tripleOf a b c) refl e where
   by false f e = never e
   by true f e =
       let v = (a - 224) * 4096 + ((b - 128) * 64 + (c - 128)) in
-      let fb = and-left (follows b) (follows c && (leb 2048 v && legal v)) f in
-      let f1 = and-right (follows b) (follows c && (leb 2048 v && legal v)) f in
-      let fc = and-left (follows c) (leb 2048 v && legal v) f1 in
-      let r = and-right (follows c) (leb 2048 v && legal v) f1 in
+      let fb = and-left (follows b) (follows c && (leb 2048 v && legalCharacter v)) f in
+      let f1 = and-right (follows b) (follows c && (leb 2048 v && legalCharacter v)) f in
+      let fc = and-left (follows c) (leb 2048 v && legalCharacter v) f1 in
+      let r = and-right (follows c) (leb 2048 v && legalCharacter v) f1 in
       let lo = follows-low b fb in
       let hi = follows-high b fb in
       let lo2 = follows-low c fc in
@@ -122,29 +125,29 @@ three-sound a k (b ∷ c ∷ s) g h e = by (tripleOf a b c) refl e where
         char = v;
         bytes = (224 + (a - 224)) ∷ (128 + (b - 128)) ∷ (128 + (c - 128)) ∷ [];
         rest = s;
-        good = and-right (leb 2048 v) (legal v) r;
+        good = and-right (leb 2048 v) (legalCharacter v) r;
         spelt = three {x = a - 224} {y = b - 128} {z = c - 128} refl (omega arith) (omega arith) (omega arith)
-            (leb-true 2048 v (and-left (leb 2048 v) (legal v) r));
+            (leb-true 2048 v (and-left (leb 2048 v) (legalCharacter v) r));
         split = rw (x, y, z);
         long = e;
       }
 
 four-sound : (a k : ℕ) (s : List ℕ) → 240 ≤ a → a < 248 → fourIn a s ≡ suc k → Found false (a ∷ s) (suc k)
-unfolding fourIn fourOf
+unfolding fourIn validFour
 four-sound a k [] g h e = never e
 four-sound a k (b ∷ []) g h e = never e
 four-sound a k (b ∷ c ∷ []) g h e = never e
-four-sound a k (b ∷ c ∷ i ∷ s) g h e = by (fourOf a b c i) refl e where
-  by : (q : Bool) → fourOf a b c i ≡ q → cond q 4 0 ≡ suc k → Found false (a ∷ b ∷ c ∷ i ∷ s) (suc k)
+four-sound a k (b ∷ c ∷ i ∷ s) g h e = by (validFour a b c i) refl e where
+  by : (q : Bool) → validFour a b c i ≡ q → cond q 4 0 ≡ suc k → Found false (a ∷ b ∷ c ∷ i ∷ s) (suc k)
   by false f e = never e
   by true f e =
       let v = (a - 240) * 262144 + ((b - 128) * 4096 + ((c - 128) * 64 + (i - 128))) in
-      let fb = and-left (follows b) (follows c && (follows i && (leb 65536 v && legal v))) f in
-      let f1 = and-right (follows b) (follows c && (follows i && (leb 65536 v && legal v))) f in
-      let fc = and-left (follows c) (follows i && (leb 65536 v && legal v)) f1 in
-      let f2 = and-right (follows c) (follows i && (leb 65536 v && legal v)) f1 in
-      let fi = and-left (follows i) (leb 65536 v && legal v) f2 in
-      let r = and-right (follows i) (leb 65536 v && legal v) f2 in
+      let fb = and-left (follows b) (follows c && (follows i && (leb 65536 v && legalCharacter v))) f in
+      let f1 = and-right (follows b) (follows c && (follows i && (leb 65536 v && legalCharacter v))) f in
+      let fc = and-left (follows c) (follows i && (leb 65536 v && legalCharacter v)) f1 in
+      let f2 = and-right (follows c) (follows i && (leb 65536 v && legalCharacter v)) f1 in
+      let fi = and-left (follows i) (leb 65536 v && legalCharacter v) f2 in
+      let r = and-right (follows i) (leb 65536 v && legalCharacter v) f2 in
       let lo = follows-low b fb in
       let hi = follows-high b fb in
       let lo2 = follows-low c fc in
@@ -159,9 +162,9 @@ four-sound a k (b ∷ c ∷ i ∷ s) g h e = by (fourOf a b c i) refl e where
         char = v;
         bytes = (240 + (a - 240)) ∷ (128 + (b - 128)) ∷ (128 + (c - 128)) ∷ (128 + (i - 128)) ∷ [];
         rest = s;
-        good = and-right (leb 65536 v) (legal v) r;
+        good = and-right (leb 65536 v) (legalCharacter v) r;
         spelt = four {x = a - 240} {y = b - 128} {z = c - 128} {w = i - 128} refl (omega arith) (omega arith) (omega arith) (omega arith)
-            (leb-true 65536 v (and-left (leb 65536 v) (legal v) r));
+            (leb-true 65536 v (and-left (leb 65536 v) (legalCharacter v) r));
         split = rw (x, y, z, w);
         long = e;
       }
@@ -179,15 +182,15 @@ long-sound a k s e = by (ltb a 192) (ltb a 224) (ltb a 240) (ltb a 248) refl ref
 
 plain-spelt : (l : Bool) (a : ℕ) → plainOf l a ≡ true → Spelt l a (a ∷ [])
 unfolding plainOf
-plain-spelt true a e = latin (ltb-true a 256 (and-right (legal a) (ltb a 256) e))
-plain-spelt false a e = one (ltb-true a 128 (and-right (legal a) (ltb a 128) e))
+plain-spelt true a e = latin (ltb-true a 256 (and-right (legalCharacter a) (ltb a 256) e))
+plain-spelt false a e = one (ltb-true a 128 (and-right (legalCharacter a) (ltb a 128) e))
 
-plain-legal : (l : Bool) (a : ℕ) → plainOf l a ≡ true → legal a ≡ true
+plain-legal : (l : Bool) (a : ℕ) → plainOf l a ≡ true → legalCharacter a ≡ true
 unfolding plainOf
-plain-legal l a e = and-left (legal a) (ltb a (cond l 256 128)) e
+plain-legal l a e = and-left (legalCharacter a) (ltb a (cond l 256 128)) e
 
-pub width-sound : (l : Bool) (k : ℕ) (s : List ℕ) → widthOf l s ≡ suc k → Found l s (suc k)
-unfolding widthOf
+pub width-sound : (l : Bool) (k : ℕ) (s : List ℕ) → characterWidth l s ≡ suc k → Found l s (suc k)
+unfolding characterWidth
 width-sound l k [] e = never e
 width-sound l k (a ∷ s) e = by l (plainOf l a) refl e where
   by : (l : Bool) (q : Bool) → plainOf l a ≡ q → cond q 1 (cond l 0 (longOf a s)) ≡ suc k → Found l (a ∷ s) (suc k)
@@ -203,12 +206,12 @@ spelt-long (two e h k m) z = omega arith
 spelt-long (three e h k i m) z = omega arith
 spelt-long (four e h k i j m) z = omega arith
 
-none-at : (l : Bool) (s : List ℕ) → widthOf l s ≡ 0 → NoneAt l s
-none-at l s e c u t q w f = spelt-long w (sym (width-complete t q w) ∙ ap (widthOf l) (sym f) ∙ e)
+none-at : (l : Bool) (s : List ℕ) → characterWidth l s ≡ 0 → NoneAt l s
+none-at l s e c u t q w f = spelt-long w (sym (width-complete t q w) ∙ ap (characterWidth l) (sym f) ∙ e)
 
-at-none : (l : Bool) (s : List ℕ) → NoneAt l s → widthOf l s ≡ 0
-at-none l s n = by (widthOf l s) refl where
-  by : (w : ℕ) → widthOf l s ≡ w → widthOf l s ≡ 0
+at-none : (l : Bool) (s : List ℕ) → NoneAt l s → characterWidth l s ≡ 0
+at-none l s n = by (characterWidth l s) refl where
+  by : (w : ℕ) → characterWidth l s ≡ w → characterWidth l s ≡ 0
   by zero e = e
   by (suc k) e = let f = width-sound l k s e in absurd (n (f .char) (f .bytes) (f .rest) (f .good) (f .spelt) (f .split))
 
@@ -223,12 +226,12 @@ module _ (l : Bool) (d : List ℕ) where
       bad-here l d p (at-none l (drop p d) (rw (← g) n)) ∙ sym g
   complete q (more {c} {cs} {u} {s} k w r) p e f n =
       let a = e ∙ append-assoc u s (drop q d) in
-      let x : widthOf l (drop p d) ≡ length u = ap (widthOf l) a ∙ width-complete (s ++ drop q d) k w in
+      let x : characterWidth l (drop p d) ≡ length u = ap (characterWidth l) a ∙ width-complete (s ++ drop q d) k w in
       let f′ : q ≡ p + length u + length s = omega (arith, length-append u s) in
       bad-next l d p (λ z. spelt-long w (sym x ∙ z))
       ∙ rw x (complete q r (p + length u) (onward p (length u) u (s ++ drop q d) a refl) f′ n)
 
-  here : (p : ℕ) → widthOf l (drop p d) ≡ 0 → Cut l d p (firstBad l d p)
+  here : (p : ℕ) → characterWidth l (drop p d) ≡ 0 → Cut l d p (firstBad l d p)
   here p e =
       let b = bad-here l d p e in
       rw b (record { chars = []; bytes = []; legals = none; split = refl; place = omega arith; over = none-at l (drop p d) e })
@@ -250,11 +253,11 @@ module _ (l : Bool) (d : List ℕ) where
       })
 
   sound : (n p : ℕ) → length d - p ≤ n → p ≤ length d → Cut l d p (firstBad l d p)
-  sound zero p h i = here p (none-left (widthOf l (drop p d)) (width-within l (drop p d))) where
+  sound zero p h i = here p (none-left (characterWidth l (drop p d)) (width-within l (drop p d))) where
     none-left : (w : ℕ) → w ≤ length (drop p d) → w ≡ 0
     none-left w k = omega (arith, length-drop p d)
-  sound (suc n) p h i = by (sound n) (widthOf l (drop p d)) refl where
-    by : ((p : ℕ) → length d - p ≤ n → p ≤ length d → Cut l d p (firstBad l d p)) → (w : ℕ) → widthOf l (drop p d) ≡ w
+  sound (suc n) p h i = by (sound n) (characterWidth l (drop p d)) refl where
+    by : ((p : ℕ) → length d - p ≤ n → p ≤ length d → Cut l d p (firstBad l d p)) → (w : ℕ) → characterWidth l (drop p d) ≡ w
         → Cut l d p (firstBad l d p)
     by ih zero e = here p e
     by ih (suc k) e =

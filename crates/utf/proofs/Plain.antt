@@ -7,7 +7,7 @@ use mathlib.Core.Logic.{⊎-elim}
 use lib.Dec.{ltb, leb, eqb}
 use borrow.Author.Tests.{lt-ltb, le-ltb, le-leb, ne-eqb}
 use Rattle.below.specs.Below.{lt-or-le}
-use Rattle.utf.specs.rule.Chars.{legal}
+use Rattle.utf.specs.rule.Chars.{legalCharacter}
 use Rattle.utf.specs.rule.Cut.{plainOf}
 
 whole : (x w : Bool) → ((x && true) || w) ≡ (((x && true) || w) && true)
@@ -20,7 +20,7 @@ none true = refl
 none false = refl
 
 pub plain-is : (l : Bool) (b : ℕ) → b < 256 → ((leb 32 b && (l || ltb b 128)) || (eqb b 9 || (eqb b 10 || eqb b 13))) ≡ plainOf l b
-unfolding plainOf legal
+unfolding plainOf legalCharacter
 plain-is true b h = rw (lt-ltb b 256 h, le-leb b 55295 (omega arith)) (whole (leb 32 b) (eqb b 9 || (eqb b 10 || eqb b 13)))
 plain-is false b h =
     ⊎-elim

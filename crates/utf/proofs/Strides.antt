@@ -13,7 +13,8 @@ use borrow.Author.Tests.{eq-eqb, ne-eqb, eqb-true, eqb-false, ltb-true}
 use Rattle.below.specs.Below.{all-at}
 use Rattle.scan.specs.rule.Loop.{Next, Again, Done, loopOf}
 use Rattle.scan.proofs.Loops.{loop-again, loop-done}
-use Rattle.utf.specs.rule.Cut.{plainOf, pairOf, tripleOf, fourOf, twoIn, threeIn, fourIn, longOf, widthOf, badStep, firstBad}
+use Rattle.utf.specs.rule.Cut.{plainOf, validPair, tripleOf, validFour, twoIn, threeIn, fourIn, longOf, characterWidth, badStep}
+use Rattle.utf.specs.rule.Cut.{firstBad}
 use Rattle.utf.specs.Stride.{allPlain, Stride}
 
 -- ---- the bytes from a place on, one by one
@@ -53,7 +54,7 @@ four-short a (b ∷ c ∷ e ∷ s) h = absurd (omega arith)
 two-within : (a : ℕ) (s : List ℕ) → twoIn a s ≤ suc (length s)
 unfolding twoIn
 two-within a [] = omega arith
-two-within a (b ∷ s) = by (pairOf a b) where
+two-within a (b ∷ s) = by (validPair a b) where
   by : (q : Bool) → cond q 2 0 ≤ suc (suc (length s))
   by true = omega arith
   by false = omega arith
@@ -72,7 +73,7 @@ unfolding fourIn
 four-within a [] = omega arith
 four-within a (b ∷ []) = omega arith
 four-within a (b ∷ c ∷ []) = omega arith
-four-within a (b ∷ c ∷ e ∷ s) = by (fourOf a b c e) where
+four-within a (b ∷ c ∷ e ∷ s) = by (validFour a b c e) where
   by : (q : Bool) → cond q 4 0 ≤ suc (suc (suc (suc (length s))))
   by true = omega arith
   by false = omega arith
@@ -88,8 +89,8 @@ long-within a s =
     (cond-le (ltb a 224) _ _ _ (two-within a s) (cond-le (ltb a 240) _ _ _ (three-within a s)
     (cond-le (ltb a 248) _ _ _ (four-within a s) (omega arith))))
 
-pub width-within : (l : Bool) (s : List ℕ) → widthOf l s ≤ length s
-unfolding widthOf
+pub width-within : (l : Bool) (s : List ℕ) → characterWidth l s ≤ length s
+unfolding characterWidth
 width-within l [] = omega arith
 width-within l (a ∷ s) = cond-le (plainOf l a) _ _ _ (omega arith) (cond-le l _ _ _ (omega arith) (long-within a s))
 
@@ -103,32 +104,33 @@ apart a b h k = let p = positive (b - a) (λ e. k (omega arith)) in omega arith
 -- ---- from character to character
 module _ (l : Bool) (d : List ℕ) where
   less : (p q : ℕ) → badStep l d p ≡ Again q → length d - q < length d - p
-  less p q e = by (eqb (widthOf l (drop p d)) 0) refl e where
-    by : (t : Bool) → eqb (widthOf l (drop p d)) 0 ≡ t → cond t (Done p) (Again (p + widthOf l (drop p d))) ≡ Again q → length d - q
+  less p q e = by (eqb (characterWidth l (drop p d)) 0) refl e where
+    by : (t : Bool) → eqb (characterWidth l (drop p d)) 0 ≡ t → cond t (Done p) (Again (p + characterWidth l (drop p d))) ≡ Again q
+        → length d - q
         < length d - p
     by true f g = let z : _≡_ {A = ℕ} 0 1 = cc in absurd (omega arith)
     by false f g =
         let w = width-within l (drop p d) in
         let n = length-drop p d in
-        let h : q ≡ p + widthOf l (drop p d) = cc in
-        let z : widthOf l (drop p d) ≡ 0 → ⊥ = eqb-false _ _ f in
-        let m : 0 < widthOf l (drop p d) = positive _ z in
+        let h : q ≡ p + characterWidth l (drop p d) = cc in
+        let z : characterWidth l (drop p d) ≡ 0 → ⊥ = eqb-false _ _ f in
+        let m : 0 < characterWidth l (drop p d) = positive _ z in
         omega arith
 
-  pub bad-here : (p : ℕ) → widthOf l (drop p d) ≡ 0 → firstBad l d p ≡ p
+  pub bad-here : (p : ℕ) → characterWidth l (drop p d) ≡ 0 → firstBad l d p ≡ p
   unfolding firstBad
   bad-here p e = loop-done (badStep l d) 0 (λ p. length d - p) less (rw (eq-eqb _ _ e))
 
-  pub bad-next : (p : ℕ) → (widthOf l (drop p d) ≡ 0 → ⊥) → firstBad l d p ≡ firstBad l d (p + widthOf l (drop p d))
+  pub bad-next : (p : ℕ) → (characterWidth l (drop p d) ≡ 0 → ⊥) → firstBad l d p ≡ firstBad l d (p + characterWidth l (drop p d))
   unfolding firstBad
   bad-next p e = loop-again (badStep l d) 0 (λ p. length d - p) less (rw (ne-eqb _ _ e))
 
   pub bad-end : (p : ℕ) → length d ≤ p → firstBad l d p ≡ p
-  unfolding widthOf
+  unfolding characterWidth
   bad-end p h = bad-here p (rw (drop-of-length-le d h))
 
-  width-plain : (p : ℕ) → p < length d → plainOf l (getD d p 0) ≡ true → widthOf l (drop p d) ≡ 1
-  unfolding widthOf
+  width-plain : (p : ℕ) → p < length d → plainOf l (getD d p 0) ≡ true → characterWidth l (drop p d) ≡ 1
+  unfolding characterWidth
   width-plain p h e = rw (drop-cons d p 0 h, e)
 
   bad-plain : (p : ℕ) → p < length d → plainOf l (getD d p 0) ≡ true → firstBad l d p ≡ firstBad l d (p + 1)

@@ -5,7 +5,7 @@ use mathlib.Core.List.{List}
 use Prim.Native.Nat.{ℕ, _+_, _≤_}
 use lib.ListN.{length, drop, getD}
 use Rattle.below.specs.rule.Below.{allBelow}
-use Rattle.utf.specs.rule.Cut.{plainOf, widthOf, firstBad}
+use Rattle.utf.specs.rule.Cut.{plainOf, characterWidth, firstBad}
 
 -- the n bytes from i on are characters of their own
 unfoldable pub allPlain : Bool → List ℕ → ℕ → ℕ → Bool
@@ -16,4 +16,4 @@ pub record Stride (l : Bool) (d : List ℕ) (i r : ℕ) : Type 0 where
   pub again : firstBad l d i ≡ firstBad l d r
   pub on : i ≤ r
   pub within : r ≤ length d
-  pub over : r ≡ i → widthOf l (drop i d) ≡ 0
+  pub over : r ≡ i → characterWidth l (drop i d) ≡ 0

@@ -5,13 +5,14 @@ ghost use Prim.Native.Nat.{_+_, _-_, _≤_, _<_};
 ghost use mathlib.Core.List.{[], _∷_};
 ghost use Prim.Native.Nat.{_/_, _%_};
 ghost use lib.ListN.{length, drop, getD};
-ghost use Rattle.utf.specs.rule.Chars.{legal, encode};
-ghost use Rattle.utf.specs.rule.Cut.{plainOf, follows, pairOf, tripleOf, fourOf, twoIn, threeIn, fourIn, longOf, widthOf, firstBad};
+ghost use Rattle.utf.specs.rule.Chars.{legalCharacter, encode};
+ghost use Rattle.utf.specs.rule.Cut.{plainOf, follows, validPair, tripleOf, validFour, twoIn, threeIn, fourIn, longOf};
+ghost use Rattle.utf.specs.rule.Cut.{characterWidth, firstBad};
 ghost use Rattle.utf.specs.Stride.{allPlain, Stride};
 
 // Whether a number is a character's.
 pub fn is_legal(c: u64) -> bool
-    ensures { λ r. ⌜ r ≡ legal c ⌝ }
+    ensures { λ r. ⌜ r ≡ legalCharacter c ⌝ }
 {
     ((32 <= c) & ((c <= 55295) | (((57344 <= c) & (c <= 65533)) | ((65536 <= c) & (c <= 1114111)))))
         | ((c == 9) | ((c == 10) | (c == 13)))
@@ -39,7 +40,7 @@ fn bits(b: u8, mark: u64) -> u64
 }
 
 fn pair(a: u8, b: u8) -> bool
-    ensures { λ r. ⌜ r ≡ pairOf a b ⌝ }
+    ensures { λ r. ⌜ r ≡ validPair a b ⌝ }
 {
     let c = bits(a, 192) * 64 + bits(b, 128);
     does_follow(b) & ((128 <= c) & is_legal(c))
@@ -53,7 +54,7 @@ fn triple(a: u8, b: u8, c: u8) -> bool
 }
 
 fn four(a: u8, b: u8, c: u8, e: u8) -> bool
-    ensures { λ r. ⌜ r ≡ fourOf a b c e ⌝ }
+    ensures { λ r. ⌜ r ≡ validFour a b c e ⌝ }
 {
     let v = bits(a, 240) * 262144 + (bits(b, 128) * 4096 + (bits(c, 128) * 64 + bits(e, 128)));
     does_follow(b) & (does_follow(c) & (does_follow(e) & ((65536 <= v) & is_legal(v))))
@@ -116,7 +117,7 @@ fn long(d: &[u8], a: u8, at: usize) -> usize
 // How many bytes the legal character at a place has; 0 if none stands there.
 pub fn width(latin: bool, d: &[u8], at: usize) -> usize
     requires { ⌜ at < length (now d) ⌝ }
-    ensures { λ r. ⌜ r ≡ widthOf latin (drop at (now (d .entry))) ⌝ }
+    ensures { λ r. ⌜ r ≡ characterWidth latin (drop at (now (d .entry))) ⌝ }
 {
     let a = d[at];
     if is_plain(latin, a) {

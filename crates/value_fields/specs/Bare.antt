@@ -25,18 +25,18 @@ use Rattle.lines.specs.rule.Text.{numeral}
 use Rattle.commas.specs.rule.Csv.{fieldBytes}
 use Rattle.bare_digits.specs.Bare.{unled, unled-same, unled-only, unled-first, unled-zero, least, some-stands, whole-some, whole-none}
 use Rattle.bare_digits.specs.Bare.{digits-above, digits-stand}
-use Rattle.value_fields.specs.rule.Values.{amountText, fieldText}
+use Rattle.value_fields.specs.rule.Values.{amountText, exportField}
 use Rattle.value_fields.specs.Values.{amount-none, number-amount}
 use Rattle.value_fields.specs.Legal.{Told, said-blank, said-zero, said-number, said-wrong, count-code}
 
 -- ---- a code's field: its digits, and nothing where it is missing
 module _ (ok : ℤ → Bool) where
   digits-field : (d : List ℕ) → digitsOnly d ≡ true → decimal d < 10 ^ 16 → isIllegal (singleSays ok (says (pos (decimal d)))) ≡ false
-      → unled 48 d ≡ fieldBytes (fieldText 0 (singleSays ok (says (pos (decimal d)))))
+      → unled 48 d ≡ fieldBytes (exportField 0 (singleSays ok (says (pos (decimal d)))))
   unfolding numeralField eqZ
   digits-field d only small g = go (unled 48 d) refl
     where
-      go : (x : List ℕ) → unled 48 d ≡ x → x ≡ fieldBytes (fieldText 0 (singleSays ok (says (pos (decimal d)))))
+      go : (x : List ℕ) → unled 48 d ≡ x → x ≡ fieldBytes (exportField 0 (singleSays ok (says (pos (decimal d)))))
       go [] e = said-zero 0 ok true (pos (decimal d)) (eq-eqb (decimal d) 0 (unled-zero d e))
       go (b ∷ t) e =
           let q : decimal d ≡ decimal (b ∷ t) = sym (unled-same d) ∙ ap decimal e in
@@ -47,19 +47,19 @@ module _ (ok : ℤ → Bool) where
           ∙ said-number 0 ok true (pos (decimal d)) (ne-eqb (decimal d) 0 z) g
 
   code-field : (d : List ℕ) → Told (codeAfter d) → isIllegal (singleSays ok (codeAfter d)) ≡ false
-      → unled 48 d ≡ fieldBytes (fieldText 0 (singleSays ok (codeAfter d)))
+      → unled 48 d ≡ fieldBytes (exportField 0 (singleSays ok (codeAfter d)))
   unfolding codeAfter numeralField unled decimalFrom signedOf
   code-field [] told g = said-blank 0 ok true
   code-field (b ∷ t) told g = go (digitsOnly (b ∷ t)) refl told g
     where
       go : (x : Bool) → digitsOnly (b ∷ t) ≡ x → Told (cond x (says (pos (decimal (b ∷ t)))) wrong)
           → isIllegal (singleSays ok (cond x (says (pos (decimal (b ∷ t)))) wrong)) ≡ false
-          → unled 48 (b ∷ t) ≡ fieldBytes (fieldText 0 (singleSays ok (cond x (says (pos (decimal (b ∷ t)))) wrong)))
+          → unled 48 (b ∷ t) ≡ fieldBytes (exportField 0 (singleSays ok (cond x (says (pos (decimal (b ∷ t)))) wrong)))
       go true e h g = digits-field (b ∷ t) e (h (pos (decimal (b ∷ t))) refl) g
       go false e h g = said-wrong 0 ok true g
 
   pub single-bare : (s : List ℕ) → Told (codeOf s) → isIllegal (singleField ok s) ≡ false
-      → unled 48 (unspaced s) ≡ fieldBytes (fieldText 0 (singleField ok s))
+      → unled 48 (unspaced s) ≡ fieldBytes (exportField 0 (singleField ok s))
   unfolding codeOf
   single-bare s told g = code-field (unspaced s) told g
 
@@ -209,13 +209,13 @@ module _ (f : Format) (s d : List ℕ) (is : quantityOf f s ≡ amountOf f false
     amount-small told = told (pos (amountSize f d)) says-amount
 
     pub quantity-bare : (ok : ℤ → Bool) → isIllegal (quantityField f ok s) ≡ false
-        → amountText (f .decimals) (amountSize f d) ≡ fieldBytes (fieldText (f .decimals) (quantityField f ok s))
+        → amountText (f .decimals) (amountSize f d) ≡ fieldBytes (exportField (f .decimals) (quantityField f ok s))
     unfolding numeralField signedOf
     quantity-bare ok g = rw says-amount (number-amount (f .decimals) (pos (amountSize f d)) (signedOf (pos (amountSize f d))) refl refl
         ∙ said-number (f .decimals) ok false (pos (amountSize f d)) refl (rw says-amount at g))
 
 pub quantity-empty : (f : Format) (s : List ℕ) → quantityOf f s ≡ blank → (ok : ℤ → Bool)
-    → [] ≡ fieldBytes (fieldText (f .decimals) (quantityField f ok s))
+    → [] ≡ fieldBytes (exportField (f .decimals) (quantityField f ok s))
 unfolding numeralField
 quantity-empty f s e ok = rw e (said-blank (f .decimals) ok false)
 

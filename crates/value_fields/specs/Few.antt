@@ -14,19 +14,19 @@ use Rattle.sets.specs.rule.Sets.{isIllegal}
 use Rattle.few_codes.specs.Few.{isAmong, HeldAll, NextAbove, above, above-next, above-none, members-are, some-held}
 use Rattle.commas.specs.rule.Csv.{fieldBytes}
 use Rattle.commas.specs.Csv.{field-plain}
-use Rattle.value_fields.specs.rule.Values.{numberText, codesBehind, setText, valueText, fieldText}
+use Rattle.value_fields.specs.rule.Values.{exportNumber, codesBehind, setText, exportValue, exportField}
 use Rattle.value_fields.specs.Plain.{set-plain}
 
 -- a code is held: those that are, rising
 module _ (w n : ℕ) (s m : List ℕ) (few : w ≤ 4) (all : HeldAll w n s m) where
   pub held-text : (ok : ℤ → Bool) (r : ℕ) → 1 ≤ r → isAmong r m ≡ true → isIllegal (spreadField ok w n s) ≡ false
-      → setText (above m 0) ≡ fieldBytes (fieldText 0 (spreadField ok w n s))
-  unfolding spreadField isIllegal fieldText valueText
+      → setText (above m 0) ≡ fieldBytes (exportField 0 (spreadField ok w n s))
+  unfolding spreadField isIllegal exportField exportValue
   held-text ok r h e good = rw (some-held w n s m few all r h e, ← members-are w n s m few all)
       (go (allEntries ok w n s) (rw (some-held w n s m few all r h e) at good))
     where
       go : (q : Bool) → isIllegal (cond q (holds (members (spreadSet w n s))) illegal) ≡ false
-          → setText (spreadSet w n s) ≡ fieldBytes (fieldText 0 (cond q (holds (members (spreadSet w n s))) illegal))
+          → setText (spreadSet w n s) ≡ fieldBytes (exportField 0 (cond q (holds (members (spreadSet w n s))) illegal))
       go true g = field-plain (setText (spreadSet w n s)) (set-plain (spreadSet w n s))
       go false g = holds-not refl g
 
@@ -45,12 +45,12 @@ module _ (m : List ℕ) (c r : ℕ) (a : NextAbove m c r) where
   pub next-more : c < 65535 → c < r
   next-more h = ⊎-elim (λ l. a .here l .0) (λ l. omega arith) (lt-or-le r 65535)
 
-  pub first-next : r < 65535 → numberText 0 (pos r) ++ codesBehind (above m r) ≡ setText (above m c)
+  pub first-next : r < 65535 → exportNumber 0 (pos r) ++ codesBehind (above m r) ≡ setText (above m c)
   unfolding setText
   first-next l = sym (ap setText (above-next m c r a l))
 
 module _ (m : List ℕ) (c : ℕ) where
-  pub from-some : c < 65535 → codesBehind (fromCode m c) ≡ (59 ∷ []) ++ (numberText 0 (pos c) ++ codesBehind (above m c))
+  pub from-some : c < 65535 → codesBehind (fromCode m c) ≡ (59 ∷ []) ++ (exportNumber 0 (pos c) ++ codesBehind (above m c))
   unfolding codesBehind
   from-some h = rw (lt-ltb c 65535 h)
 

@@ -41,7 +41,8 @@ use Rattle.readings.specs.Answer.{numeralField}
 use Rattle.lines.specs.rule.Text.{numeral}
 use Rattle.commas.specs.rule.Csv.{holdsSpecial, fieldBytes}
 use Rattle.commas.specs.Csv.{field-plain}
-use Rattle.value_fields.specs.rule.Values.{numberText, codesBehind, setText, valueText, fieldText, decimalsOf, rowField}
+use Rattle.value_fields.specs.rule.Values.{exportNumber, codesBehind, setText, exportValue, exportField, rowField}
+use Rattle.widths.specs.rule.Width.{decimalsOf}
 use Rattle.value_fields.specs.Values.{code-count}
 use Rattle.value_fields.specs.Plain.{number-plain, set-plain, truth-plain}
 
@@ -132,11 +133,11 @@ module _ {t : List ℤ} {h : Header} (g : Tested t h) {i : ℕ} (low : i < h .ro
 
     -- the row's field is that of what is read
     pub row-text : {f : Field} {k : ℕ} → readingOf t (h .rows) r bytes ≡ f → decimalsOf (r .kind) ≡ k
-        → fieldBytes (fieldText k f) ≡ fieldBytes (rowField t bytes i)
+        → fieldBytes (exportField k f) ≡ fieldBytes (rowField t bytes i)
     unfolding rowField
     row-text {f} {k} e d =
-        ap fieldBytes (ap (fieldText k) (sym e ∙ reading-is)
-        ∙ ap (λ (n : ℕ). fieldText n (readingAt t i bytes)) (sym d ∙ ap (λ (x : Row). decimalsOf (x .kind)) is))
+        ap fieldBytes (ap (exportField k) (sym e ∙ reading-is)
+        ∙ ap (λ (n : ℕ). exportField n (readingAt t i bytes)) (sym d ∙ ap (λ (x : Row). decimalsOf (x .kind)) is))
 
 -- ---- numbers
 number-told : (ok : ℤ → Bool) (z : ℤ) → isIllegal (numberField ok z) ≡ false → ok z ≡ true
@@ -166,22 +167,22 @@ module _ (ok : ℤ → Bool) (small : (z : ℤ) → ok z ≡ true → signedOf z
   told-of m x g z e = told-says m z (rw e at g)
 
 module _ (k : ℕ) (ok : ℤ → Bool) where
-  pub said-blank : (m : Bool) → [] ≡ fieldBytes (fieldText k (numeralField m ok blank))
-  unfolding numeralField singleSays quantitySays fieldText valueText fieldBytes holdsSpecial
+  pub said-blank : (m : Bool) → [] ≡ fieldBytes (exportField k (numeralField m ok blank))
+  unfolding numeralField singleSays quantitySays exportField exportValue fieldBytes holdsSpecial
   said-blank true = refl
   said-blank false = refl
 
-  pub said-zero : (m : Bool) (z : ℤ) → (m && eqZ z (pos 0)) ≡ true → [] ≡ fieldBytes (fieldText k (numeralField m ok (says z)))
-  unfolding numeralField singleSays fieldText valueText fieldBytes holdsSpecial
+  pub said-zero : (m : Bool) (z : ℤ) → (m && eqZ z (pos 0)) ≡ true → [] ≡ fieldBytes (exportField k (numeralField m ok (says z)))
+  unfolding numeralField singleSays exportField exportValue fieldBytes holdsSpecial
   said-zero true z e = rw e
   said-zero false z e = holds-not e refl
 
-  number-said : (z : ℤ) → isIllegal (numberField ok z) ≡ false → numberText k z ≡ fieldBytes (fieldText k (numberField ok z))
-  unfolding numberField fieldText valueText
-  number-said z g = rw (number-told ok z g) (field-plain (numberText k z) (number-plain k z))
+  number-said : (z : ℤ) → isIllegal (numberField ok z) ≡ false → exportNumber k z ≡ fieldBytes (exportField k (numberField ok z))
+  unfolding numberField exportField exportValue
+  number-said z g = rw (number-told ok z g) (field-plain (exportNumber k z) (number-plain k z))
 
   pub said-number : (m : Bool) (z : ℤ) → (m && eqZ z (pos 0)) ≡ false → isIllegal (numeralField m ok (says z)) ≡ false
-      → numberText k z ≡ fieldBytes (fieldText k (numeralField m ok (says z)))
+      → exportNumber k z ≡ fieldBytes (exportField k (numeralField m ok (says z)))
   unfolding numeralField singleSays quantitySays
   said-number true z e g = rw e (number-said z (rw e at g))
   said-number false z e g = number-said z g
@@ -193,15 +194,15 @@ module _ (k : ℕ) (ok : ℤ → Bool) where
 
 -- ---- texts
 pub words-field : (s : List ℕ) (n : ℕ) → unended s ≡ take n s → allSpaces s ≡ eqb n 0 → isIllegal (textField s) ≡ false
-    → take n s ≡ fieldText 0 (textField s)
-unfolding textField fieldText valueText isIllegal
+    → take n s ≡ exportField 0 (textField s)
+unfolding textField exportField exportValue isIllegal
 words-field s zero u a g = rw a
 words-field s (suc n) u a g =
     let b : allSpaces s ≡ false = a ∙ ne-eqb (suc n) 0 (λ e. omega arith) in
     rw b (go (allPlain s) (rw b at g))
   where
     go : (b : Bool) → isIllegal (cond b (holds (text (unended s))) illegal) ≡ false
-        → take (suc n) s ≡ fieldText 0 (cond b (holds (text (unended s))) illegal)
+        → take (suc n) s ≡ exportField 0 (cond b (holds (text (unended s))) illegal)
     go true h = sym u
     go false h = holds-not refl h
 
@@ -211,17 +212,17 @@ words-kept bytes p w n h l = sym (ap (take n) (pick-run bytes p w h) ∙ take-ta
 
 -- ---- truths
 module _ (b : ℕ) where
-  pub truth-none : b ≡ 32 → [] ≡ fieldBytes (fieldText 0 (truthField (b ∷ [])))
-  unfolding truthField allSpaces fieldText valueText fieldBytes holdsSpecial
+  pub truth-none : b ≡ 32 → [] ≡ fieldBytes (exportField 0 (truthField (b ∷ [])))
+  unfolding truthField allSpaces exportField exportValue fieldBytes holdsSpecial
   truth-none e = rw e
 
-  pub truth-byte : (b ≡ 32 → ⊥) → isIllegal (truthField (b ∷ [])) ≡ false → b ∷ [] ≡ fieldBytes (fieldText 0 (truthField (b ∷ [])))
-  unfolding truthField allSpaces fieldText valueText isIllegal
+  pub truth-byte : (b ≡ 32 → ⊥) → isIllegal (truthField (b ∷ [])) ≡ false → b ∷ [] ≡ fieldBytes (exportField 0 (truthField (b ∷ [])))
+  unfolding truthField allSpaces exportField exportValue isIllegal
   truth-byte ne g = rw (ne-eqb b 32 ne) (go (eqb b 49) (eqb b 48) refl refl (rw (ne-eqb b 32 ne) at g))
     where
       go : (p q : Bool) → eqb b 49 ≡ p → eqb b 48 ≡ q
           → isIllegal (cond p (holds (truth true)) (cond q (holds (truth false)) illegal)) ≡ false
-          → b ∷ [] ≡ fieldBytes (fieldText 0 (cond p (holds (truth true)) (cond q (holds (truth false)) illegal)))
+          → b ∷ [] ≡ fieldBytes (exportField 0 (cond p (holds (truth true)) (cond q (holds (truth false)) illegal)))
       go true q e f h = rw (eqb-true b 49 e) (field-plain (49 ∷ []) (truth-plain true))
       go false true e f h = rw (eqb-true b 48 f) (field-plain (48 ∷ []) (truth-plain false))
       go false false e f h = holds-not refl h
@@ -250,12 +251,12 @@ module _ (w i : ℕ) (h : i < w) where
     bit-clear e = rw (bytes, rest, ne-eqb _ _ e)
 
     pub codes-set : getD r (p + i) 0 ≡ 49
-        → codesBehind (bitsFrom w r p i) ≡ (59 ∷ []) ++ (numberText 0 (pos (i + 1)) ++ codesBehind (bitsFrom w r p (i + 1)))
+        → codesBehind (bitsFrom w r p i) ≡ (59 ∷ []) ++ (exportNumber 0 (pos (i + 1)) ++ codesBehind (bitsFrom w r p (i + 1)))
     unfolding codesBehind
     codes-set e = ap codesBehind (bit-set e)
 
     pub text-set : getD r (p + i) 0 ≡ 49
-        → numberText 0 (pos (i + 1)) ++ codesBehind (bitsFrom w r p (i + 1)) ≡ setText (bitsFrom w r p i)
+        → exportNumber 0 (pos (i + 1)) ++ codesBehind (bitsFrom w r p (i + 1)) ≡ setText (bitsFrom w r p i)
     unfolding setText
     text-set e = sym (ap setText (bit-set e))
 
@@ -263,7 +264,7 @@ pub bits-over : (w : ℕ) (r : List ℕ) (p i : ℕ) → w ≤ i → bitsFrom w 
 unfolding defined setBits
 bits-over w r p i h = rw (sub-eq-zero-of-le h)
 
-pub count-code : (n : ℕ) → numeral n ≡ numberText 0 (pos n)
+pub count-code : (n : ℕ) → numeral n ≡ exportNumber 0 (pos n)
 unfolding signedOf
 count-code n = code-count (pos n) (signedOf (pos n)) refl refl
 
@@ -274,19 +275,20 @@ module _ (w : ℕ) (some : 1 ≤ w) (r : List ℕ) (p : ℕ) (good : isIllegal (
   first : all ≡ getD r p 0 ∷ pick r (bitPlaces p (defined always (suc (0 + 1)) (w - (0 + 1))))
   first = rw (sub-zero w, add-zero p) at (bytes w 0 (omega arith) r p)
 
-  pub each-missing : getD r p 0 ≡ 32 → [] ≡ fieldBytes (fieldText 0 (eachField w r p))
-  unfolding bitsField allBits isIllegal fieldText valueText fieldBytes holdsSpecial
+  pub each-missing : getD r p 0 ≡ 32 → [] ≡ fieldBytes (exportField 0 (eachField w r p))
+  unfolding bitsField allBits isIllegal exportField exportValue fieldBytes holdsSpecial
   each-missing e = rw none (go (allSpaces all) (rw none at good))
     where
       none : allBits all ≡ false
       none = rw (first, e)
 
-      go : (b : Bool) → isIllegal (cond b (holds missing) illegal) ≡ false → [] ≡ fieldBytes (fieldText 0 (cond b (holds missing) illegal))
+      go : (b : Bool) → isIllegal (cond b (holds missing) illegal) ≡ false → []
+          ≡ fieldBytes (exportField 0 (cond b (holds missing) illegal))
       go true h = refl
       go false h = holds-not refl h
 
-  pub each-members : (getD r p 0 ≡ 32 → ⊥) → setText (bitsFrom w r p 0) ≡ fieldBytes (fieldText 0 (eachField w r p))
-  unfolding bitsField allSpaces isIllegal fieldText valueText
+  pub each-members : (getD r p 0 ≡ 32 → ⊥) → setText (bitsFrom w r p 0) ≡ fieldBytes (exportField 0 (eachField w r p))
+  unfolding bitsField allSpaces isIllegal exportField exportValue
   each-members ne = rw (sub-zero w, other) (go (allBits all) (rw other at good))
     where
       other : allSpaces all ≡ false
@@ -294,6 +296,6 @@ module _ (w : ℕ) (some : 1 ≤ w) (r : List ℕ) (p : ℕ) (good : isIllegal (
 
       go : (b : Bool) → isIllegal (cond b (holds (members (setBits (defined always 1 w) all))) illegal) ≡ false
           → setText (setBits (defined always 1 w) all)
-          ≡ fieldBytes (fieldText 0 (cond b (holds (members (setBits (defined always 1 w) all))) illegal))
+          ≡ fieldBytes (exportField 0 (cond b (holds (members (setBits (defined always 1 w) all))) illegal))
       go true h = field-plain (setText (setBits (defined always 1 w) all)) (set-plain (setBits (defined always 1 w) all))
       go false h = holds-not refl h

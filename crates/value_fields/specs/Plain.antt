@@ -13,7 +13,7 @@ use Rattle.ascii.specs.rule.Tens.{digitsOf}
 use Rattle.fields.specs.rule.Number.{padded}
 use Rattle.lines.specs.rule.Text.{numeral}
 use Rattle.commas.specs.rule.Csv.{isSpecial, holdsSpecial}
-use Rattle.value_fields.specs.rule.Values.{amountText, numberText, codesBehind, setText}
+use Rattle.value_fields.specs.rule.Values.{amountText, exportNumber, codesBehind, setText}
 
 digit-plain : (x : ℕ) → isSpecial (48 + x % 10) ≡ false
 unfolding isSpecial
@@ -49,8 +49,8 @@ amount-plain k n = plain-join (padded (digitsOf (n / 10 ^ k)) (n / 10 ^ k)) _ (p
     go true = refl
     go false = padded-plain k n
 
-pub number-plain : (k : ℕ) (z : ℤ) → holdsSpecial (numberText k z) ≡ false
-unfolding numberText holdsSpecial isSpecial
+pub number-plain : (k : ℕ) (z : ℤ) → holdsSpecial (exportNumber k z) ≡ false
+unfolding exportNumber holdsSpecial isSpecial
 number-plain k z = go (signedOf z .minus)
   where
     go : (q : Bool) → holdsSpecial (cond q ((45 ∷ []) ++ amountText k (signedOf z .size)) (amountText k (signedOf z .size))) ≡ false
@@ -60,12 +60,12 @@ number-plain k z = go (signedOf z .minus)
 codes-plain : (ms : List ℤ) → holdsSpecial (codesBehind ms) ≡ false
 unfolding codesBehind holdsSpecial isSpecial
 codes-plain [] = refl
-codes-plain (m ∷ ms) = plain-join (numberText 0 m) (codesBehind ms) (number-plain 0 m) (codes-plain ms)
+codes-plain (m ∷ ms) = plain-join (exportNumber 0 m) (codesBehind ms) (number-plain 0 m) (codes-plain ms)
 
 pub set-plain : (ms : List ℤ) → holdsSpecial (setText ms) ≡ false
 unfolding setText holdsSpecial isSpecial
 set-plain [] = refl
-set-plain (m ∷ ms) = plain-join (numberText 0 m) (codesBehind ms) (number-plain 0 m) (codes-plain ms)
+set-plain (m ∷ ms) = plain-join (exportNumber 0 m) (codesBehind ms) (number-plain 0 m) (codes-plain ms)
 
 pub truth-plain : (b : Bool) → holdsSpecial (cond b 49 48 ∷ []) ≡ false
 unfolding holdsSpecial isSpecial

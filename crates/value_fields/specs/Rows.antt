@@ -24,7 +24,8 @@ use Rattle.files.specs.Tested.{tested-rows, tested-length}
 use Rattle.lines.specs.Lines.{valueOf}
 use Rattle.listing.specs.Values.{Shown, shown, shown-none, shown-some, Held, held}
 use Rattle.commas.specs.rule.Csv.{holdsSpecial, fieldBytes}
-use Rattle.value_fields.specs.rule.Values.{valueText, fieldText, decimalsOf, rowField}
+use Rattle.value_fields.specs.rule.Values.{exportValue, exportField, rowField}
+use Rattle.widths.specs.rule.Width.{decimalsOf}
 
 kind-decimals : (k : Kind) (r : Row) → KindFacts k r → decimalsOf k ≤ 9
 unfolding decimalsOf
@@ -50,7 +51,7 @@ module _ {t : List ℤ} {h : Header} (g : Tested t h) {i : ℕ} (low : i < h .ro
     read-is = rw (tested-rows g, is) at read
 
     pub row-empty : illegalAnswer a ≡ true → [] ≡ fieldBytes (rowField t bytes i)
-    unfolding rowField fieldText fieldBytes holdsSpecial
+    unfolding rowField exportField fieldBytes holdsSpecial
     row-empty e = rw (shown-none (rowAt t i .start - 1) (length list) (readingAt t i bytes) a (read-is .answer) e)
 
     held-shown : (x : Value) → length list ≡ 9999 → readingAt t i bytes ≡ holds x → Shown x a list′ bytes
@@ -58,11 +59,11 @@ module _ {t : List ℤ} {h : Header} (g : Tested t h) {i : ℕ} (low : i < h .ro
         shown t (rowsOf t) (lengthOf t) (rowAt t i) (row-facts t (g .good) i low-is) bytes long-is list m x a list′ e (rw e at read-is)
 
     pub row-field : length list ≡ 9999 → illegalAnswer a ≡ false
-        → fieldBytes (valueText (decimalsOf (r .kind)) (valueOf a list′ bytes)) ≡ fieldBytes (rowField t bytes i)
-    unfolding rowField fieldText
+        → fieldBytes (exportValue (decimalsOf (r .kind)) (valueOf a list′ bytes)) ≡ fieldBytes (rowField t bytes i)
+    unfolding rowField exportField
     row-field m e = go (shown-some (rowAt t i .start - 1) (length list) (readingAt t i bytes) a (read-is .answer) e)
       where
         go : Held (readingAt t i bytes)
-            → fieldBytes (valueText (decimalsOf (r .kind)) (valueOf a list′ bytes))
-            ≡ fieldBytes (fieldText (decimalsOf (rowAt t i .kind)) (readingAt t i bytes))
+            → fieldBytes (exportValue (decimalsOf (r .kind)) (valueOf a list′ bytes))
+            ≡ fieldBytes (exportField (decimalsOf (rowAt t i .kind)) (readingAt t i bytes))
         go (held x q) = rw (q, held-shown x m q .value, is)

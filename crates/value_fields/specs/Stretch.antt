@@ -16,7 +16,7 @@ use Rattle.fieldlaws.specs.NumberLaws.{length-padded}
 use Rattle.lines.specs.rule.Text.{numeral}
 use Rattle.sink.specs.rule.Sent.{Sent}
 use Rattle.sink.specs.Sent.{Owed, all-owed, less-owed, owed-as, sent-as, bytes-stored}
-use Rattle.value_fields.specs.rule.Values.{numberText, codesBehind, setText}
+use Rattle.value_fields.specs.rule.Values.{exportNumber, codesBehind, setText}
 use Rattle.value_fields.specs.Values.{put-sets}
 use Rattle.value_fields.specs.Legal.{bitsFrom, bit-clear, codes-set, bits-over, count-code}
 
@@ -119,6 +119,6 @@ module _ {bound : ℕ} {out out′ : List ℕ} {k at end : ℕ} (e : at ≡ suc 
     beyond = λ h. a .beyond (omega arith);
     stored = λ h g.
         ap (λ (y : List ℕ). set y k (getD out k 0)) (a .stored (omega arith) g)
-        ∙ byte-back (numberText 0 m ++ codesBehind ms) out k 59
-        ∙ ap (λ (i : ℕ). sets out i (numberText 0 m ++ codesBehind ms)) (sym e);
+        ∙ byte-back (exportNumber 0 m ++ codesBehind ms) out k 59
+        ∙ ap (λ (i : ℕ). sets out i (exportNumber 0 m ++ codesBehind ms)) (sym e);
   }

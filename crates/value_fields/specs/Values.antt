@@ -24,7 +24,7 @@ use Rattle.sink.specs.rule.Sent.{Sent}
 use Rattle.sink.specs.Sent.{bytes-stored, bytes-counted, bytes-lost}
 use Rattle.commas.specs.rule.Csv.{holdsSpecial, fieldBytes}
 use Rattle.commas.specs.Csv.{field-plain}
-use Rattle.value_fields.specs.rule.Values.{amountText, numberText, codesBehind, setText, valueText}
+use Rattle.value_fields.specs.rule.Values.{amountText, exportNumber, codesBehind, setText, exportValue}
 use Rattle.value_fields.specs.Plain.{number-plain, set-plain, truth-plain}
 
 -- ---- digits sent: put at a run of places they are stored one behind the other
@@ -69,16 +69,16 @@ amount-parts k n e = rw (ne-eqb k 0 e)
 
 -- a number by its sign
 module _ (k : ℕ) (z : ℤ) (s : Signed) (e : s ≡ signedOf z) where
-  pub number-minus : s .minus ≡ true → (45 ∷ []) ++ amountText k (s .size) ≡ numberText k z
-  unfolding numberText
+  pub number-minus : s .minus ≡ true → (45 ∷ []) ++ amountText k (s .size) ≡ exportNumber k z
+  unfolding exportNumber
   number-minus m = rw (← e, m)
 
-  pub number-amount : s .minus ≡ false → amountText k (s .size) ≡ numberText k z
-  unfolding numberText
+  pub number-amount : s .minus ≡ false → amountText k (s .size) ≡ exportNumber k z
+  unfolding exportNumber
   number-amount m = rw (← e, m)
 
 -- a code has neither minus nor decimals
-pub code-count : (z : ℤ) (s : Signed) → s ≡ signedOf z → signedOf z .minus ≡ false → numeral (s .size) ≡ numberText 0 z
+pub code-count : (z : ℤ) (s : Signed) → s ≡ signedOf z → signedOf z .minus ≡ false → numeral (s .size) ≡ exportNumber 0 z
 code-count z s e m = count-amount (s .size) ∙ number-amount 0 z s e (ap (λ (x : Signed). x .minus) e ∙ m)
 
 -- the codes of a list one by one
@@ -89,12 +89,12 @@ module _ (list : List ℤ) (n j : ℕ) (h : j < n) (l : n ≤ length list) where
       rw (drop-cons (take n list) j (pos 0) k, getD-take n list j (pos 0) h, add-one j)
 
   pub codes-next : codesBehind (drop j (take n list)) ≡ (59 ∷ [])
-      ++ (numberText 0 (cell list j) ++ codesBehind (drop (j + 1) (take n list)))
+      ++ (exportNumber 0 (cell list j) ++ codesBehind (drop (j + 1) (take n list)))
   unfolding codesBehind
   codes-next = ap codesBehind next-code
 
 pub codes-first : (list : List ℤ) (n : ℕ) → 0 < n → n ≤ length list
-    → numberText 0 (cell list 0) ++ codesBehind (drop 1 (take n list)) ≡ setText (take n list)
+    → exportNumber 0 (cell list 0) ++ codesBehind (drop 1 (take n list)) ≡ setText (take n list)
 unfolding setText
 codes-first list n h l = sym (ap setText (next-code list n 0 h l))
 
@@ -110,24 +110,24 @@ codes-none list n e = rw e
 
 -- ---- an answer's field by its case
 module _ (k : ℕ) (a : Answer) (list : List ℤ) (bytes : List ℕ) where
-  pub missing-field : a ≡ Missing → [] ≡ fieldBytes (valueText k (valueOf a list bytes))
-  unfolding valueText valueOf fieldBytes holdsSpecial
+  pub missing-field : a ≡ Missing → [] ≡ fieldBytes (exportValue k (valueOf a list bytes))
+  unfolding exportValue valueOf fieldBytes holdsSpecial
   missing-field e = rw e
 
-  pub number-field : {z : ℤ} → a ≡ Number z → numberText k z ≡ fieldBytes (valueText k (valueOf a list bytes))
-  unfolding valueText valueOf
-  number-field {z} e = rw e (field-plain (numberText k z) (number-plain k z))
+  pub number-field : {z : ℤ} → a ≡ Number z → exportNumber k z ≡ fieldBytes (exportValue k (valueOf a list bytes))
+  unfolding exportValue valueOf
+  number-field {z} e = rw e (field-plain (exportNumber k z) (number-plain k z))
 
-  pub set-field : {n : ℕ} → a ≡ Set n → setText (take n list) ≡ fieldBytes (valueText k (valueOf a list bytes))
-  unfolding valueText valueOf
+  pub set-field : {n : ℕ} → a ≡ Set n → setText (take n list) ≡ fieldBytes (exportValue k (valueOf a list bytes))
+  unfolding exportValue valueOf
   set-field {n} e = rw e (field-plain (setText (take n list)) (set-plain (take n list)))
 
-  pub text-field : {p n : ℕ} → a ≡ Text p n → fieldBytes (take n (drop p bytes)) ≡ fieldBytes (valueText k (valueOf a list bytes))
-  unfolding valueText valueOf
+  pub text-field : {p n : ℕ} → a ≡ Text p n → fieldBytes (take n (drop p bytes)) ≡ fieldBytes (exportValue k (valueOf a list bytes))
+  unfolding exportValue valueOf
   text-field e = rw e
 
-  pub truth-field : {b : Bool} → a ≡ Truth b → cond b 49 48 ∷ [] ≡ fieldBytes (valueText k (valueOf a list bytes))
-  unfolding valueText valueOf
+  pub truth-field : {b : Bool} → a ≡ Truth b → cond b 49 48 ∷ [] ≡ fieldBytes (exportValue k (valueOf a list bytes))
+  unfolding exportValue valueOf
   truth-field {b} e = rw e (field-plain (cond b 49 48 ∷ []) (truth-plain b))
 
 -- a part of a record by its start and its length

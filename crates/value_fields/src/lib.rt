@@ -30,7 +30,8 @@ ghost use Rattle.lines.specs.Lines.{Codes, Listable, valueOf};
 ghost use Rattle.listing.specs.rule.Turns.{Ready};
 ghost use Rattle.commas.specs.rule.Csv.{fieldBytes};
 ghost use Rattle.sink.specs.rule.Sent.{Sent};
-ghost use Rattle.value_fields.specs.rule.Values.{amountText, numberText, codesBehind, setText, valueText, fieldText, decimalsOf};
+ghost use Rattle.value_fields.specs.rule.Values.{amountText, exportNumber, codesBehind, setText, exportValue, exportField};
+ghost use Rattle.widths.specs.rule.Width.{decimalsOf};
 ghost use Rattle.value_fields.specs.rule.Values.{rowField};
 ghost use Rattle.few_codes.specs.Few.{above};
 ghost use Rattle.value_fields.specs.Ends.{SpacesFrom, EndsAt};
@@ -123,7 +124,7 @@ pub fn send_number(
 ) -> usize
     requires { ⌜ Tens (now powers) ⌝ }
     requires { ⌜ (signedOf z .size < 10 ^ 16) × (k ≤ 9) ⌝ }
-    ensures { λ r. ⌜ Sent bound (now (out .entry)) at (numberText k z) (now (out .exit)) r ⌝ }
+    ensures { λ r. ⌜ Sent bound (now (out .entry)) at (exportNumber k z) (now (out .exit)) r ⌝ }
 {
     let s = cells::signed_of(z);
     let n = s.size;
@@ -138,7 +139,7 @@ pub fn send_number(
 fn send_code(powers: &[u64; 16], bound: usize, out: &mut [u8], at: usize, z: i64) -> usize
     requires { ⌜ Tens (now powers) ⌝ }
     requires { ⌜ (signedOf z .size < 10 ^ 16) × (signedOf z .minus ≡ false) ⌝ }
-    ensures { λ r. ⌜ Sent bound (now (out .entry)) at (numberText 0 z) (now (out .exit)) r ⌝ }
+    ensures { λ r. ⌜ Sent bound (now (out .entry)) at (exportNumber 0 z) (now (out .exit)) r ⌝ }
 {
     let s = cells::signed_of(z);
     send_count(powers, bound, out, at, s.size)
@@ -215,7 +216,7 @@ fn send_value(
 ) -> usize
     requires { ⌜ Tens (now powers) ⌝ }
     requires { ⌜ Listable a (now list) (now bytes) × (k ≤ 9) ⌝ }
-    ensures { λ r. ⌜ Sent bound (now (out .entry)) at (fieldBytes (valueText k (valueOf a (now (list .entry)) (now (bytes .entry)))))
+    ensures { λ r. ⌜ Sent bound (now (out .entry)) at (fieldBytes (exportValue k (valueOf a (now (list .entry)) (now (bytes .entry)))))
         (now (out .exit)) r ⌝ }
 {
     match a {
@@ -258,7 +259,7 @@ fn send_said(
     requires { ⌜ Tens (now powers) ⌝ }
     requires { ⌜ Told (saidOf said) × (k ≤ 9) ⌝ }
     ensures { λ r. ⌜ ((ok : ℤ → Bool) → isIllegal (numeralField «zero_is_missing» ok (saidOf said)) ≡ false
-        → Sent bound (now (out .entry)) at (fieldBytes (fieldText k (numeralField «zero_is_missing» ok (saidOf said)))) (now (out .exit))
+        → Sent bound (now (out .entry)) at (fieldBytes (exportField k (numeralField «zero_is_missing» ok (saidOf said)))) (now (out .exit))
         r) ⌝ }
 {
     match said {
@@ -278,7 +279,7 @@ fn send_single(bound: usize, out: &mut [u8], at: usize, bytes: &[u8], e: usize, 
     requires { ⌜ (w ≤ e) × (e ≤ length (now bytes)) ⌝ }
     requires { ⌜ Told (codeOf (pick (now bytes) (run (e - w) w))) ⌝ }
     ensures { λ r. ⌜ ((ok : ℤ → Bool) → isIllegal (singleField ok (pick (now (bytes .entry)) (run (e - w) w))) ≡ false
-        → Sent bound (now (out .entry)) at (fieldBytes (fieldText 0 (singleField ok (pick (now (bytes .entry)) (run (e - w) w)))))
+        → Sent bound (now (out .entry)) at (fieldBytes (exportField 0 (singleField ok (pick (now (bytes .entry)) (run (e - w) w)))))
         (now (out .exit)) r) ⌝ }
 {
     let a = e - w;
@@ -321,7 +322,7 @@ fn send_signed(
     requires { ⌜ FormatFacts f × (length (now s) ≤ 17) ⌝ }
     requires { ⌜ Told (quantityOf f (now s)) × (quantityOf f (now s) ≡ wrong → ⊥) ⌝ }
     ensures { λ r. ⌜ ((ok : ℤ → Bool) → isIllegal (quantityField f ok (now (s .entry))) ≡ false
-        → Sent bound (now (out .entry)) at (fieldBytes (fieldText (f .decimals) (quantityField f ok (now (s .entry))))) (now (out .exit))
+        → Sent bound (now (out .entry)) at (fieldBytes (exportField (f .decimals) (quantityField f ok (now (s .entry))))) (now (out .exit))
         r) ⌝ }
 {
     let p = bare_digits::leading(s, 32);
@@ -352,7 +353,7 @@ fn send_quantity(
         × (quantityOf f (pick (now bytes) (run (e - w) w)) ≡ wrong → ⊥) ⌝ }
     ensures { λ r. ⌜ ((ok : ℤ → Bool) → isIllegal (quantityField f ok (pick (now (bytes .entry)) (run (e - w) w))) ≡ false
         → Sent bound (now (out .entry)) at
-        (fieldBytes (fieldText (f .decimals) (quantityField f ok (pick (now (bytes .entry)) (run (e - w) w))))) (now (out .exit)) r) ⌝ }
+        (fieldBytes (exportField (f .decimals) (quantityField f ok (pick (now (bytes .entry)) (run (e - w) w))))) (now (out .exit)) r) ⌝ }
 {
     let a = e - w;
     send_signed(powers, bound, out, at, f, &bytes[a..e])
@@ -407,7 +408,7 @@ fn kept_bytes(s: &[u8]) -> usize
 fn send_words(bound: usize, out: &mut [u8], at: usize, bytes: &[u8], p: usize, w: usize) -> usize
     requires { ⌜ (w ≤ 4096) × (p + w ≤ length (now bytes)) ⌝ }
     requires { ⌜ isIllegal (textField (pick (now bytes) (run p w))) ≡ false ⌝ }
-    ensures { λ r. ⌜ Sent bound (now (out .entry)) at (fieldBytes (fieldText 0 (textField (pick (now (bytes .entry)) (run p w)))))
+    ensures { λ r. ⌜ Sent bound (now (out .entry)) at (fieldBytes (exportField 0 (textField (pick (now (bytes .entry)) (run p w)))))
         (now (out .exit)) r ⌝ }
 {
     let e = p + w;
@@ -418,7 +419,7 @@ fn send_words(bound: usize, out: &mut [u8], at: usize, bytes: &[u8], p: usize, w
 // A truth that is legal: its byte as it stands.
 fn send_truth(bound: usize, out: &mut [u8], at: usize, b: u8) -> usize
     requires { ⌜ isIllegal (truthField (b ∷ [])) ≡ false ⌝ }
-    ensures { λ r. ⌜ Sent bound (now (out .entry)) at (fieldBytes (fieldText 0 (truthField (b ∷ [])))) (now (out .exit)) r ⌝ }
+    ensures { λ r. ⌜ Sent bound (now (out .entry)) at (fieldBytes (exportField 0 (truthField (b ∷ [])))) (now (out .exit)) r ⌝ }
 {
     if b == 32 {
         return at;
@@ -670,7 +671,7 @@ fn send_each(
     requires { ⌜ Tens (now powers) ⌝ }
     requires { ⌜ (1 ≤ w) × (w ≤ 9999) × (p + w ≤ length (now bytes)) ⌝ }
     requires { ⌜ isIllegal (eachField w (now bytes) p) ≡ false ⌝ }
-    ensures { λ r. ⌜ Sent bound (now (out .entry)) at (fieldBytes (fieldText 0 (eachField w (now (bytes .entry)) p))) (now (out .exit))
+    ensures { λ r. ⌜ Sent bound (now (out .entry)) at (fieldBytes (exportField 0 (eachField w (now (bytes .entry)) p))) (now (out .exit))
         r ⌝ }
 {
     if bytes[p] == 32 {

@@ -14,7 +14,7 @@ use borrow.Author.Tests.{ltb-true, ltb-false, eqb-true, le-leb, not-true}
 use Rattle.below.specs.Below.{holds-not, and-left, and-right, any-holds}
 use Rattle.cells.specs.rule.Cell.{numberOf, signedOf, eqZ}
 use Rattle.scan.specs.rule.Text.{Text, stop, sign, text}
-use Rattle.scan.specs.rule.Number.{isDigit, runOf, bytesOf}
+use Rattle.scan.specs.rule.Number.{isDigit, runOf, runBytes}
 use Rattle.scan.specs.Number.{capped, digitsFrom}
 use Rattle.scan.specs.Order.{valueOf}
 use Rattle.scan.specs.rule.Loop.{Next, Again, Done, onNext, loopOf}
@@ -62,12 +62,12 @@ use Rattle.values.proofs.Lists.{good-line, line-value, line-good}
 
 -- ---- a value that was read
 -- behind a run of digits stands no digit
-run-stops : (d : List ℕ) {n : ℕ} {t : Text} → From d n t → t ≡ text d n → bytesOf isDigit (text d (runOf isDigit n t)) ≡ []
-unfolding bytesOf runOf
+run-stops : (d : List ℕ) {n : ℕ} {t : Text} → From d n t → t ≡ text d n → runBytes isDigit (text d (runOf isDigit n t)) ≡ []
+unfolding runBytes runOf
 run-stops d at-stop q = rw (sym q)
 run-stops d {n} (at-sign {p = p} {b = b} {u = u} g w i r) q = by (isDigit b) refl (run-stops d r i) where
-  by : (x : Bool) → isDigit b ≡ x → bytesOf isDigit (text d (runOf isDigit (p + 1) u)) ≡ []
-      → bytesOf isDigit (text d (cond x (runOf isDigit (p + 1) u) n)) ≡ []
+  by : (x : Bool) → isDigit b ≡ x → runBytes isDigit (text d (runOf isDigit (p + 1) u)) ≡ []
+      → runBytes isDigit (text d (cond x (runOf isDigit (p + 1) u) n)) ≡ []
   by true f ih = ih
   by false f ih = rw (sym q, f)
 
@@ -84,12 +84,12 @@ pub record Genuine (z : ℕ) (v : Value) : Type 0 where
 abbrev pub sizeIn : List ℕ → Value → ℕ
 sizeIn d v = valueOf d (v .first) (v .last)
 
-mark-pointed : (d : List ℕ) (k : ℕ) (t : Text) → bytesOf isDigit (text d k) ≡ []
-    → (length (bytesOf isDigit (text d (markOf k 46 t .next))) ≡ 0) ⊎ (markOf k 46 t .there ≡ true)
+mark-pointed : (d : List ℕ) (k : ℕ) (t : Text) → runBytes isDigit (text d k) ≡ []
+    → (length (runBytes isDigit (text d (markOf k 46 t .next))) ≡ 0) ⊎ (markOf k 46 t .there ≡ true)
 unfolding markOf
 mark-pointed d k (stop p) f = inl (ap length f)
 mark-pointed d k (sign p c u) f = by (eqb c 46) where
-  by : (x : Bool) → (length (bytesOf isDigit (text d
+  by : (x : Bool) → (length (runBytes isDigit (text d
       (cond {A = Mark} x (record { there = true; next = p + 1 }) (record { there = false; next = k }) .next))) ≡ 0) ⊎
       (cond {A = Mark} x (record { there = true; next = p + 1 }) (record { there = false; next = k }) .there ≡ true)
   by true = inr refl

@@ -12,7 +12,7 @@ use borrow.Author.Tests.{ltb-true, eqb-true}
 use Rattle.below.specs.Below.{either-true, holds-not}
 use Rattle.cells.specs.rule.Cell.{numberOf, signedOf}
 use Rattle.scan.specs.rule.Text.{Text, stop, sign, text}
-use Rattle.scan.specs.rule.Number.{isDigit, isValue, runOf, bytesOf, decimalOf}
+use Rattle.scan.specs.rule.Number.{isDigit, isValue, runOf, runBytes, decimalOf}
 use Rattle.scan.specs.Number.{capped, digitsFrom}
 use Rattle.scan.proofs.Orders.{digit-bounds}
 use Rattle.tokens.specs.declared.Value.{Value}
@@ -27,14 +27,14 @@ step n d k h =
     rw e (mul-le-mul-right (10 ^ k) l)
 
 -- what digits say after n
-digits-below : (t : Text) (n : ℕ) → decimalOf n (bytesOf isDigit t) + 1 ≤ (n + 1) * 10 ^ length (bytesOf isDigit t)
-unfolding bytesOf decimalOf
+digits-below : (t : Text) (n : ℕ) → decimalOf n (runBytes isDigit t) + 1 ≤ (n + 1) * 10 ^ length (runBytes isDigit t)
+unfolding runBytes decimalOf
 digits-below (stop p) n = rw (pow-zero, mul-one) (omega arith)
 digits-below (sign p b t) n = by (isDigit b) refl (digits-below t (n * 10 + (b - 48))) where
   by : (x : Bool) → isDigit b ≡ x
-      → decimalOf (n * 10 + (b - 48)) (bytesOf isDigit t) + 1 ≤ (n * 10 + (b - 48) + 1) * 10 ^ length (bytesOf isDigit t)
-      → decimalOf n (cond x (b ∷ bytesOf isDigit t) []) + 1 ≤ (n + 1) * 10 ^ length (cond x (b ∷ bytesOf isDigit t) [])
-  by true e ih = le-trans ih (step n (b - 48) (length (bytesOf isDigit t)) (omega (arith, digit-bounds b e .1)))
+      → decimalOf (n * 10 + (b - 48)) (runBytes isDigit t) + 1 ≤ (n * 10 + (b - 48) + 1) * 10 ^ length (runBytes isDigit t)
+      → decimalOf n (cond x (b ∷ runBytes isDigit t) []) + 1 ≤ (n + 1) * 10 ^ length (cond x (b ∷ runBytes isDigit t) [])
+  by true e ih = le-trans ih (step n (b - 48) (length (runBytes isDigit t)) (omega (arith, digit-bounds b e .1)))
   by false e ih = rw (pow-zero, mul-one) (omega arith)
 
 cap-low : (n : ℕ) → capped n ≤ n
@@ -54,15 +54,15 @@ value-near d at e =
     let m = markOf at 45 (text d at) .next in
     let k = runOf isDigit m (text d m) in
     let o = markOf k 46 (text d k) .next in
-    by (bytesOf isDigit (text d m)) (text d o) (none-of (bytesOf isDigit (text d m)) (omega (arith, e)))
+    by (runBytes isDigit (text d m)) (text d o) (none-of (runBytes isDigit (text d m)) (omega (arith, e)))
   where
-    by : (w : List ℕ) (t : Text) → w ≡ [] → capped (decimalOf (capped (decimalOf 0 w)) (bytesOf isDigit t))
-        < 10 ^ (0 + length (bytesOf isDigit t))
+    by : (w : List ℕ) (t : Text) → w ≡ [] → capped (decimalOf (capped (decimalOf 0 w)) (runBytes isDigit t))
+        < 10 ^ (0 + length (runBytes isDigit t))
     by w t q =
-        let k = length (bytesOf isDigit t) in
+        let k = length (runBytes isDigit t) in
         let e : 0 + k ≡ k = omega arith in
-        let h : decimalOf 0 (bytesOf isDigit t) + 1 ≤ 10 ^ k = rw one-mul at (digits-below t 0) in
-        rw q (rw e (lt-of-le-of-lt (cap-low (decimalOf 0 (bytesOf isDigit t))) (omega (arith, h))))
+        let h : decimalOf 0 (runBytes isDigit t) + 1 ≤ 10 ^ k = rw one-mul at (digits-below t 0) in
+        rw q (rw e (lt-of-le-of-lt (cap-low (decimalOf 0 (runBytes isDigit t))) (omega (arith, h))))
 
 -- a value in form has a digit
 formed-some : (x : Bool) (w f : ℕ) → (x && (ltb 0 w || ltb 0 f)) ≡ true → (0 < w) ⊎ (0 < f)

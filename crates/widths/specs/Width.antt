@@ -21,14 +21,7 @@ use Rattle.layout.specs.declared.Kind.the-variants.{Single, Multiple, Quantity,
 use Rattle.layout.specs.declared.Spread.{Spread}
 use Rattle.layout.specs.declared.Spread.the-variants.{Bits, Fields}
 use Rattle.widths.specs.rule.Width.{sizeOf, minusOf, tailOf, leastWhole, wholeDigits, quantityWidth, need, mostSize, lowest, highest}
-use Rattle.widths.specs.rule.Width.{fitsKind}
-
-unfoldable pub decimalsOf : Kind → ℕ
-decimalsOf Single = 0
-decimalsOf (Multiple s) = 0
-decimalsOf (Quantity f) = f .decimals
-decimalsOf Character = 0
-decimalsOf Logical = 0
+use Rattle.widths.specs.rule.Width.{fitsKind, decimalsOf}
 
 -- decimals within their limit
 pub record FewDecimals (k : Kind) : Type 0 where

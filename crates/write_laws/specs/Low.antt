@@ -128,7 +128,7 @@ module _ (d : List ℕ) where
     refusal-placed d 0 number place (u 0),
   )
     where
-      by : {o : Outcome} {q : rule.Outcome} → outcomeIn d (roomOf (surveyOf d)) ≡ o → q ≡ rule.Refusal number place → SameOutcome d o q
+      by : {o : Outcome} {q : rule.SssOutcome} → outcomeIn d (roomOf (surveyOf d)) ≡ o → q ≡ rule.Refusal number place → SameOutcome d o q
           → number ≤ 9
       by i j (bridge.built s) = never cc
       by i j (bridge.refused {k = a} {p = b}) =

@@ -11,14 +11,14 @@ use Rattle.survey.specs.rule.Survey.{Survey}
 use Rattle.survey.specs.rule.Table.{tableOf}
 use Rattle.bridge.specs.Lowest.{never}
 use Rattle.definition.specs.declared.Answer.{Answer}
-use Rattle.definition.specs.rule.Definition.{tableAfter, DefinitionRead}
+use Rattle.definition.specs.rule.Definition.{sssTableAfter, SssRead}
 use Rattle.clean_text.specs.rule.Clean.{cleanOf}
 use Rattle.clean_laws.specs.rule.Reads.{Reads}
 use Rattle.clean_laws.specs.Reads.{CleanReads, clean-reads}
 use Rattle.clean_laws.specs.Called.{texts-equal, clean-called}
 use Rattle.clean.specs.declared.Written.{Written}
 use Rattle.clean.specs.declared.Written.the-variants.{Done, Refused}
-use Rattle.clean.specs.rule.Written.{Writing, Text, fitted, writingOf, writtenOf, outAfter, DefinitionWritten}
+use Rattle.clean.specs.rule.Written.{Writing, Text, cleanFitted, writingOf, cleanWritten, outAfter, DefinitionWritten}
 use Rattle.clean.specs.rule.Written as rule
 use Rattle.write_laws.specs.rule.Exactly.{Begins, WriteOutcome, unread, other-table, too-large, short-room, all-written}
 use Rattle.write_laws.specs.rule.Output.{CleanStands, SaysSame}
@@ -32,16 +32,16 @@ drop-front : {A : Type 0} (s u : List A) → drop (length s) (s ++ u) ≡ u
 drop-front [] u = refl
 drop-front (b ∷ s) u = drop-front s u
 
-fitted-text : (n : ℕ) (s : List ℕ) → length s ≤ 1048576 → length s ≤ n → fitted n s ≡ Text s
-unfolding fitted
+fitted-text : (n : ℕ) (s : List ℕ) → length s ≤ 1048576 → length s ≤ n → cleanFitted n s ≡ Text s
+unfolding cleanFitted
 fitted-text n s h k = rw (le-ltb 1048576 (length s) h, le-ltb n (length s) k)
 
 -- ---- a refusal keeps the output
 pub write-kept : {d : List ℕ} {t : List ℤ} {out out′ : List ℕ} {number place : ℕ} → DefinitionWritten d t out out′ (Refused number place)
     → out′ ≡ out
-unfolding writtenOf outAfter
+unfolding cleanWritten outAfter
 write-kept {d} {t} {out} {out′} {number} {place} a = by (writingOf d t (length out)) (a .says) (a .leaves) where
-  by : (w : Writing) → Refused number place ≡ writtenOf w → out′ ≡ outAfter w out → out′ ≡ out
+  by : (w : Writing) → Refused number place ≡ cleanWritten w → out′ ≡ outAfter w out → out′ ≡ out
   by (Text s) e q = never cc
   by (rule.Refusal k p) e q = q
 
@@ -78,23 +78,23 @@ module _ {d : List ℕ} {t : List ℤ} {out out′ : List ℕ} where
 -- ---- the text is read, and written again
 -- what reading leaves begins with the table that is read
 own-table : {c : List ℕ} {s : Survey} {u u′ : List ℤ} {a : Answer} → Reads c s → length (tableOf (s .variables)) ≤ length u
-    → DefinitionRead c u u′ a → Begins s u′
-unfolding tableAfter pasted
+    → SssRead c u u′ a → Begins s u′
+unfolding sssTableAfter pasted
 own-table {s = s} {u = u} r h p =
     let x = tableOf (s .variables) in
     let e = rw (r .built (length u) h) at (p .leaves) in
     rw e (take-front x (drop (0 + length x) u))
 
 clean-again : {d : List ℕ} {s : Survey} (c : CleanReads d s) {u u′ : List ℤ} {a : Answer} {out out′ : List ℕ} {w : Written}
-    → length (cleanOf d s) ≤ 1048576 → length (tableOf (s .variables)) ≤ length u → DefinitionRead (cleanOf d s) u u′ a
+    → length (cleanOf d s) ≤ 1048576 → length (tableOf (s .variables)) ≤ length u → SssRead (cleanOf d s) u u′ a
     → length (cleanOf d s) ≤ length out → DefinitionWritten (cleanOf d s) u′ out out′ w
     → (w ≡ Done (length (cleanOf d s))) × (out′ ≡ cleanOf d s ++ drop (length (cleanOf d s)) out)
-unfolding writtenOf outAfter
+unfolding cleanWritten outAfter
 clean-again {d} {s} c {u′ = u′} {out = out} short h p room q =
     let o = own-table (c .reads) (rw (c .long) h) p in
     let e : writingOf (cleanOf d s) u′ (length out) ≡ Text (cleanOf d s) =
     written-fitted (cleanOf d s) u′ (length out) (c .reads) o
-    ∙ ap (fitted (length out)) (c .again) ∙ fitted-text (length out) (cleanOf d s) short room in
+    ∙ ap (cleanFitted (length out)) (c .again) ∙ fitted-text (length out) (cleanOf d s) short room in
     (q .says ∙ rw e, q .leaves ∙ rw e)
 
 says-same : {d : List ℕ} {s : Survey} → Reads d s → length (cleanOf d s) ≤ 1048576 → SaysSame d (cleanOf d s) s (length (cleanOf d s))

@@ -7,9 +7,9 @@ use lib.ListN.{length, length-append}
 use Rattle.layout.specs.rule.Layout.{rowSize, lineSize, lineBase, mostRows, mostLines}
 use Rattle.rows.specs.rule.Cells.{rowCells, headerCells}
 use Rattle.survey.specs.rule.Survey.{Line, Variable, Survey}
-use Rattle.survey.specs.rule.Table.{columnsOf, linesOf, linesAll, headerFor, rowsFrom, lineCells, cellsOf, allLines, tableOf}
+use Rattle.survey.specs.rule.Table.{variableColumns, linesOf, linesAll, headerFor, rowsFrom, lineCells, cellsOf, allLines, tableOf}
 use Rattle.bridge.specs.Lowest.{never}
-use Rattle.definition.specs.rule.Definition.{Outcome, Built, Refusal, outcomeOf}
+use Rattle.definition.specs.rule.Definition.{SssOutcome, Built, Refusal, sssOutcome}
 use Rattle.grammar_laws.specs.Outcome.{Settles, outcome-exactly}
 use Rattle.grammar_laws.specs.Outcome as outcome
 use Rattle.front_laws.specs.Read.{few}
@@ -27,7 +27,7 @@ unfolding allLines linesAll
 lines-length [] = refl
 lines-length (v ∷ l) = length-append (cellsOf (linesOf v)) (allLines l) ∙ rw (cells-length (linesOf v), lines-length l) (omega arith)
 
-row-length : (before : ℕ) (v : Variable) → length (rowCells (columnsOf before v)) ≡ rowSize
+row-length : (before : ℕ) (v : Variable) → length (rowCells (variableColumns before v)) ≡ rowSize
 unfolding rowCells
 row-length before v = refl
 
@@ -35,7 +35,7 @@ rows-length : (before : ℕ) (l : List Variable) → length (rowsFrom before l) 
 unfolding rowsFrom
 rows-length before [] = refl
 rows-length before (v ∷ l) =
-    length-append (rowCells (columnsOf before v)) (rowsFrom (before + length (linesOf v)) l)
+    length-append (rowCells (variableColumns before v)) (rowsFrom (before + length (linesOf v)) l)
     ∙ rw (row-length before v, rows-length (before + length (linesOf v)) l) (omega arith)
 
 table-length : (l : List Variable) → length (tableOf l) ≡ lineBase (length l) (linesAll l)
@@ -45,19 +45,19 @@ table-length l =
     ∙ rw (length-append (rowsFrom 0 l) (allLines l), rows-length 0 l, lines-length l) (omega arith)
 
 -- ---- what is built has 512 rows and 4,096 lines at most
-built-fits : (d : List ℕ) (n : ℕ) (l : List Variable) → outcomeOf d n ≡ Built l → length (tableOf l) ≤ lineBase mostRows mostLines
+built-fits : (d : List ℕ) (n : ℕ) (l : List Variable) → sssOutcome d n ≡ Built l → length (tableOf l) ≤ lineBase mostRows mostLines
 built-fits d n l e = let f = few d n l e in omega (arith, table-length l, f .0, f .1)
 
 module _ (d : List ℕ) where
-  pub read-built : {s : Survey} → Reads d s → outcomeOf d (lineBase mostRows mostLines) ≡ Built (s .variables)
+  pub read-built : {s : Survey} → Reads d s → sssOutcome d (lineBase mostRows mostLines) ≡ Built (s .variables)
   read-built {s} r =
       let n = length (tableOf (s .variables)) in
       r .built (lineBase mostRows mostLines) (built-fits d n (s .variables) (r .built n (omega arith)))
 
   -- a refusal with room for any table is one with any room
-  pub refused-unread : {number place : ℕ} → outcomeOf d (lineBase mostRows mostLines) ≡ Refusal number place → Unread d number place
+  pub refused-unread : {number place : ℕ} → sssOutcome d (lineBase mostRows mostLines) ≡ Refusal number place → Unread d number place
   refused-unread {number} {place} e n = by (outcome-exactly d (lineBase mostRows mostLines) (Refusal number place) .0 e) refl where
-    by : {o : Outcome} → Settles d (lineBase mostRows mostLines) o → o ≡ Refusal number place → outcomeOf d n ≡ Refusal number place
+    by : {o : SssOutcome} → Settles d (lineBase mostRows mostLines) o → o ≡ Refusal number place → sssOutcome d n ≡ Refusal number place
     by (outcome.too-long h) q = outcome-exactly d n (Refusal 1 0) .1 (outcome.too-long h) ∙ q
     by (outcome.stopped h z) q = outcome-exactly d n _ .1 (outcome.stopped h z) ∙ q
     by (outcome.misnamed h x y z) q = outcome-exactly d n _ .1 (outcome.misnamed h x y z) ∙ q

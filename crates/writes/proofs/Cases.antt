@@ -31,31 +31,31 @@ use Rattle.writes.specs.declared.Wrote.the-variants.{Done, OtherType, No
 use Rattle.writes.specs.declared.Value.{Value}
 use Rattle.writes.specs.declared.Value.the-variants.{Missing, Number}
 use Rattle.writes.specs.declared.Wrote.{Wrote}
-use Rattle.writes.specs.rule.Write.{valueOf}
+use Rattle.writes.specs.rule.Write.{lentValue}
 use Rattle.writes.specs.Write.{WrittenBy, Ready, EachFits, takesNumbers, answerBy, leftBy}
 
 module _ {k : Kind} {t : List ℤ} {v : ℕ} {r : Row} {value : Value} {list : List ℤ} {text : List ℕ} {old : List ℕ} where
-  pub accepted : {new : List ℕ} → fitsBy k t v r (valueOf value list text) ≡ fits
-      → new ≡ put old (placesBy k t v r) (bytesBy k t v r (valueOf value list text)) → WrittenBy k t v r value list text old new Done
+  pub accepted : {new : List ℕ} → fitsBy k t v r (lentValue value list text) ≡ fits
+      → new ≡ put old (placesBy k t v r) (bytesBy k t v r (lentValue value list text)) → WrittenBy k t v r value list text old new Done
   unfolding answerBy leftBy
   accepted e q = record { says = rw e; leaves = rw (e, q) }
 
-  pub other : fitsBy k t v r (valueOf value list text) ≡ otherType → WrittenBy k t v r value list text old old OtherType
+  pub other : fitsBy k t v r (lentValue value list text) ≡ otherType → WrittenBy k t v r value list text old old OtherType
   unfolding answerBy leftBy
   other e = record { says = rw e; leaves = rw e }
 
-  pub illegal : fitsBy k t v r (valueOf value list text) ≡ notLegal → WrittenBy k t v r value list text old old NotLegal
+  pub illegal : fitsBy k t v r (lentValue value list text) ≡ notLegal → WrittenBy k t v r value list text old old NotLegal
   unfolding answerBy leftBy
   illegal e = record { says = rw e; leaves = rw e }
 
-  pub many : fitsBy k t v r (valueOf value list text) ≡ tooMany → WrittenBy k t v r value list text old old TooMany
+  pub many : fitsBy k t v r (lentValue value list text) ≡ tooMany → WrittenBy k t v r value list text old old TooMany
   unfolding answerBy leftBy
   many e = record { says = rw e; leaves = rw e }
 
 -- a missing value fits every kind, and gives spaces
 module _ {k : Kind} {t : List ℤ} {v : ℕ} {r : Row} {old new : List ℕ} where
   pub blanked : new ≡ put old (placesBy k t v r) (spaces (length (placesBy k t v r))) → WrittenBy k t v r Missing [] [] old new Done
-  unfolding valueOf fitsBy bytesBy
+  unfolding lentValue fitsBy bytesBy
   blanked q = accepted refl q
 
   -- in one run of places
@@ -126,22 +126,22 @@ module _ (t : List ℤ) (v : ℕ) (r : Row) (z : ℤ) where
 
 module _ {k : Kind} {t : List ℤ} {v : ℕ} {r : Row} {z : ℤ} {old : List ℕ} where
   pub number-other : takesNumbers k ≡ false → WrittenBy k t v r (Number z) [] [] old old OtherType
-  unfolding valueOf
+  unfolding lentValue
   number-other e = other (not-taken t v r z k e)
 
   module _ (e : takesNumbers k ≡ true) where
     pub number-illegal : legal t v r z ≡ false → WrittenBy k t v r (Number z) [] [] old old NotLegal
-    unfolding valueOf
+    unfolding lentValue
     number-illegal l = illegal (taken t v r z k e ∙ legal-not l)
 
     pub number-put : {new : List ℕ} → legal t v r z ≡ true → new ≡ put old (placesBy k t v r) (bytesBy k t v r (number z))
         → WrittenBy k t v r (Number z) [] [] old new Done
-    unfolding valueOf
+    unfolding lentValue
     number-put l q = accepted (taken t v r z k e ∙ legal-fits l) q
 
 -- the same value, said otherwise
 pub as-given : {k : Kind} {t : List ℤ} {v : ℕ} {r : Row} {value value′ : Value} {list list′ : List ℤ} {text text′ : List ℕ}
-    {old new : List ℕ} {a : Wrote} → valueOf value list text ≡ valueOf value′ list′ text′
+    {old new : List ℕ} {a : Wrote} → lentValue value list text ≡ lentValue value′ list′ text′
     → WrittenBy k t v r value′ list′ text′ old new a → WrittenBy k t v r value list text old new a
 as-given e w = record { says = rw e (w .says); leaves = rw e (w .leaves) }
 
@@ -187,7 +187,7 @@ pub written-as : {k k′ : Kind} {t : List ℤ} {v : ℕ} {r : Row} {value : Val
 written-as e w = rw e w
 
 pub other-kind : {k k′ : Kind} {t : List ℤ} {v : ℕ} {r : Row} {value : Value} {list : List ℤ} {text : List ℕ} {old : List ℕ}
-    → k ≡ k′ → fitsBy k′ t v r (valueOf value list text) ≡ otherType → WrittenBy k t v r value list text old old OtherType
+    → k ≡ k′ → fitsBy k′ t v r (lentValue value list text) ≡ otherType → WrittenBy k t v r value list text old old OtherType
 other-kind kind e = written-as kind (other e)
 
 -- the marks that are lent are as many as asked for

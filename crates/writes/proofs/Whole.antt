@@ -20,13 +20,13 @@ use Rattle.sound.specs.Rows.{row-facts}
 use Rattle.writes.specs.declared.Value.{Value}
 use Rattle.writes.specs.declared.Wrote.{Wrote}
 use Rattle.writes.specs.declared.Wrote.the-variants.{NotWellFormed, NoRow, TooShort}
-use Rattle.writes.specs.rule.Write.{valueOf}
+use Rattle.writes.specs.rule.Write.{lentValue}
 use Rattle.writes.specs.Write.{WrittenBy, Ready, ready, answerBy, leftBy}
-use Rattle.writes.specs.rule.Public.{numberOf, fitNumber, refusalOf, recordAfter, Written}
+use Rattle.writes.specs.rule.Public.{writeNumber, fitNumber, refusalOf, recordAfter, Written}
 
 -- the number of an answer by the fit is the fit's, and the record is kept but where it is 0
-number-by : (f : Fit) → numberOf (answerBy f) ≡ fitNumber f
-unfolding answerBy numberOf fitNumber
+number-by : (f : Fit) → writeNumber (answerBy f) ≡ fitNumber f
+unfolding answerBy writeNumber fitNumber
 number-by fits = refl
 number-by otherType = refl
 number-by notLegal = refl
@@ -40,17 +40,17 @@ left-by notLegal new old = refl
 left-by tooMany new old = refl
 
 module _ (t : List ℤ) (i : ℕ) (x : field.Value) (old : List ℕ) where
-  pub not-formed : wellFormed t ≡ false → Written t i x old old (numberOf NotWellFormed)
-  unfolding refusalOf recordAfter numberOf
+  pub not-formed : wellFormed t ≡ false → Written t i x old old (writeNumber NotWellFormed)
+  unfolding refusalOf recordAfter writeNumber
   not-formed e = record { says = rw e; leaves = rw e }
 
   module _ (good : wellFormed t ≡ true) where
-    pub no-row : rowsOf t ≤ i → Written t i x old old (numberOf NoRow)
-    unfolding refusalOf recordAfter numberOf
+    pub no-row : rowsOf t ≤ i → Written t i x old old (writeNumber NoRow)
+    unfolding refusalOf recordAfter writeNumber
     no-row h = record { says = rw (good, le-leb (rowsOf t) i h); leaves = rw (good, le-leb (rowsOf t) i h) }
 
-    pub too-short : i < rowsOf t → length old < lengthOf t → Written t i x old old (numberOf TooShort)
-    unfolding refusalOf recordAfter numberOf
+    pub too-short : i < rowsOf t → length old < lengthOf t → Written t i x old old (writeNumber TooShort)
+    unfolding refusalOf recordAfter writeNumber
     too-short h l = record {
       says = rw (good, lt-leb (rowsOf t) i h, lt-ltb (length old) (lengthOf t) l);
       leaves = rw (good, lt-leb (rowsOf t) i h, lt-ltb (length old) (lengthOf t) l);
@@ -77,13 +77,13 @@ module _ (t : List ℤ) (i : ℕ) (old : List ℕ) (good : wellFormed t ≡ true
     row-ready = rw (q, e) (ready (length old) (row-facts t good i below) long-enough)
 
     pub row-written : {value : Value} {list : List ℤ} {text : List ℕ} {new : List ℕ} {a : Wrote}
-        → WrittenBy (r .kind) t (h .rows) r value list text old new a → Written t i (valueOf value list text) old new (numberOf a)
+        → WrittenBy (r .kind) t (h .rows) r value list text old new a → Written t i (lentValue value list text) old new (writeNumber a)
     unfolding recordAfter writtenOf
     row-written {value} {list} {text} {new} {a} w =
         let w′ : WrittenBy (rowAt t i .kind) t (rowsOf t) (rowAt t i) value list text old new a = rw (q, e) at w in
-        let x : field.Value = valueOf value list text in
+        let x : field.Value = lentValue value list text in
         let f : Fit = fitOf t (rowsOf t) (rowAt t i) x in
         record {
-          says = ap numberOf (w′ .says) ∙ number-by f ∙ sym (refusal-is t i x old good below long-enough);
+          says = ap writeNumber (w′ .says) ∙ number-by f ∙ sym (refusal-is t i x old good below long-enough);
           leaves = w′ .leaves ∙ left-by f (writtenOf t (rowsOf t) (rowAt t i) x old) old ∙ rw (refusal-is t i x old good below long-enough);
         }

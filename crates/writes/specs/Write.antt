@@ -20,7 +20,7 @@ use Rattle.writes.specs.declared.Value.{Value}
 use Rattle.writes.specs.declared.Value.the-variants.{Missing, Set}
 use Rattle.writes.specs.declared.Wrote.{Wrote}
 use Rattle.writes.specs.declared.Wrote.the-variants.{Done, OtherType, NotLegal, TooMany}
-use Rattle.writes.specs.rule.Write.{valueOf}
+use Rattle.writes.specs.rule.Write.{lentValue}
 
 -- whether a row of the kind takes numbers
 abbrev pub takesNumbers : Kind → Bool
@@ -52,10 +52,10 @@ leftBy tooMany new old = old
 -- a write to a row of the kind k
 pub record WrittenBy (k : Kind) (t : List ℤ) (v : ℕ) (r : Row) (value : Value) (list : List ℤ) (text : List ℕ) (old new : List ℕ)
     (answer : Wrote) : Type 0 where
-  pub says : answer ≡ answerBy (fitsBy k t v r (valueOf value list text))
+  pub says : answer ≡ answerBy (fitsBy k t v r (lentValue value list text))
   pub leaves : new
-      ≡ leftBy (fitsBy k t v r (valueOf value list text))
-      (put old (placesBy k t v r) (bytesBy k t v r (valueOf value list text))) old
+      ≡ leftBy (fitsBy k t v r (lentValue value list text))
+      (put old (placesBy k t v r) (bytesBy k t v r (lentValue value list text))) old
 
 -- what a writer needs of a row of the kind k, in a record of n bytes
 pub record Ready (k : Kind) (t : List ℤ) (v n : ℕ) (r : Row) : Type 0 where

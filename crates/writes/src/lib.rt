@@ -3,8 +3,8 @@
 ghost use lib.ListN.{length};
 ghost use Rattle.ascii.specs.rule.Tens.{Tens};
 ghost use Rattle.writes.specs.Write.{WrittenBy, Ready};
-ghost use Rattle.writes.specs.rule.Write.{valueOf};
-ghost use Rattle.writes.specs.rule.Public.{numberOf, Written};
+ghost use Rattle.writes.specs.rule.Write.{lentValue};
+ghost use Rattle.writes.specs.rule.Public.{writeNumber, Written};
 use layout::Header;
 use layout::Row;
 
@@ -67,8 +67,8 @@ pub fn write_value(
     text: &[u8],
     bytes: &mut [u8],
 ) -> Wrote
-    ensures { λ r. ⌜ Written (now (table .entry)) row (valueOf value (now (list .entry)) (now (text .entry))) (now (bytes .entry))
-        (now (bytes .exit)) (numberOf r) ⌝ }
+    ensures { λ r. ⌜ Written (now (table .entry)) row (lentValue value (now (list .entry)) (now (text .entry))) (now (bytes .entry))
+        (now (bytes .exit)) (writeNumber r) ⌝ }
 {
     if !sound::well_formed(table) {
         return Wrote::NotWellFormed;

@@ -27,11 +27,11 @@ use Rattle.variables.specs.Rest.{Telling}
 use Rattle.measures.specs.Width.{flagOf, plainColumns, linesWidth, widestOf, widthOf, widened, fullColumns}
 use Rattle.measures.specs.Survey.{countedIn, columnsIn}
 use Rattle.measures.specs.Survey as book
-use Rattle.survey.specs.rule.Survey.{Amount, Text, Range, Line, Block, Spread, Content, single, multiple, quantity, character, logical}
+use Rattle.survey.specs.rule.Survey.{Amount, KeptText, Range, Line, Block, Spread, Content, single, multiple, quantity, character, logical}
 use Rattle.survey.specs.rule.Survey.{Figure, Variable}
 use Rattle.survey.specs.rule.Width.{flag, someOf, rangeEnds, amounts, decimalsIn, pointIn, partsOf, blockIn, finishIn, roomIn}
-use Rattle.survey.specs.rule.Width.{subwidthOf, kindIn, widest, widthIn}
-use Rattle.survey.specs.rule.Table.{ranged, fromOf, toOf, typeOf, spreadIn, columnsOf, linesOf, lineCells, cellsOf}
+use Rattle.survey.specs.rule.Width.{subwidthOf, kindIn, widestAmount, widthIn}
+use Rattle.survey.specs.rule.Table.{ranged, fromOf, toOf, typeOf, spreadIn, variableColumns, linesOf, lineCells, cellsOf}
 
 -- ---- values, lines, blocks
 abbrev pub valueAs : Amount → Value
@@ -48,7 +48,7 @@ valueAs a = record {
   next = 0;
 }
 
-abbrev pub quotedAs : Text → ℕ → Quoted
+abbrev pub quotedAs : KeptText → ℕ → Quoted
 quotedAs t n = record { place = t .place; length = t .length; next = n }
 
 abbrev pub saidAs : Line → Said
@@ -133,19 +133,20 @@ max-first zero f = omega arith
 max-first (suc n) f = rw (max-first n f) (omega arith)
 
 module _ (k : Kind) where
-  lines-widest : (l : List Line) → maxBelow (length (saids l)) (λ i. need k (numberAt (saids l) i)) ≡ widest k (map (λ x. x .value) l)
-  unfolding saids numberAt numbers widest maxBelow scaledOf
+  lines-widest : (l : List Line) → maxBelow (length (saids l)) (λ i. need k (numberAt (saids l) i)) ≡ widestAmount k (map (λ x. x .value) l)
+  unfolding saids numberAt numbers widestAmount maxBelow scaledOf
   lines-widest [] = refl
   lines-widest (x ∷ l) = max-first (length (saids l)) (λ i. need k (numberAt (saids (x ∷ l)) i)) ∙ rw (lines-widest l)
 
   block-widest : (b : Block)
       → max (cond (eqb (flagOf (isRanged (b .range))) 1) (max (need k (fromOf (b .range))) (need k (toOf (b .range)))) 0)
-      (maxBelow (length (saids (b .lines))) (λ i. need k (numberAt (saids (b .lines)) i))) ≡ widest k (amounts b)
-  unfolding amounts widest flagOf
+      (maxBelow (length (saids (b .lines))) (λ i. need k (numberAt (saids (b .lines)) i))) ≡ widestAmount k (amounts b)
+  unfolding amounts widestAmount flagOf
   block-widest b = rw (lines-widest (b .lines)) (by (b .range)) where
     by : (o : Option Range)
-        → max (cond (eqb (flagOf (isRanged o)) 1) (max (need k (fromOf o)) (need k (toOf o))) 0) (widest k (map (λ x. x .value) (b .lines)))
-        ≡ widest k (rangeEnds o ++ map (λ x. x .value) (b .lines))
+        → max (cond (eqb (flagOf (isRanged o)) 1) (max (need k (fromOf o)) (need k (toOf o))) 0)
+        (widestAmount k (map (λ x. x .value) (b .lines)))
+        ≡ widestAmount k (rangeEnds o ++ map (λ x. x .value) (b .lines))
     by none = omega arith
     by (some r) = omega arith
 
@@ -159,11 +160,11 @@ module _ (i j before : ℕ) where
   lines-left : (l : List Line) → before + length (saids l) - before ≡ length (saids l)
   lines-left l = omega arith
 
-  content-columns : (n : Figure) (name label : Text) (p : Figure) (q : Option Figure) (t : Content)
+  content-columns : (n : Figure) (name label : KeptText) (p : Figure) (q : Option Figure) (t : Content)
       → columnsIn before (bookWith i j (partsOf (spreadIn t)) (subwidthOf (Option·getD q p .value + 1 - p .value) (spreadIn t))
       (record { ident = n; name = name; label = label; start = p; finish = q; content = t }))
-      ≡ columnsOf before (record { ident = n; name = name; label = label; start = p; finish = q; content = t })
-  unfolding columnsIn fullColumns widened plainColumns countedIn columnsOf widthOf widthIn kindIn kindOf rowOf widestOf linesWidth
+      ≡ variableColumns before (record { ident = n; name = name; label = label; start = p; finish = q; content = t })
+  unfolding columnsIn fullColumns widened plainColumns countedIn variableColumns widthOf widthIn kindIn kindOf rowOf widestOf linesWidth
       rangeWidth amounts someOf saids
   content-columns n name label p q (single b) =
       rw (lines-left (b .lines)) (rw (block-widest kind.Single b, flags (b .range), saids-count (b .lines)))
@@ -186,8 +187,8 @@ module _ (i j before : ℕ) where
 
   pub columns-with : (v : Variable)
       → columnsIn before (bookWith i j (partsOf (spreadIn (v .content))) (subwidthOf (roomIn v) (spreadIn (v .content))) v)
-      ≡ columnsOf before v
+      ≡ variableColumns before v
   columns-with v = content-columns (v .ident) (v .name) (v .label) (v .start) (v .finish) (v .content)
 
-pub columns-same : (before : ℕ) (v : Variable) → columnsIn before (bookOf v) ≡ columnsOf before v
+pub columns-same : (before : ℕ) (v : Variable) → columnsIn before (bookOf v) ≡ variableColumns before v
 columns-same before v = columns-with 0 0 before v

@@ -28,11 +28,11 @@ use Rattle.values.proofs.Goods.{Genuine, Fit, fits, value-limited}
 use Rattle.values.proofs.Shares.{size-number}
 use Rattle.values.proofs.Facts.{or-none, or-neither}
 use Rattle.values.proofs.Rooms.{count-more, number-before, number-last}
-use Rattle.survey.specs.rule.Survey.{Amount, Text, Range, Line, Block}
+use Rattle.survey.specs.rule.Survey.{Amount, KeptText, Range, Line, Block}
 use Rattle.survey.specs.rule.Width.{someOf, eachOf, rangeEnds, amounts, scaled, decimalsIn, bare, pointIn}
 use Rattle.survey.specs.rule.Table.{fromOf, toOf}
-use Rattle.reading.specs.rule.Token.{leading, behind, begins, without, amountOf}
-use Rattle.reading.specs.rule.Values.{formIs, large, unlike, withLine, rangeFrom, unlisted}
+use Rattle.reading.specs.rule.Token.{leading, afterPoint, begins, without, amountRead}
+use Rattle.reading.specs.rule.Values.{formIs, large, unlikeAmounts, withLine, rangeFrom, unlisted}
 use Rattle.bridge.specs.Blocks.{small}
 use Rattle.xml_bridge.specs.Book.{valueAs, saidAs, saids, saids-count, saids-more, isRanged, blockAs}
 
@@ -40,11 +40,11 @@ none-of : {A : Type 0} → _≡_ {A = ℕ} 0 1 → A
 none-of e = absurd (omega arith)
 
 -- ---- a value as its characters say it
-behind-stops : (s : List ℕ) → leading (behind s) ≡ []
-unfolding leading behind
+behind-stops : (s : List ℕ) → leading (afterPoint s) ≡ []
+unfolding leading afterPoint
 behind-stops [] = refl
 behind-stops (b ∷ s) = by (isDigit b) refl (behind-stops s) where
-  by : (q : Bool) → isDigit b ≡ q → leading (behind s) ≡ [] → leading (cond q (behind s) (b ∷ s)) ≡ []
+  by : (q : Bool) → isDigit b ≡ q → leading (afterPoint s) ≡ [] → leading (cond q (afterPoint s) (b ∷ s)) ≡ []
   by true e ih = ih
   by false e ih = rw e
 
@@ -76,21 +76,22 @@ empty-is (b ∷ s) e = absurd (omega arith)
 
 module _ (place end : ℕ) (s : List ℕ) where
   abbrev a : Amount
-  a = amountOf place end s
+  a = amountRead place end s
 
   amount-pointed : (a .decimals ≡ 0) ⊎ (a .point ≡ true)
-  unfolding amountOf
-  amount-pointed = by (begins 46 (behind (without 45 s))) refl where
-    by : (q : Bool) → begins 46 (behind (without 45 s)) ≡ q → (length (leading (without 46 (behind (without 45 s)))) ≡ 0) ⊎ (q ≡ true)
+  unfolding amountRead
+  amount-pointed = by (begins 46 (afterPoint (without 45 s))) refl where
+    by : (q : Bool) → begins 46 (afterPoint (without 45 s)) ≡ q
+        → (length (leading (without 46 (afterPoint (without 45 s)))) ≡ 0) ⊎ (q ≡ true)
     by true e = inr refl
-    by false e = inl (ap length (undotted (behind (without 45 s)) (behind-stops (without 45 s)) e))
+    by false e = inl (ap length (undotted (afterPoint (without 45 s)) (behind-stops (without 45 s)) e))
 
   amount-some : a .formed ≡ true → (0 < a .whole) ⊎ (0 < a .decimals)
-  unfolding amountOf
+  unfolding amountRead
   amount-some e =
       let u = leading (without 45 s) in
-      let v = leading (without 46 (behind (without 45 s))) in
-      let h = ltb-true 0 (length (u ++ v)) (and-right (eqb (length (behind (without 46 (behind (without 45 s))))) 0)
+      let v = leading (without 46 (afterPoint (without 45 s))) in
+      let h = ltb-true 0 (length (u ++ v)) (and-right (eqb (length (afterPoint (without 46 (afterPoint (without 45 s))))) 0)
       (ltb 0 (length (u ++ v))) e) in
       by (length u) (length v) (omega (arith, length-append u v))
     where
@@ -99,10 +100,10 @@ module _ (place end : ℕ) (s : List ℕ) where
       by (suc m) n h = inl (omega arith)
 
   amount-near : a .whole ≡ 0 → a .size < 10 ^ a .decimals
-  unfolding amountOf decimalOf
+  unfolding amountRead decimalOf
   amount-near e =
-      let v = leading (without 46 (behind (without 45 s))) in
-      let h : decimalOf 0 v + 1 ≤ 10 ^ length v = rw one-mul at (digits-below (without 46 (behind (without 45 s))) 0) in
+      let v = leading (without 46 (afterPoint (without 45 s))) in
+      let h : decimalOf 0 v + 1 ≤ 10 ^ length v = rw one-mul at (digits-below (without 46 (afterPoint (without 45 s))) 0) in
       rw (empty-is (leading (without 45 s)) e) (omega (arith, h))
 
 -- ---- a value in form, within the limits of its type
@@ -110,19 +111,19 @@ pub record Sound (quantity : Bool) (a : Amount) : Type 0 where
   pub pointed : (a .decimals ≡ 0) ⊎ (a .point ≡ true)
   pub fit : Fit quantity (valueAs a)
 
-pub amount-sound : (quantity : Bool) (place end : ℕ) (s : List ℕ) → formIs quantity (amountOf place end s) ≡ true
-    → large quantity (amountOf place end s) ≡ false → Sound quantity (amountOf place end s)
+pub amount-sound : (quantity : Bool) (place end : ℕ) (s : List ℕ) → formIs quantity (amountRead place end s) ≡ true
+    → large quantity (amountRead place end s) ≡ false → Sound quantity (amountRead place end s)
 unfolding formIs large formOf largeOf
 amount-sound quantity place end s f l =
-    let g : Genuine (amountOf place end s .size) (valueAs (amountOf place end s)) = record {
+    let g : Genuine (amountRead place end s .size) (valueAs (amountRead place end s)) = record {
       pointed = amount-pointed place end s;
-      sized = sym (small quantity (amountOf place end s) l);
+      sized = sym (small quantity (amountRead place end s) l);
       some = amount-some place end s;
       near = amount-near place end s;
     } in
     record {
       pointed = amount-pointed place end s;
-      fit = fits (amountOf place end s .size) quantity (valueAs (amountOf place end s)) g f l;
+      fit = fits (amountRead place end s .size) quantity (valueAs (amountRead place end s)) g f l;
     }
 
 -- ---- what holds of each number of a block
@@ -171,7 +172,7 @@ module _ (quantity : Bool) (before : ℕ) where
   unfolding amounts
   fine-none h = record { each = nothing; alike = nothing; ordered = tt; lines = no-lines h }
 
-  pub fine-range : (a b : Amount) → before ≤ 4096 → Sound quantity a → Sound quantity b → unlike a b ≡ false
+  pub fine-range : (a b : Amount) → before ≤ 4096 → Sound quantity a → Sound quantity b → unlikeAmounts a b ≡ false
       → ltZ (scaled b) (scaled a) ≡ false → Fine quantity before (unlisted (some (rangeFrom a b)))
   unfolding amounts
   fine-range a b h x y u o =
@@ -194,12 +195,12 @@ module _ (quantity : Bool) (before : ℕ) where
         rw (map-more (b .lines)) (sym (append-assoc (rangeEnds (b .range)) (map (λ l. l .value) (b .lines)) (x .value ∷ [])))
 
     -- one count of decimals
-    first-stays : (l : List Amount) → someOf (unlike (x .value)) l ≡ false → Every (λ a. a .decimals ≡ decimalsIn l) l
+    first-stays : (l : List Amount) → someOf (unlikeAmounts (x .value)) l ≡ false → Every (λ a. a .decimals ≡ decimalsIn l) l
         → Every (λ a. a .decimals ≡ decimalsIn (l ++ x .value ∷ [])) (l ++ x .value ∷ [])
     unfolding someOf
     first-stays [] e h = more refl nothing
     first-stays (y ∷ l) e h =
-        let u = or-none (unlike (x .value) y) (someOf (unlike (x .value)) l) e in
+        let u = or-none (unlikeAmounts (x .value) y) (someOf (unlikeAmounts (x .value)) l) e in
         every-more h (eqb-true (x .value .decimals) (y .decimals) (not-false (eqb (x .value .decimals) (y .decimals)) u))
 
     -- no line before says its number
@@ -242,7 +243,7 @@ module _ (quantity : Bool) (before : ℕ) where
         last : (i : ℕ) → i ≡ length l → numberAt (l ++ saidAs x ∷ []) i ≡ numberOn (saidAs x)
         last i q = ap (numberAt (l ++ saidAs x ∷ [])) q ∙ number-last l (saidAs x)
 
-    pub fine-line : Sound quantity (x .value) → someOf (unlike (x .value)) (amounts b) ≡ false
+    pub fine-line : Sound quantity (x .value) → someOf (unlikeAmounts (x .value)) (amounts b) ≡ false
         → someOf (λ l. eqZ (scaled (l .value)) (scaled (x .value))) (b .lines) ≡ false → before + length (b .lines) < 4096
         → GoodLine (saidAs x) → Fine quantity before (withLine b x)
     unfolding scaledOf

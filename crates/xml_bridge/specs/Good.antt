@@ -18,9 +18,9 @@ use Rattle.measures.specs.Good.{GoodVariable}
 use Rattle.entries.specs.Entry.{GoodHead}
 use Rattle.entries.specs.Good.{GoodTelling}
 use Rattle.entries.proofs.Goods.{TextsShort, variable-good}
-use Rattle.survey.specs.rule.Survey.{Figure, Text, Block, Spread, Content, single, multiple, quantity, character, logical, Variable}
+use Rattle.survey.specs.rule.Survey.{Figure, KeptText, Block, Spread, Content, single, multiple, quantity, character, logical, Variable}
 use Rattle.survey.specs.rule.Width.{someOf, amounts, partsOf, finishIn, roomIn, subwidthOf, noBlock}
-use Rattle.survey.specs.rule.Table.{typeOf, spreadIn, columnsOf, linesOf, cellsOf, linesAll, highestIn, allLines, holds}
+use Rattle.survey.specs.rule.Table.{typeOf, spreadIn, variableColumns, linesOf, cellsOf, linesAll, highestIn, allLines, holds}
 use Rattle.bridge.specs.Contents.{Parts, bits, fields}
 use Rattle.xml_bridge.specs.Book.{blockAs, saids, saids-count, saids-cells, headWith, tellingWith, bookWith, bookOf}
 use Rattle.xml_bridge.specs.Settle.{Told, as-single, as-multiple, as-quantity, as-character, as-logical, holds-with, told-exact}

@@ -27,9 +27,9 @@ use Rattle.entries.specs.Entry as entry
 use Rattle.entries.specs.Good.{GoodTelling}
 use Rattle.entries.proofs.Columns.{measurable}
 use Rattle.entries.proofs.Entries.{settled-is}
-use Rattle.survey.specs.rule.Survey.{Figure, Text, Block, Spread, Content, single, multiple, quantity, character, logical, Variable}
+use Rattle.survey.specs.rule.Survey.{Figure, KeptText, Block, Spread, Content, single, multiple, quantity, character, logical, Variable}
 use Rattle.survey.specs.rule.Width.{partsOf, finishIn, roomIn, subwidthOf, kindIn}
-use Rattle.survey.specs.rule.Table.{typeOf, spreadIn, columnsOf, linesOf, cellsOf, holds}
+use Rattle.survey.specs.rule.Table.{typeOf, spreadIn, variableColumns, linesOf, cellsOf, holds}
 use Rattle.reading.specs.rule.Result.{Result, Is, Not}
 use Rattle.reading.specs.rule.Least.{_when_, named, lower, least, judged}
 use Rattle.reading.specs.rule.Statement.{Position}
@@ -42,7 +42,7 @@ use Rattle.xml_bridge.specs.Book.{headWith, tellingWith, bookWith, saids
 
 -- what the code gives back of a variable before whose lines `before` others stand
 abbrev pub stoodFrom : ℕ → Result Variable → Stood
-stoodFrom before (Is v n) = stood.Is (columnsOf before v) (before + length (linesOf v)) n
+stoodFrom before (Is v n) = stood.Is (variableColumns before v) (before + length (linesOf v)) n
 stoodFrom before (Not f) = stood.Not f
 
 -- subfields and their width as the code has them, for a position of `room` bytes
@@ -55,18 +55,18 @@ pub data Told (room : ℕ) : ℕ → ℕ → Content → Type 0 where
 
 module _ (i j before : ℕ) where
   -- ---- numbers within their caps
-  kind-same : (n : Figure) (name label : Text) (p : Figure) (q : Option Figure) (t : Content)
-      → kindOf (columnsOf before (record { ident = n; name = name; label = label; start = p; finish = q; content = t }))
+  kind-same : (n : Figure) (name label : KeptText) (p : Figure) (q : Option Figure) (t : Content)
+      → kindOf (variableColumns before (record { ident = n; name = name; label = label; start = p; finish = q; content = t }))
       ≡ kindIn (Option·getD q p .value + 1 - p .value) t
-  unfolding kindOf columnsOf kindIn
+  unfolding kindOf variableColumns kindIn
   kind-same n name label p q (single b) = refl
   kind-same n name label p q (multiple s b) = refl
   kind-same n name label p q (quantity b) = refl
   kind-same n name label p q (character z) = refl
   kind-same n name label p q logical = refl
 
-  room-before : (k : Kind) (v : Variable) → roomGood k (rowOf (columnsOf before v)) ≡ roomGood k (rowOf (columnsOf 0 v))
-  unfolding roomGood rowOf columnsOf
+  room-before : (k : Kind) (v : Variable) → roomGood k (rowOf (variableColumns before v)) ≡ roomGood k (rowOf (variableColumns 0 v))
+  unfolding roomGood rowOf variableColumns
   room-before kind.Single v = refl
   room-before (kind.Multiple Bits) v = refl
   room-before (kind.Multiple (Fields a b)) v = refl
@@ -99,7 +99,7 @@ module _ (i j before : ℕ) where
   unfolding heldBy judged named least lower stoodOf
   narrow-held c w v n a b = rw (a, b)
 
-  module _ (ident : Figure) (name label : Text) (p : Figure) (q : Option Figure) (low : Option·getD q p .value ≤ 16384) (n : ℕ) where
+  module _ (ident : Figure) (name label : KeptText) (p : Figure) (q : Option Figure) (low : Option·getD q p .value ≤ 16384) (n : ℕ) where
     abbrev here : Position
     here = record { start = p; finish = q }
 
@@ -143,7 +143,7 @@ module _ (i j before : ℕ) where
   pub told-exact : (v : Variable) {c w : ℕ} → finishIn v ≤ 16384 → Told (roomIn v) c w (v .content) → holds v ≡ true
       → (c ≡ partsOf (spreadIn (v .content))) × (w ≡ subwidthOf (roomIn v) (spreadIn (v .content)))
   told-exact v low t h = exact-told (v .ident) (v .name) (v .label) (v .start) (v .finish) low t h where
-    exact-told : (ident : Figure) (name label : Text) (p : Figure) (q : Option Figure) → Option·getD q p .value ≤ 16384
+    exact-told : (ident : Figure) (name label : KeptText) (p : Figure) (q : Option Figure) → Option·getD q p .value ≤ 16384
         → {c w : ℕ} {t : Content} → Told (room (record { start = p; finish = q })) c w t
         → holds (record { ident = ident; name = name; label = label; start = p; finish = q; content = t }) ≡ true
         → (c ≡ partsOf (spreadIn t)) × (w ≡ subwidthOf (room (record { start = p; finish = q })) (spreadIn t))

@@ -45,9 +45,9 @@ use Rattle.built.specs.Cells.{laid, columns-of, ident-of}
 use Rattle.built.specs.Rows.{lines-here, finish-here, row-good, idents-differ}
 use Rattle.survey.specs.rule.Survey.{Line, Variable}
 use Rattle.survey.specs.rule.Width.{flag, someOf, eachOf, scaled}
-use Rattle.survey.specs.rule.Table.{typeOf, columnsOf, linesOf, linesAll, highestIn, lineCells, cellsOf, allLines}
-use Rattle.xml_reading.specs.rule.Role.{Entry, variablesOf, mayServe, useWrong}
-use Rattle.xml_reading.specs.rule.Whole.{usedBy, columnsFor, headerFor, rowsFrom, tableOf}
+use Rattle.survey.specs.rule.Table.{typeOf, variableColumns, linesOf, linesAll, highestIn, lineCells, cellsOf, allLines}
+use Rattle.xml_reading.specs.rule.Role.{XmlEntry, variablesOf, mayServe, useWrong}
+use Rattle.xml_reading.specs.rule.Whole.{usedBy, columnsFor, xmlHeader, xmlRows, xmlTable}
 use Rattle.xml_bridge.specs.Book.{bookOf, columns-same}
 use Rattle.xml_bridge.specs.Good.{booksOf, books-count, books-more, books-lines, books-highest, books-met, books-cells}
 
@@ -56,12 +56,12 @@ none-of e = absurd (omega arith)
 
 -- ---- what is known of an entry behind others
 -- "row number plus one of an earlier logical, 0 none"; a serial or weight has none
-pub data Filters (l : List Entry) (v : Entry) : Type 0 where
+pub data Filters (l : List XmlEntry) (v : XmlEntry) : Type 0 where
   unfiltered : v .filter ≡ 0 → Filters l v
-  filtered : (p s : List Entry) (w : Entry) → v .usage ≡ 0 → l ≡ p ++ w ∷ s → v .filter ≡ length p + 1
+  filtered : (p s : List XmlEntry) (w : XmlEntry) → v .usage ≡ 0 → l ≡ p ++ w ∷ s → v .filter ≡ length p + 1
       → typeOf (w .variable .content) ≡ 5 → Filters l v
 
-pub record FineEntry (l : List Entry) (v : Entry) : Type 0 where
+pub record FineEntry (l : List XmlEntry) (v : XmlEntry) : Type 0 where
   pub good : GoodVariable (linesAll (variablesOf l)) (bookOf (v .variable))
   pub fresh : someOf (λ w. eqb (w .ident .value) (v .variable .ident .value)) (variablesOf l) ≡ false
   pub left : length l < mostRows
@@ -70,14 +70,14 @@ pub record FineEntry (l : List Entry) (v : Entry) : Type 0 where
   pub filters : Filters l v
   pub plain : eachOf (λ s. not (s .special)) (linesOf (v .variable)) ≡ true
 
-pub data FineEntries : List Entry → Type 0 where
+pub data FineEntries : List XmlEntry → Type 0 where
   nothing : FineEntries []
-  more : {l : List Entry} {v : Entry} → FineEntries l → FineEntry l v → FineEntries (l ++ v ∷ [])
+  more : {l : List XmlEntry} {v : XmlEntry} → FineEntries l → FineEntry l v → FineEntries (l ++ v ∷ [])
 
-abbrev pub booksFor : List Entry → List book.Variable
+abbrev pub booksFor : List XmlEntry → List book.Variable
 booksFor l = booksOf (variablesOf l)
 
-variables-join : (p q : List Entry) → variablesOf (p ++ q) ≡ variablesOf p ++ variablesOf q
+variables-join : (p q : List XmlEntry) → variablesOf (p ++ q) ≡ variablesOf p ++ variablesOf q
 variables-join [] q = refl
 variables-join (v ∷ p) q = rw (variables-join p q)
 
@@ -85,17 +85,17 @@ books-join : (p q : List Variable) → booksOf (p ++ q) ≡ booksOf p ++ booksOf
 books-join [] q = refl
 books-join (v ∷ p) q = rw (books-join p q)
 
-entries-join : (p q : List Entry) → booksFor (p ++ q) ≡ booksFor p ++ booksFor q
+entries-join : (p q : List XmlEntry) → booksFor (p ++ q) ≡ booksFor p ++ booksFor q
 entries-join p q = rw (variables-join p q) (books-join (variablesOf p) (variablesOf q))
 
-pub entries-count : (l : List Entry) → length (variablesOf l) ≡ length l
+pub entries-count : (l : List XmlEntry) → length (variablesOf l) ≡ length l
 entries-count [] = refl
 entries-count (v ∷ l) = rw (entries-count l)
 
-pub count-for : (l : List Entry) → length (booksFor l) ≡ length l
+pub count-for : (l : List XmlEntry) → length (booksFor l) ≡ length l
 count-for l = books-count (variablesOf l) ∙ entries-count l
 
-pub books-good : {l : List Entry} → FineEntries l → Good (booksFor l)
+pub books-good : {l : List XmlEntry} → FineEntries l → Good (booksFor l)
 books-good nothing = good.none
 books-good (more {l} {v} g f) =
     rw (entries-join l (v ∷ []))
@@ -103,51 +103,51 @@ books-good (more {l} {v} g f) =
     (books-met (variablesOf l) (v .variable .ident .value) ∙ f .fresh)
     (rw (count-for l) (f .left)))
 
-alone : {l : List Entry} {v : Entry} → Filters l v → (eqb (v .usage) 0 || eqb (v .filter) 0) ≡ true
+alone : {l : List XmlEntry} {v : XmlEntry} → Filters l v → (eqb (v .usage) 0 || eqb (v .filter) 0) ≡ true
 alone {v = v} (unfiltered e) = ap (λ (n : ℕ). eqb (v .usage) 0 || eqb n 0) e ∙ or-true (eqb (v .usage) 0)
 alone {v = v} (filtered p s w u e f k) = ap (λ (n : ℕ). eqb n 0 || eqb (v .filter) 0) u
 
-pub entries-few : {l : List Entry} → FineEntries l → (length l ≤ mostRows) × (linesAll (variablesOf l) ≤ mostLines)
+pub entries-few : {l : List XmlEntry} → FineEntries l → (length l ≤ mostRows) × (linesAll (variablesOf l) ≤ mostLines)
 entries-few {l} g = (rw (count-for l) at (few-rows (books-good g)), rw (books-lines (variablesOf l)) at (few-lines (books-good g)))
 
 -- the same place in one list, parted twice
-same-at : (a b m n : List Entry) (x y : Entry) → length a ≡ length b → a ++ x ∷ m ≡ b ++ y ∷ n → x ≡ y
+same-at : (a b m n : List XmlEntry) (x y : XmlEntry) → length a ≡ length b → a ++ x ∷ m ≡ b ++ y ∷ n → x ≡ y
 same-at [] [] m n x y h e = cc
 same-at [] (b ∷ r) m n x y h e = absurd (omega arith)
 same-at (a ∷ s) [] m n x y h e = absurd (omega arith)
 same-at (a ∷ s) (b ∷ r) m n x y h e = same-at s r m n x y (omega arith) cc
 
 -- ---- entry i
-record Nth′ (l : List Entry) (i : ℕ) : Type 0 where
-  before : List Entry
-  entry : Entry
-  behind : List Entry
+record Nth′ (l : List XmlEntry) (i : ℕ) : Type 0 where
+  before : List XmlEntry
+  entry : XmlEntry
+  behind : List XmlEntry
   is : l ≡ before ++ entry ∷ behind
   here : length before ≡ i
   earlier : FineEntries before
   fine : FineEntry before entry
 
-abbrev further : {p l : List Entry} {i : ℕ} → Nth′ p i → (s : List Entry) → l ≡ p ++ s → Nth′ l i
+abbrev further : {p l : List XmlEntry} {i : ℕ} → Nth′ p i → (s : List XmlEntry) → l ≡ p ++ s → Nth′ l i
 further r s e = record {
   before = r .before;
   entry = r .entry;
   behind = r .behind ++ s;
-  is = e ∙ ap (λ (m : List Entry). m ++ s) (r .is) ∙ append-assoc (r .before) (r .entry ∷ r .behind) s;
+  is = e ∙ ap (λ (m : List XmlEntry). m ++ s) (r .is) ∙ append-assoc (r .before) (r .entry ∷ r .behind) s;
   here = r .here;
   earlier = r .earlier;
   fine = r .fine;
 }
 
-abbrev last : {l : List Entry} {v : Entry} → FineEntries l → FineEntry l v → Nth′ (l ++ v ∷ []) (length l)
+abbrev last : {l : List XmlEntry} {v : XmlEntry} → FineEntries l → FineEntry l v → Nth′ (l ++ v ∷ []) (length l)
 last {l} {v} g f = record { before = l; entry = v; behind = []; is = refl; here = refl; earlier = g; fine = f }
 
-nth′ : {l : List Entry} → FineEntries l → (i : ℕ) → i < length l → Nth′ l i
+nth′ : {l : List XmlEntry} → FineEntries l → (i : ℕ) → i < length l → Nth′ l i
 nth′ nothing i h = absurd (omega arith)
 nth′ (more {l} {v} g f) i h =
     let n : i ≤ length l = omega (arith, length-append l (v ∷ [])) in
     ⊎-elim (λ e. rw e (last g f)) (λ m. further (nth′ g i m) (v ∷ []) refl) (eq-or-lt-of-le n)
 
-abbrev book-nth : {l : List Entry} {i : ℕ} → Nth′ l i → Nth (booksFor l) i
+abbrev book-nth : {l : List XmlEntry} {i : ℕ} → Nth′ l i → Nth (booksFor l) i
 book-nth r = record {
   before = booksFor (r .before);
   variable = bookOf (r .entry .variable);
@@ -161,53 +161,53 @@ book-nth r = record {
 
 -- ---- the numbers of the table
 
-rows-join : (b : ℕ) (p q : List Entry) → rowsFrom b (p ++ q) ≡ rowsFrom b p ++ rowsFrom (b + linesAll (variablesOf p)) q
-unfolding rowsFrom linesAll
+rows-join : (b : ℕ) (p q : List XmlEntry) → xmlRows b (p ++ q) ≡ xmlRows b p ++ xmlRows (b + linesAll (variablesOf p)) q
+unfolding xmlRows linesAll
 rows-join b [] q = let e : b + 0 ≡ b = omega arith in rw e
 rows-join b (v ∷ p) q =
     let n = length (linesOf (v .variable)) in
     let e : b + n + linesAll (variablesOf p) ≡ b + (n + linesAll (variablesOf p)) = omega arith in
-    rw (rows-join (b + n) p q, e) (sym (append-assoc (rowCells (columnsFor b v)) (rowsFrom (b + n) p)
-    (rowsFrom (b + (n + linesAll (variablesOf p))) q)))
+    rw (rows-join (b + n) p q, e) (sym (append-assoc (rowCells (columnsFor b v)) (xmlRows (b + n) p)
+    (xmlRows (b + (n + linesAll (variablesOf p))) q)))
 
 row-length : (c : Columns) → length (rowCells c) ≡ 20
 unfolding rowCells
 row-length c = refl
 
-pub rows-count : (b : ℕ) (l : List Entry) → length (rowsFrom b l) ≡ rowSize * length l
-unfolding rowsFrom
+pub rows-count : (b : ℕ) (l : List XmlEntry) → length (xmlRows b l) ≡ rowSize * length l
+unfolding xmlRows
 rows-count b [] = refl
 rows-count b (v ∷ l) =
-    length-append (rowCells (columnsFor b v)) (rowsFrom (b + length (linesOf (v .variable))) l)
+    length-append (rowCells (columnsFor b v)) (xmlRows (b + length (linesOf (v .variable))) l)
     ∙ rw (row-length (columnsFor b v), rows-count (b + length (linesOf (v .variable))) l) (omega arith)
 
-module _ (t : List ℤ) (l : List Entry) where
+module _ (t : List ℤ) (l : List XmlEntry) where
   abbrev X : List ℤ
-  X = pasted t 0 (tableOf l)
+  X = pasted t 0 (xmlTable l)
 
   abbrev T : List ℤ
   T = laid t (booksFor l)
 
-  pub header-back : headerOf X ≡ headerFor l
-  unfolding headerOf pasted tableOf headerCells countOf headerFor
+  pub header-back : headerOf X ≡ xmlHeader l
+  unfolding headerOf pasted xmlTable headerCells countOf xmlHeader
   header-back = refl
 
-  table-stands : Stands X 0 (tableOf l)
+  table-stands : Stands X 0 (xmlTable l)
   unfolding pasted
-  table-stands = record { front = []; rest = drop (0 + length (tableOf l)) t; is = refl; here = refl }
+  table-stands = record { front = []; rest = drop (0 + length (xmlTable l)) t; is = refl; here = refl }
 
   row-stands : {i : ℕ} (r : Nth′ l i) → Stands X (rowBase i) (rowCells (columnsFor (linesAll (variablesOf (r .before))) (r .entry)))
-  unfolding tableOf rowsFrom headerCells
+  unfolding xmlTable xmlRows headerCells
   row-stands {i} r =
-      let front = headerCells (headerFor l) in
+      let front = headerCells (xmlHeader l) in
       let b = linesAll (variablesOf (r .before)) in
       let own = rowCells (columnsFor b (r .entry)) in
-      let rows : Stands X headerSize (rowsFrom 0 l) =
-      inside table-stands front (rowsFrom 0 l) (allLines (variablesOf l)) headerSize
-      (append-assoc front (rowsFrom 0 l) (allLines (variablesOf l))) refl in
+      let rows : Stands X headerSize (xmlRows 0 l) =
+      inside table-stands front (xmlRows 0 l) (allLines (variablesOf l)) headerSize
+      (append-assoc front (xmlRows 0 l) (allLines (variablesOf l))) refl in
       let z : 0 + b ≡ b = omega arith in
-      inside rows (rowsFrom 0 (r .before)) own (rowsFrom (b + length (linesOf (r .entry .variable))) (r .behind)) (rowBase i)
-      (ap (rowsFrom 0) (r .is) ∙ rows-join 0 (r .before) (r .entry ∷ r .behind) ∙ rw z)
+      inside rows (xmlRows 0 (r .before)) own (xmlRows (b + length (linesOf (r .entry .variable))) (r .behind)) (rowBase i)
+      (ap (xmlRows 0) (r .is) ∙ rows-join 0 (r .before) (r .entry ∷ r .behind) ∙ rw z)
       (rw (rows-count 0 (r .before), r .here))
 
   columns-x : {i : ℕ} (r : Nth′ l i) → columnsAt X (rowBase i) ≡ columnsFor (linesAll (variablesOf (r .before))) (r .entry)
@@ -216,35 +216,35 @@ module _ (t : List ℤ) (l : List Entry) where
   columns-both : {i : ℕ} (r : Nth′ l i) → columnsAt X (rowBase i) ≡ usedBy (r .entry .usage) (r .entry .filter) (columnsAt T (rowBase i))
   unfolding columnsFor
   columns-both {i} r =
-      let e : columnsAt T (rowBase i) ≡ columnsOf (linesAll (variablesOf (r .before))) (r .entry .variable) =
+      let e : columnsAt T (rowBase i) ≡ variableColumns (linesAll (variablesOf (r .before))) (r .entry .variable) =
       columns-of t (book-nth r)
       ∙ ap (λ (b : ℕ). book.columnsIn b (bookOf (r .entry .variable))) (books-lines (variablesOf (r .before)))
       ∙ columns-same (linesAll (variablesOf (r .before))) (r .entry .variable) in
       columns-x r ∙ ap (usedBy (r .entry .usage) (r .entry .filter)) (sym e)
 
   -- ---- from the lines on both tables are alike
-  length-both : length (book.tableOf (booksFor l)) ≡ length (tableOf l)
-  unfolding tableOf headerCells book.tableOf
+  length-both : length (book.tableOf (booksFor l)) ≡ length (xmlTable l)
+  unfolding xmlTable headerCells book.tableOf
   length-both =
       rw (
         length-append (book.rowsFrom 0 (booksFor l)) (book.allLines (booksFor l)),
-        length-append (rowsFrom 0 l) (allLines (variablesOf l)),
+        length-append (xmlRows 0 l) (allLines (variablesOf l)),
       )
       (omega (arith, rows-length 0 (booksFor l), rows-count 0 l, count-for l, ap length (books-cells (variablesOf l))))
 
   abbrev rest : List ℤ
-  rest = allLines (variablesOf l) ++ drop (0 + length (tableOf l)) t
+  rest = allLines (variablesOf l) ++ drop (0 + length (xmlTable l)) t
 
   apart : (h r m d : List ℤ) → (h ++ r) ++ (m ++ d) ≡ (h ++ (r ++ m)) ++ d
   apart h r m d = simp append-assoc
 
   rest-x : (k : ℕ) → cell X (linesBase (length l) + k) ≡ cell rest k
-  unfolding pasted tableOf headerCells
+  unfolding pasted xmlTable headerCells
   rest-x k =
-      let a = headerCells (headerFor l) ++ rowsFrom 0 l in
+      let a = headerCells (xmlHeader l) ++ xmlRows 0 l in
       let n : linesBase (length l) ≡ length a = omega (arith, rows-count 0 l) in
       ap (λ (s : List ℤ). cell s (linesBase (length l) + k))
-      (sym (apart (headerCells (headerFor l)) (rowsFrom 0 l) (allLines (variablesOf l)) (drop (0 + length (tableOf l)) t)))
+      (sym (apart (headerCells (xmlHeader l)) (xmlRows 0 l) (allLines (variablesOf l)) (drop (0 + length (xmlTable l)) t)))
       ∙ rw n (getD-append-add a rest k (pos 0))
 
   rest-t : (k : ℕ) → cell T (linesBase (length l) + k) ≡ cell rest k
@@ -312,13 +312,13 @@ module _ (t : List ℤ) (l : List Entry) where
     before-alike (suc i) h = rw (before-alike i (omega arith), lines-alike i (omega arith))
 
     ident-x : {i : ℕ} (r : Nth′ l i) → strideAt X headerSize rowSize i ≡ strideAt T headerSize rowSize i
-    unfolding rowCells columnsFor columnsOf
+    unfolding rowCells columnsFor variableColumns
     ident-x {i} r =
         let e : headerSize + rowSize * i ≡ rowBase i + 0 = omega arith in
         ap (cell X) e ∙ cell-there (row-stands r) 0 (omega arith) ∙ sym (ident-of t (book-nth r))
 
-    rows-x : rowsGood X (headerFor l) ≡ true
-    unfolding rowsGood headerFor
+    rows-x : rowsGood X (xmlHeader l) ≡ true
+    unfolding rowsGood xmlHeader
     rows-x =
         both-and (both-and
         (all-of (goodAt X (length l) (linesAll (variablesOf l))) (length l)
@@ -348,29 +348,29 @@ module _ (t : List ℤ) (l : List Entry) where
         differ-same (strideAt X headerSize rowSize) (strideAt T headerSize rowSize) (length l) (λ i h. ident-x (nth′ g i h))
         (rw (count-for l) at (idents-differ t (booksFor l) (books-good g)))
 
-    counts-x : 1 ≤ length l → headCounts (headerFor l) ≡ true
-    unfolding headerFor
+    counts-x : 1 ≤ length l → headCounts (xmlHeader l) ≡ true
+    unfolding xmlHeader
     counts-x h = rw (
       le-leb 1 (length l) h,
       le-leb (length l) mostRows (entries-few g .0),
       le-leb (linesAll (variablesOf l)) mostLines (entries-few g .1),
     )
 
-    table-count : length (tableOf l) ≡ lineBase (length l) (linesAll (variablesOf l))
+    table-count : length (xmlTable l) ≡ lineBase (length l) (linesAll (variablesOf l))
     table-count = sym length-both ∙ table-length (booksFor l) ∙ rw (count-for l, books-lines (variablesOf l))
 
-    sums-x : length (tableOf l) ≤ length t → headSums (headerFor l) (length X) ≡ true
-    unfolding headerFor
+    sums-x : length (xmlTable l) ≤ length t → headSums (xmlHeader l) (length X) ≡ true
+    unfolding xmlHeader
     sums-x h =
         rw (
           eq-eqb (linesBase (length l)) (linesBase (length l)) refl,
           le-leb (lineBase (length l) (linesAll (variablesOf l))) (length X)
-              (omega (arith, table-count, length-pasted t (tableOf l) 0 (omega arith))),
+              (omega (arith, table-count, length-pasted t (xmlTable l) 0 (omega arith))),
         )
 
     -- ---- use and filter
     module _ {i : ℕ} (r : Nth′ l i) where
-      abbrev v : Entry
+      abbrev v : XmlEntry
       v = r .entry
 
       abbrev c : Columns
@@ -398,23 +398,24 @@ module _ (t : List ℤ) (l : List Entry) where
       serve (suc (suc (suc u))) k h e = absurd (omega arith)
 
       own : ownUse c ≡ true
-      unfolding columnsFor columnsOf
+      unfolding columnsFor variableColumns
       own =
           let q = serve (v .usage) (typeOf (v .variable .content)) (r .fine .known) (r .fine .right) in
           rw (le-leb (v .usage) 2 (r .fine .known), q .0, q .1, alone (r .fine .filters))
 
       -- the logical that its filter names stands among those before
-      kind-there : (p s : List Entry) (w : Entry) → r .before ≡ p ++ w ∷ s → columnsAt X (rowBase (length p)) .kind
+      kind-there : (p s : List XmlEntry) (w : XmlEntry) → r .before ≡ p ++ w ∷ s → columnsAt X (rowBase (length p)) .kind
           ≡ typeOf (w .variable .content)
-      unfolding columnsFor columnsOf
+      unfolding columnsFor variableColumns
       kind-there p s w e =
           let k : length p < length (r .before) = omega (arith, ap length e, length-append p (w ∷ s)) in
           let q = nth′ (r .earlier) (length p) k in
           ap (λ (c : Columns). c .kind) (columns-x (further q (v ∷ r .behind) (r .is)))
-          ∙ ap (λ (x : Entry). typeOf (x .variable .content)) (same-at (q .before) p (q .behind) s (q .entry) w (q .here) (sym (q .is) ∙ e))
+          ∙ ap (λ (x : XmlEntry). typeOf (x .variable .content))
+          (same-at (q .before) p (q .behind) s (q .entry) w (q .here) (sym (q .is) ∙ e))
 
       filter-x : filterGood X i c ≡ true
-      unfolding filterGood columnsFor columnsOf
+      unfolding filterGood columnsFor variableColumns
       filter-x = by (r .fine .filters) where
         by : Filters (r .before) v → (eqb (v .filter) 0 || (leb (v .filter) i && eqb (columnsAt X (rowBase (v .filter - 1)) .kind) 5))
             ≡ true
@@ -433,7 +434,7 @@ module _ (t : List ℤ) (l : List Entry) where
       usage-x = ap (λ (c : Columns). c .usage) (columns-x r)
 
 -- "at most one serial .. and one weight"
-some-last : (k : ℕ) (l : List Entry) (v : Entry) → someOf (λ w. eqb (w .usage) k) (l ++ v ∷ [])
+some-last : (k : ℕ) (l : List XmlEntry) (v : XmlEntry) → someOf (λ w. eqb (w .usage) k) (l ++ v ∷ [])
     ≡ (someOf (λ w. eqb (w .usage) k) l || eqb (v .usage) k)
 unfolding someOf
 some-last k [] v = by (eqb (v .usage) k) where
@@ -447,7 +448,7 @@ some-last k (w ∷ l) v = rw (some-last k l v) (by (eqb (w .usage) k)) where
   by false = refl
 
 module _ (k : ℕ) where
-  none-used : {l : List Entry} (g : FineEntries l) (f : ℕ → ℕ) → ((i : ℕ) (r : Nth′ l i) → f i ≡ isUse (r .entry .usage) k)
+  none-used : {l : List XmlEntry} (g : FineEntries l) (f : ℕ → ℕ) → ((i : ℕ) (r : Nth′ l i) → f i ≡ isUse (r .entry .usage) k)
       → someOf (λ w. eqb (w .usage) k) l ≡ false → sumBelow (length l) f ≡ 0
   unfolding isUse
   none-used nothing f same e = sum-none f
@@ -458,7 +459,7 @@ module _ (k : ℕ) where
       let q : f (length l) ≡ 0 = same (length l) (last g w) ∙ rw b in
       rw (length-append l (v ∷ []), sum-more f (length l), none-used g f (λ i r. same i (further r (v ∷ []) refl)) a, q)
 
-  once-used : {l : List Entry} (g : FineEntries l) (f : ℕ → ℕ) → 1 ≤ k → ((i : ℕ) (r : Nth′ l i) → f i ≡ isUse (r .entry .usage) k)
+  once-used : {l : List XmlEntry} (g : FineEntries l) (f : ℕ → ℕ) → 1 ≤ k → ((i : ℕ) (r : Nth′ l i) → f i ≡ isUse (r .entry .usage) k)
       → sumBelow (length l) f ≤ 1
   unfolding isUse useWrong
   once-used nothing f h same = omega (arith, sum-none f)
@@ -510,7 +511,7 @@ unfolding gathered
 gathered-more [] v = append-nil (linesOf v)
 gathered-more (w ∷ l) v = rw (gathered-more l v) (sym (append-assoc (linesOf w) (gathered l) (linesOf v)))
 
-each-plain : {l : List Entry} → FineEntries l → eachOf (λ s. not (s .special)) (gathered (variablesOf l)) ≡ true
+each-plain : {l : List XmlEntry} → FineEntries l → eachOf (λ s. not (s .special)) (gathered (variablesOf l)) ≡ true
 unfolding gathered eachOf
 each-plain nothing = refl
 each-plain (more {l} {v} g f) =
@@ -530,7 +531,7 @@ special-none (x ∷ m) e (suc j) h =
     let q : 4 * suc j + 1 ≡ suc (suc (suc (suc (4 * j + 1)))) = omega arith in
     rw q (special-none m (and-right (not (x .special)) _ e) j (omega arith))
 
-module _ (t : List ℤ) (l : List Entry) (g : FineEntries l) where
+module _ (t : List ℤ) (l : List XmlEntry) (g : FineEntries l) where
   specials-x : specialsNone (X t l) (length l) (linesAll (variablesOf l)) ≡ true
   unfolding specialsNone lineAt countOf
   specials-x =
@@ -541,7 +542,7 @@ module _ (t : List ℤ) (l : List Entry) (g : FineEntries l) where
       let e : lineBase (length l) j + 1 ≡ linesBase (length l) + (4 * j + 1) = omega arith in
       let q : cell (X t l) (lineBase (length l) j + 1) ≡ pos 0 =
       ap (cell (X t l)) e ∙ rest-x t l (4 * j + 1)
-      ∙ List·getD-append (allLines (variablesOf l)) (drop (0 + length (tableOf l)) t) (pos 0) (4 * j + 1)
+      ∙ List·getD-append (allLines (variablesOf l)) (drop (0 + length (xmlTable l)) t) (pos 0) (4 * j + 1)
       (omega (arith, ap length (gathered-cells (variablesOf l)), cells-count m))
       ∙ ap (λ (s : List ℤ). cell s (4 * j + 1)) (gathered-cells (variablesOf l)) ∙ special-none m (each-plain g) j n in
       rw q)
@@ -555,13 +556,13 @@ module _ (t : List ℤ) (l : List Entry) (g : FineEntries l) where
       (le-leb _ 1 (once-used 2 g (λ i. isUse (columnsAt (X t l) (rowBase i) .usage) 2) (omega arith)
       (λ i r. ap (λ (u : ℕ). isUse u 2) (usage-x t l g r)))))
 
-  kind-x : kindGood (X t l) (headerFor l) ≡ true
-  unfolding kindGood xmlGood headerFor
+  kind-x : kindGood (X t l) (xmlHeader l) ≡ true
+  unfolding kindGood xmlGood xmlHeader
   kind-x = both-and uses-x specials-x
 
   -- THE TABLE IS WELL FORMED
-  pub table-well-formed : 1 ≤ length l → length (tableOf l) ≤ length t → wellFormed (pasted t 0 (tableOf l)) ≡ true
-  unfolding wellFormed headerFor
+  pub table-well-formed : 1 ≤ length l → length (xmlTable l) ≤ length t → wellFormed (pasted t 0 (xmlTable l)) ≡ true
+  unfolding wellFormed xmlHeader
   table-well-formed h m =
       rw (header-back t l)
       (both-and (both-and (both-and (both-and (counts-x t l g h) (sums-x t l g m)) (rows-x t l g)) (idents-x t l g)) kind-x)

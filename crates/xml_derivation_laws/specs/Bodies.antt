@@ -14,7 +14,7 @@ use Rattle.contents.specs.declared.Content.{Content}
 use Rattle.contents.specs.declared.Content.the-variants as content
 use Rattle.contents.specs.rule.Content.{contentOf}
 use Rattle.contents.proofs.Exactly.{content-exactly}
-use Rattle.survey.specs.rule.Survey.{Text}
+use Rattle.survey.specs.rule.Survey.{KeptText}
 use Rattle.reading.specs.rule.Result.{Is}
 use Rattle.reading.specs.rule.Least.{Charge}
 use Rattle.bridge.specs.Lowest.{never}
@@ -90,7 +90,7 @@ module _ (bad : Bool) (d w : List ℕ) where
   abbrev pub noted : Bool → List Charge
   noted em = cond em [] (unknownAt 0 ∷ [])
 
-  pub text-there : {latin em : Bool} {mode n m : ℕ} {t : Text} → Name w → TextAt latin d mode w em n t m
+  pub text-there : {latin em : Bool} {mode n m : ℕ} {t : KeptText} → Name w → TextAt latin d mode w em n t m
       → body bad d w mode em n ≡ Is (record { text = t; whole = true; charges = noted em }) m
   unfolding body
   text-there a tags.TextAt.alone = refl

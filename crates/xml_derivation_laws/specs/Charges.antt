@@ -8,7 +8,7 @@ use borrow.Author.Tests.{eqb-true}
 use Rattle.tags.specs.declared.Held.{Held}
 use Rattle.tokens.specs.declared.Fault.{Fault}
 use Rattle.tokens.specs.rule.Gap.{fault}
-use Rattle.survey.specs.rule.Survey.{Text}
+use Rattle.survey.specs.rule.Survey.{KeptText}
 use Rattle.reading.specs.rule.Result.{Result, Is}
 use Rattle.reading.specs.rule.Least.{Charge, _when_, named, least, judged}
 use Rattle.bridge.specs.Lowest.{never}
@@ -60,7 +60,7 @@ clean-none = refl
 
 -- ---- what an element says, and what is charged behind all else in it
 module _ (d : List ℕ) where
-  pub said-is : (x : Element) (s : State) (h : Held) (t : Text) (n : ℕ)
+  pub said-is : (x : Element) (s : State) (h : Held) (t : KeptText) (n : ℕ)
       → meaningOf d x .said s h t n ≡ judged (behindOf d x s t) (saysOf d x s h t) n
   unfolding judged named least
   said-is Sss s h t n = refl

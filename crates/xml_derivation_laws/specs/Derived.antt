@@ -15,13 +15,13 @@ use Rattle.pairs.specs.rule.Grammar.{Name}
 use Rattle.pairs.proofs.Lies.{Lies, lies-named, lies-first}
 use Rattle.pairs.proofs.Ends.{Edge, EndAt}
 use Rattle.spans.specs.rule.Says.{sameOf}
-use Rattle.survey.specs.rule.Survey.{Text}
+use Rattle.survey.specs.rule.Survey.{KeptText}
 use Rattle.reading.specs.rule.Result.{Result, Is, Reader, give, repeat, bind}
 use Rattle.reading.specs.rule.Least.{Charge}
 use Rattle.bridge.specs.Lowest.{never}
 use Rattle.grammar.specs.Faults.{Clean}
 use Rattle.grammar_laws.specs.Views.{judged-there, clean-both, clean-left, clean-right}
-use Rattle.xml_reading.specs.rule.Open.{Open, start, shut, within, unknownAt}
+use Rattle.xml_reading.specs.rule.Open.{Open, start, shut, withinElement, unknownAt}
 use Rattle.xml_reading.specs.rule.Open as stands
 use Rattle.xml_reading.specs.rule.Element.{body}
 use Rattle.xml_grammar.specs.Grammar.{Element, Part, Holds, nothing, number, ruleOf, typedOf}
@@ -72,7 +72,7 @@ module _ (bad : Bool) (d : List ℕ) where
   pub record PartsRead (f : ℕ) (w : List ℕ) (l : List Part) (s : State) (n : ℕ) (t : State) (m : ℕ) : Type 0 where
     pub found : Open
     pub behind : ℕ
-    pub there : within bad d w n ≡ Is found behind
+    pub there : withinElement bad d w n ≡ Is found behind
     pub at : steps-of f w l .at s found behind ≡ Is t m
     pub other : (v : List ℕ) → none v (firsts l) ≡ true → Other found behind v
     pub loops : Loops f w l s n t m
@@ -112,7 +112,7 @@ module _ (bad : Bool) (d : List ℕ) where
 
   -- ---- a part that is left out
   either-other : {A : Type 0} (v : List ℕ) (o : Open) (k : ℕ) (K : ℕ → Reader A) (Q : Reader A) → Other o k v
-      → stands.either bad d v o K Q k ≡ Q k
+      → stands.eitherElement bad d v o K Q k ≡ Q k
   either-other v (start p) k K Q e = rw e
   either-other v (shut p) k K Q e = refl
 
@@ -159,7 +159,7 @@ module _ (bad : Bool) (d : List ℕ) where
 
     -- x is not taken
     not-taken : {A : Type 0} (K : ℕ → Reader A) (Q : Reader A) → other-name
-        → stands.either bad d (ruleOf x .word) (y .found) K Q (y .behind) ≡ Q (y .behind)
+        → stands.eitherElement bad d (ruleOf x .word) (y .found) K Q (y .behind) ≡ Q (y .behind)
     not-taken K Q e = either-other (ruleOf x .word) (y .found) (y .behind) K Q (y .other (ruleOf x .word) e)
 
     pass-loop : other-name → (g : ℕ) → left (ruleOf x .holds) s < g → loop f w x l g s n ≡ Is t m
@@ -215,7 +215,7 @@ module _ (bad : Bool) (d : List ℕ) where
 
   -- ---- an element that comes next
   module _ (w : List ℕ) (x : Element) {s t : State} {n p j : ℕ} (g : Gapped d n p) (y : ElementRead x s p t j) where
-    taken : within bad d w n ≡ Is (start p) (y .behind-name)
+    taken : withinElement bad d w n ≡ Is (start p) (y .behind-name)
     taken = finds-start bad d w g (word-name x) (y .name) (y .edge)
 
     named-so : isNamed d (p + 1) (y .behind-name) (ruleOf x .word) ≡ true
@@ -346,7 +346,7 @@ module _ (bad : Bool) (d : List ℕ) where
     unknown-clean k u c = subst (λ (n : ℕ). Clean (unknownAt n ∷ k)) (sym u) (none-unknown k c)
 
     -- judged with nothing charged
-    judging-there : (y : Text) (l : List Charge) (n : ℕ) → h .unknown ≡ 0 → Clean (chargesOf d x s h y) → Clean l
+    judging-there : (y : KeptText) (l : List Charge) (n : ℕ) → h .unknown ≡ 0 → Clean (chargesOf d x s h y) → Clean l
         → judging bad d (meanings d) x s h y l n ≡ Is (saysOf d x s h y) n
     judging-there y l n u c b =
         let a = meaningOf d x .charges s h y in
@@ -392,20 +392,20 @@ module _ (bad : Bool) (d : List ℕ) where
     empty-read {m} i b c = element-is λ f o.
         rw (i, nothing-there bad d (ruleOf x .word) (word-name x) b) (judging-there x s h noText [] m unknown-none c clean-none)
 
-    text-held : {mode m : ℕ} {y : Text} → TextAt (s .manner .latin) d mode (ruleOf x .word) em n y m → Clean (chargesOf d x s h y)
+    text-held : {mode m : ℕ} {y : KeptText} → TextAt (s .manner .latin) d mode (ruleOf x .word) em n y m → Clean (chargesOf d x s h y)
         → bind (body bad d (ruleOf x .word) mode em n) (λ b. judging bad d (meanings d) x s h (b .text) (b .charges))
         ≡ Is (saysOf d x s h y) m
     text-held {mode} {m} {y} b c =
         rw (text-there bad d (ruleOf x .word) (word-name x) b)
         (judging-there x s h y (noted bad d (ruleOf x .word) em) m unknown-none c (noted-clean x s h em))
 
-    text-read : {r : Holds} {mode m : ℕ} {y : Text} → ruleOf x .holds ≡ r → Texts (s .manner .languages) r mode
+    text-read : {r : Holds} {mode m : ℕ} {y : KeptText} → ruleOf x .holds ≡ r → Texts (s .manner .languages) r mode
         → TextAt (s .manner .latin) d mode (ruleOf x .word) em n y m → Clean (chargesOf d x s h y)
         → ElementRead x s p (saysOf d x s h y) m
     text-read i derivation.Texts.characters b c = element-is λ f o. rw i (text-held b c)
     text-read i derivation.Texts.rich b c = element-is λ f o. rw i (text-held b c)
 
-    digits-read : {m : ℕ} {y : Text} → ruleOf x .holds ≡ number → TextAt (s .manner .latin) d 0 (ruleOf x .word) em n y m
+    digits-read : {m : ℕ} {y : KeptText} → ruleOf x .holds ≡ number → TextAt (s .manner .latin) d 0 (ruleOf x .word) em n y m
         → stretchFits 1 d (y .place) (y .place + y .length) ≡ true → Clean (chargesOf d x s h y) → ElementRead x s p (saysOf d x s h y) m
     unfolding stretchFits
     digits-read {m} {y} i b e c = element-is λ f o.

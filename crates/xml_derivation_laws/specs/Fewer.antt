@@ -10,7 +10,7 @@ use borrow.Author.Tests.{leb-true, leb-false}
 use Rattle.below.specs.Below.{and-left, and-right}
 use Rattle.layout.specs.rule.Layout.{mostRows, mostLines}
 use Rattle.tags.specs.declared.Held.{Held}
-use Rattle.survey.specs.rule.Survey.{Text}
+use Rattle.survey.specs.rule.Survey.{KeptText}
 use Rattle.reading.specs.rule.Least.{Charge}
 use Rattle.reading.specs.rule.Values.{lineCharges}
 use Rattle.reading.specs.rule.Variable.{identCharges, Sort}
@@ -40,7 +40,7 @@ left (parts l) s = 0
 left (typed l) s = mostRows - length (s .entries)
 
 -- ---- inside a variable no variable is said
-says-keeps : (d : List ℕ) (x : Element) (s : State) (h : Held) (t : Text) → height x ≤ 2 → saysOf d x s h t .entries ≡ s .entries
+says-keeps : (d : List ℕ) (x : Element) (s : State) (h : Held) (t : KeptText) → height x ≤ 2 → saysOf d x s h t .entries ≡ s .entries
 says-keeps d Sss s h t e = absurd (omega arith)
 says-keeps d Date s h t e = refl
 says-keeps d Time s h t e = refl
@@ -166,7 +166,7 @@ variable-few d s h c =
     let g = clean-first _ _ _ f .0 in
     omega (arith, leb-false mostRows (length v) g, entries-count (s .entries))
 
-value-few : (d : List ℕ) (s : State) (h : Held) (t : Text) → Clean (chargesOf d Value s h t)
+value-few : (d : List ℕ) (s : State) (h : Held) (t : KeptText) → Clean (chargesOf d Value s h t)
     → linesBefore s + length (s .block .lines) < mostLines
 unfolding lineCharges
 value-few d s h t c =

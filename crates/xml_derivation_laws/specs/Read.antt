@@ -13,7 +13,7 @@ use Rattle.tags.specs.rule.Tag.{isNamed, stretchFits}
 use Rattle.pairs.specs.rule.Stand.{bareOf}
 use Rattle.pairs.proofs.Lies.{Lies}
 use Rattle.tokens.specs.rule.Gap.{fault}
-use Rattle.survey.specs.rule.Survey.{Text}
+use Rattle.survey.specs.rule.Survey.{KeptText}
 use Rattle.reading.specs.rule.Result.{Result, Is, Not, Reader, give, repeat, bind}
 use Rattle.reading.specs.rule.Least.{Charge, judged}
 use Rattle.bridge.specs.Lowest.{never}
@@ -21,7 +21,7 @@ use Rattle.elements.proofs.Bounds.{tag-within}
 use Rattle.xml_laws.specs.Reads.{Bound, bound}
 use Rattle.grammar.specs.Faults.{Clean}
 use Rattle.grammar_laws.specs.Views.{clean-both, clean-left, clean-right}
-use Rattle.xml_reading.specs.rule.Open.{Open, start, shut, within, unknownAt, onBare, misplaced, enter}
+use Rattle.xml_reading.specs.rule.Open.{Open, start, shut, withinElement, unknownAt, onBare, misplaced, enter}
 use Rattle.xml_reading.specs.rule.Open as stands
 use Rattle.xml_reading.specs.rule.Element.{Body, body}
 use Rattle.xml_grammar.specs.Grammar.{Element, Part, Holds, nothing, plain, number, texts, parts, typed, ruleOf, typedOf}
@@ -64,7 +64,7 @@ module _ (bad : Bool) (d : List ℕ) where
     steps-of l = steps bad d (meanings d) C w l
 
     abbrev AtRead : List Part → Type 0
-    AtRead l = (s : State) (n : ℕ) (o : Open) (k : ℕ) (t : State) (m : ℕ) → within bad d w n ≡ Is o k → steps-of l .at s o k ≡ Is t m
+    AtRead l = (s : State) (n : ℕ) (o : Open) (k : ℕ) (t : State) (m : ℕ) → withinElement bad d w n ≡ Is o k → steps-of l .at s o k ≡ Is t m
         → Told d (inside w l) s n t m
 
     abbrev GoRead : List Part → Type 0
@@ -72,7 +72,7 @@ module _ (bad : Bool) (d : List ℕ) where
 
     -- an element that comes next, and what is read behind it
     takes : {q : Part} {l k : List Part} {x : Element} (s : State) {n p e : ℕ} (t : State) (m : ℕ) (K : State → Reader State)
-        → Comes (s .manner .old) q x k → within bad d w n ≡ Is (start p) e → isNamed d (p + 1) e (ruleOf x .word) ≡ true
+        → Comes (s .manner .old) q x k → withinElement bad d w n ≡ Is (start p) e → isNamed d (p + 1) e (ruleOf x .word) ≡ true
         → ((u : State) (j : ℕ) → K u j ≡ Is t m → Told d (inside w (k ++ l)) u j t m) → bind (C x s p e) K ≡ Is t m
         → Told d (inside w (q ∷ l)) s n t m
     takes {x = x} s {n = n} {p = p} {e = e} t m K c f i g r =
@@ -106,8 +106,9 @@ module _ (bad : Bool) (d : List ℕ) where
 
     -- x?, where it may come (q) and be left out
     module _ (q : Part) (x : Element) (l : List Part) (o : Passes q) (at : AtRead l) (go : GoRead l) where
-      at-maybe : (s : State) (n : ℕ) (o : Open) (k : ℕ) (t : State) (m : ℕ) → Comes (s .manner .old) q x [] → within bad d w n ≡ Is o k
-          → stands.either bad d (ruleOf x .word) o (λ p n. bind (C x s p n) (steps-of l .go)) (steps-of l .at s o) k ≡ Is t m
+      at-maybe : (s : State) (n : ℕ) (o : Open) (k : ℕ) (t : State) (m : ℕ) → Comes (s .manner .old) q x [] → withinElement bad d w n
+          ≡ Is o k
+          → stands.eitherElement bad d (ruleOf x .word) o (λ p n. bind (C x s p n) (steps-of l .go)) (steps-of l .at s o) k ≡ Is t m
           → Told d (inside w (q ∷ l)) s n t m
       at-maybe s n (start p) k t m c f r = by (isNamed d (p + 1) k (ruleOf x .word)) refl r where
         by : (b : Bool) → isNamed d (p + 1) k (ruleOf x .word) ≡ b
@@ -125,7 +126,7 @@ module _ (bad : Bool) (d : List ℕ) where
     unfolding steps
     at-newly x l at go s n o k t m f r = by (s .manner .old) refl r where
       by : (b : Bool) → s .manner .old ≡ b → cond b (steps-of l .at s o)
-          (stands.either bad d (ruleOf x .word) o (λ p n. bind (C x s p n) (steps-of l .go)) (steps-of l .at s o)) k ≡ Is t m
+          (stands.eitherElement bad d (ruleOf x .word) o (λ p n. bind (C x s p n) (steps-of l .go)) (steps-of l .at s o)) k ≡ Is t m
           → Told d (inside w (table.newly x ∷ l)) s n t m
       by true i r = passes derivation.Passes.newly (at s n o k t m f r)
       by false i r = at-maybe (table.newly x) x l derivation.Passes.newly at go s n o k t m (derivation.Comes.newly i) f r
@@ -163,10 +164,11 @@ module _ (bad : Bool) (d : List ℕ) where
       loop-read : (g : ℕ) (s : State) (n : ℕ) (t : State) (m : ℕ) → loop g s n ≡ Is t m → Told d (inside w (table.any x ∷ l)) s n t m
       unfolding repeat
       loop-read zero s n t m r = never cc
-      loop-read (suc g) s n t m r = on (loop-read g) (within bad d w n) refl (sym (repeat-by g again s n last) ∙ r) where
+      loop-read (suc g) s n t m r = on (loop-read g) (withinElement bad d w n) refl (sym (repeat-by g again s n last) ∙ r) where
         by : ((s : State) (n : ℕ) (t : State) (m : ℕ) → loop g s n ≡ Is t m → Told d (inside w (table.any x ∷ l)) s n t m)
-            → (o : Open) (k : ℕ) → within bad d w n ≡ Is o k
-            → bind (stands.either bad d (ruleOf x .word) o (λ p n. bind (C x s p n) more) (give (Done (s, o))) k) (onward (loop g) last)
+            → (o : Open) (k : ℕ) → withinElement bad d w n ≡ Is o k
+            → bind (stands.eitherElement bad d (ruleOf x .word) o (λ p n. bind (C x s p n) more) (give (Done (s, o))) k)
+            (onward (loop g) last)
             ≡ Is t m
             → Told d (inside w (table.any x ∷ l)) s n t m
         by ih (start p) k f r = named (isNamed d (p + 1) k (ruleOf x .word)) refl r where
@@ -179,8 +181,8 @@ module _ (bad : Bool) (d : List ℕ) where
         by ih (shut p) k f r = passes derivation.Passes.any (at s n (shut p) k t m f r)
 
         on : ((s : State) (n : ℕ) (t : State) (m : ℕ) → loop g s n ≡ Is t m → Told d (inside w (table.any x ∷ l)) s n t m)
-            → (y : Result Open) → within bad d w n ≡ y
-            → bind (bind y λ o. stands.either bad d (ruleOf x .word) o (λ p n. bind (C x s p n) more) (give (Done (s, o))))
+            → (y : Result Open) → withinElement bad d w n ≡ y
+            → bind (bind y λ o. stands.eitherElement bad d (ruleOf x .word) o (λ p n. bind (C x s p n) more) (give (Done (s, o))))
             (onward (loop g) last) ≡ Is t m
             → Told d (inside w (table.any x ∷ l)) s n t m
         on ih (Is o k) f r = by ih o k f r
@@ -197,9 +199,9 @@ module _ (bad : Bool) (d : List ℕ) where
       at-any s n (shut p) k t m f r = passes derivation.Passes.any (at s n (shut p) k t m f r)
 
     -- ---- all of them
-    look : (l : List Part) → AtRead l → (s : State) (n : ℕ) (t : State) (m : ℕ) → bind (within bad d w n) (steps-of l .at s) ≡ Is t m
+    look : (l : List Part) → AtRead l → (s : State) (n : ℕ) (t : State) (m : ℕ) → bind (withinElement bad d w n) (steps-of l .at s) ≡ Is t m
         → Told d (inside w l) s n t m
-    look l at s n t m r = let b = bound (within bad d w n) (steps-of l .at s) t m r in
+    look l at s n t m r = let b = bound (withinElement bad d w n) (steps-of l .at s) t m r in
         at s n (b .value) (b .place) t m (b .first-is) (b .then-is)
 
     both : (l : List Part) → AtRead l × GoRead l
@@ -217,14 +219,14 @@ module _ (bad : Bool) (d : List ℕ) where
   -- ---- an element, behind its start tag
   module _ (x : Element) (s : State) (h : Held) where
     -- judged once read
-    record Settled (y : Text) (l : List Charge) (n : ℕ) (t : State) (m : ℕ) : Type 0 where
+    record Settled (y : KeptText) (l : List Charge) (n : ℕ) (t : State) (m : ℕ) : Type 0 where
       pub unknown : h .unknown ≡ 0
       pub others : Clean l
       pub charges : Clean (chargesOf d x s h y)
       pub same : saysOf d x s h y ≡ t
       pub place : n ≡ m
 
-    settled : (y : Text) (l : List Charge) {n : ℕ} {t : State} {m : ℕ} → judging bad d (meanings d) x s h y l n ≡ Is t m
+    settled : (y : KeptText) (l : List Charge) {n : ℕ} {t : State} {m : ℕ} → judging bad d (meanings d) x s h y l n ≡ Is t m
         → Settled y l n t m
     settled y l {n} {t} {m} r =
         let a = meaningOf d x .charges s h y in

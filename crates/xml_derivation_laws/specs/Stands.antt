@@ -20,12 +20,12 @@ use Rattle.pairs.proofs.Ends.{Edge, start-complete, EndAt, ends-sound, ends-com
 use Rattle.spans.specs.rule.Says.{sameOf}
 use Rattle.reading.specs.rule.Result.{Is}
 use Rattle.bridge.specs.Lowest.{never}
-use Rattle.xml_reading.specs.rule.Open.{start, shut, onShut, opened, within}
+use Rattle.xml_reading.specs.rule.Open.{start, shut, onShut, opened, withinElement}
 
 module _ (bad : Bool) (d w : List ℕ) where
   -- ---- what was found stands there
-  pub at-start : (n : ℕ) {p e : ℕ} → within bad d w n ≡ Is (start p) e → standOf bad d n ≡ stand.Start p e
-  unfolding within
+  pub at-start : (n : ℕ) {p e : ℕ} → withinElement bad d w n ≡ Is (start p) e → standOf bad d n ≡ stand.Start p e
+  unfolding withinElement
   at-start n {p} {e} f = by (standOf bad d n) refl f where
     closes : (q : ℕ) (r : Skip) → onShut q r ≡ Is (start p) e → standOf bad d n ≡ stand.Start p e
     closes q (skip.Past m) f = never cc
@@ -41,18 +41,19 @@ module _ (bad : Bool) (d w : List ℕ) where
     by (stand.Text q) g f = never cc
     by (stand.Broken q) g f = never cc
 
-  pub found-gap : {n p e : ℕ} → within bad d w n ≡ Is (start p) e → Gapped d n p
+  pub found-gap : {n p e : ℕ} → withinElement bad d w n ≡ Is (start p) e → Gapped d n p
   found-gap {n} {p} {e} f = gap-exactly bad d n p .0 (stand-start bad d n p e (at-start n f) .gap)
 
   -- with this name
-  pub found-start : (n : ℕ) {p e : ℕ} (v : List ℕ) → within bad d w n ≡ Is (start p) e → isNamed d (p + 1) e v ≡ true → Lies d p e (60 ∷ v)
+  pub found-start : (n : ℕ) {p e : ℕ} (v : List ℕ) → withinElement bad d w n ≡ Is (start p) e → isNamed d (p + 1) e v ≡ true
+      → Lies d p e (60 ∷ v)
   found-start n {p} {e} v f i =
       let s = stand-start bad d n p e (at-start n f) in
       let l = name-long (angle-start bad d p e (s .opens)) .0 in
       lies-join (lies-byte d p (p + 1) 60 (s .inside) (s .less) refl) (named-lies d (p + 1) e v (omega arith) i)
 
-  pub found-end : {n p m : ℕ} → within bad d w n ≡ Is (shut p) m → Gapped d n p × EndAt d w p m
-  unfolding within
+  pub found-end : {n p m : ℕ} → withinElement bad d w n ≡ Is (shut p) m → Gapped d n p × EndAt d w p m
+  unfolding withinElement
   found-end {n} {p} {m} f = by (standOf bad d n) refl f where
     closes : (q j : ℕ) (r : Skip) → standOf bad d n ≡ stand.Close q j → shutOf bad d q j w ≡ r → onShut q r ≡ Is (shut p) m
         → Gapped d n p × EndAt d w p m
@@ -72,8 +73,9 @@ module _ (bad : Bool) (d w : List ℕ) where
     by (stand.Broken q) g f = never cc
 
   -- ---- and what stands there is found
-  pub finds-start : {n p e : ℕ} {v : List ℕ} → Gapped d n p → Name v → Lies d p e (60 ∷ v) → Edge d e → within bad d w n ≡ Is (start p) e
-  unfolding within standOf standAt
+  pub finds-start : {n p e : ℕ} {v : List ℕ} → Gapped d n p → Name v → Lies d p e (60 ∷ v) → Edge d e → withinElement bad d w n
+      ≡ Is (start p) e
+  unfolding withinElement standOf standAt
   finds-start {n} {p} {e} {v} g a l i =
       let b = lies-first l in
       rw (
@@ -83,8 +85,8 @@ module _ (bad : Bool) (d w : List ℕ) where
         start-complete bad d p a l i,
       )
 
-  pub finds-end : {n p m : ℕ} → Gapped d n p → Name w → EndAt d w p m → within bad d w n ≡ Is (shut p) m
-  unfolding within standOf standAt
+  pub finds-end : {n p m : ℕ} → Gapped d n p → Name w → EndAt d w p m → withinElement bad d w n ≡ Is (shut p) m
+  unfolding withinElement standOf standAt
   finds-end {n} {p} {m} g a e =
       let c = ends-complete bad d p m a (e .ends) (e .lies) in
       rw (gap-exactly bad d n p .1 g, lt-leb (length d) p (c .inside), eq-eqb (getD d p 0) 60 (c .less), c .opens, c .shuts)

@@ -11,7 +11,7 @@ use Rattle.below.specs.Below.{and-left, and-right}
 use Rattle.markup.specs.rule.Bytes.{ofKind, isName, startsName, isDigit}
 use Rattle.markup.specs.rule.Grammar.{Each, no-more, each}
 use Rattle.pairs.specs.rule.Grammar.{Name, name}
-use Rattle.spans.specs.rule.Says.{eachOf, sameOf}
+use Rattle.spans.specs.rule.Says.{eachChar, sameOf}
 use Rattle.bridge.specs.Lowest.{never}
 use Rattle.reading.specs.rule.Variable.{Sort, Single, Multiple, Quantity, Character, Logical}
 use Rattle.xml_grammar.specs.Grammar.{Element, Part, once, perhaps, newly, either, any, Holds, nothing, plain, number, texts, parts, typed}
@@ -23,13 +23,13 @@ use Rattle.xml_derivations.specs.Derivation.{Parts}
 use Rattle.xml_derivations.specs.Derivation as derivation
 
 -- ---- words
-each-of : (f : ℕ → Bool) (s : List ℕ) → eachOf f s ≡ true → Each f s
-unfolding eachOf
+each-of : (f : ℕ → Bool) (s : List ℕ) → eachChar f s ≡ true → Each f s
+unfolding eachChar
 each-of f [] e = no-more
-each-of f (b ∷ s) e = each (and-left (f b) (eachOf f s) e) (each-of f s (and-right (f b) (eachOf f s) e))
+each-of f (b ∷ s) e = each (and-left (f b) (eachChar f s) e) (each-of f s (and-right (f b) (eachChar f s) e))
 
 pub word-name : (x : Element) → Name (ruleOf x .word)
-unfolding startsName ofKind isName isDigit eachOf
+unfolding startsName ofKind isName isDigit eachChar
 word-name Sss = name refl (each-of (ofKind 1) _ refl)
 word-name Date = name refl (each-of (ofKind 1) _ refl)
 word-name Time = name refl (each-of (ofKind 1) _ refl)

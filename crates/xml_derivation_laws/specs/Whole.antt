@@ -35,7 +35,7 @@ use Rattle.prologs.specs.declared.Prolog.{Prolog}
 use Rattle.prologs.specs.declared.Prolog.the-variants as prolog
 use Rattle.prologs.specs.declared.Tail.{Tail}
 use Rattle.prologs.specs.declared.Tail.the-variants as tail
-use Rattle.prologs.specs.rule.Told.{declarationOf, headOf, tailOf}
+use Rattle.prologs.specs.rule.Told.{declarationOf, headOf, tailFrom}
 use Rattle.prologs.proofs.Whole.{Declared, declaration-exactly, Headed, head-exactly, Tailed, tail-exactly}
 use Rattle.prologs.proofs.Whole as prologs
 use Rattle.reading.specs.rule.Result.{Result, Is, Not, Reader, bind}
@@ -46,10 +46,10 @@ use Rattle.grammar.specs.Faults.{Clean}
 use Rattle.names.specs.rule.Standard.{nameFault}
 use Rattle.xml_reading.specs.rule.Word.{SSS}
 use Rattle.xml_reading.specs.rule.Open.{onBare, misplaced}
-use Rattle.xml_reading.specs.rule.Role.{Entry}
-use Rattle.xml_reading.specs.rule.Sheet.{Survey, noRoot, rooted, headed, root, cleared, sheet}
-use Rattle.xml_reading.specs.rule.Whole.{Built, Refusal, tableOf, fitting, namesOf, placeOf, judgeNames, settled, sheetOf}
-use Rattle.xml_reading.specs.rule.Whole.{declared, outcomeOf}
+use Rattle.xml_reading.specs.rule.Role.{XmlEntry}
+use Rattle.xml_reading.specs.rule.Sheet.{XmlSurvey, noRoot, rooted, headed, root, cleared, sheet}
+use Rattle.xml_reading.specs.rule.Whole.{Built, Refusal, xmlTable, xmlFitting, xmlNames, entryPlace, judgeXmlNames, xmlSettled, sheetOf}
+use Rattle.xml_reading.specs.rule.Whole.{declared, xmlOutcome}
 use Rattle.xml_grammar.specs.Grammar.{Sss}
 use Rattle.xml_grammar.specs.Reader.{element}
 use Rattle.xml_grammar.specs.Meaning.{State, meanings}
@@ -141,15 +141,15 @@ module _ (bad latin : Bool) (d : List ℕ) where
       )
 
 -- ---- the sheet: from behind the declaration on
-pub record Derivation (latin : Bool) (d : List ℕ) (n : ℕ) (s : Survey) (m : ℕ) : Type 0 where
+pub record Derivation (latin : Bool) (d : List ℕ) (n : ℕ) (s : XmlSurvey) (m : ℕ) : Type 0 where
   pub charges : List Charge
   pub derived : Document latin d n charges s m
   pub clean : Clean charges
 
-moved : {latin : Bool} {d : List ℕ} {n j m : ℕ} {t s : Survey} → t ≡ s → j ≡ m → Derivation latin d n t j → Derivation latin d n s m
+moved : {latin : Bool} {d : List ℕ} {n j m : ℕ} {t s : XmlSurvey} → t ≡ s → j ≡ m → Derivation latin d n t j → Derivation latin d n s m
 moved e f y = rw (← e, ← f) y
 
-tail-read : (bad : Bool) (d : List ℕ) (n : ℕ) (y : Tail) {u : Unit {0}} {k : ℕ} → tailOf bad d n ≡ y → cleared bad d y n ≡ Is u k
+tail-read : (bad : Bool) (d : List ℕ) (n : ℕ) (y : Tail) {u : Unit {0}} {k : ℕ} → tailFrom bad d n ≡ y → cleared bad d y n ≡ Is u k
     → Tailed bad d n tail.Clean × (n ≡ k)
 tail-read bad d n tail.Clean g f = (tail-exactly bad d n tail.Clean .0 g, cc)
 tail-read bad d n (tail.Foul a b) g f = never cc
@@ -163,18 +163,18 @@ documented : (bad latin : Bool) {d : List ℕ} {n k m : ℕ} {l : Bool} {c : Lis
 documented true latin h y z = let e = clean-tail z in never cc
 documented false latin h y z = document h y z
 
-module _ (bad latin : Bool) (d : List ℕ) (n : ℕ) (s : Survey) (m : ℕ) where
+module _ (bad latin : Bool) (d : List ℕ) (n : ℕ) (s : XmlSurvey) (m : ℕ) where
   -- behind the root's end tag, at j
   behind-root : {p e j : ℕ} {t : State} → RootRead bad latin d n p e → element bad d (meanings d) (depth bad d) Sss (unsaid latin) p e
       ≡ Is t j
       → last bad d t j ≡ Is s m → (bad ≡ false) × Derivation latin d n s m
-  behind-root {p} {e} {j} {t} r f g = on (bound (cleared bad d (tailOf bad d j) j) (λ u n. Is (surveyOf t) n) s m g) where
+  behind-root {p} {e} {j} {t} r f g = on (bound (cleared bad d (tailFrom bad d j) j) (λ u n. Is (surveyOf t) n) s m g) where
     y : Told d (the Sss) (unsaid latin) p t j
     y = element-read bad d (depth bad d) Sss (unsaid latin) p e t j (r .name) f
 
-    on : Bound (cleared bad d (tailOf bad d j) j) (λ u n. Is (surveyOf t) n) s m → (bad ≡ false) × Derivation latin d n s m
+    on : Bound (cleared bad d (tailFrom bad d j) j) (λ u n. Is (surveyOf t) n) s m → (bad ≡ false) × Derivation latin d n s m
     on b =
-        let z = tail-read bad d j (tailOf bad d j) {k = b .place} refl (b .first-is) in
+        let z = tail-read bad d j (tailFrom bad d j) {k = b .place} refl (b .first-is) in
         let o = b .then-is in
         let i = z .1 in
         let a : surveyOf t ≡ s = cc in
@@ -185,7 +185,7 @@ module _ (bad latin : Bool) (d : List ℕ) (n : ℕ) (s : Survey) (m : ℕ) wher
 
   pub sheet-derived : sheet bad d latin n ≡ Is s m → (bad ≡ false) × Derivation latin d n s m
   sheet-derived e = on (bound (root bad d latin n) behind s m (sym (sheet-is bad d latin n) ∙ e)) where
-    behind : ℕ → Reader Survey
+    behind : ℕ → Reader XmlSurvey
     behind p n = bind (element bad d (meanings d) (depth bad d) Sss (unsaid latin) p n) (last bad d)
 
     on : Bound (root bad d latin n) behind s m → (bad ≡ false) × Derivation latin d n s m
@@ -193,7 +193,7 @@ module _ (bad latin : Bool) (d : List ℕ) (n : ℕ) (s : Survey) (m : ℕ) wher
         let b = bound (element bad d (meanings d) (depth bad d) Sss (unsaid latin) (a .value) (a .place)) (last bad d) s m (a .then-is) in
         behind-root (root-read bad latin d (a .first-is)) (b .first-is) (b .then-is)
 
-pub derived-sheet : (latin : Bool) {d : List ℕ} {n m : ℕ} {s : Survey} {c : List Charge} → Document latin d n c s m → Clean c
+pub derived-sheet : (latin : Bool) {d : List ℕ} {n m : ℕ} {s : XmlSurvey} {c : List Charge} → Document latin d n c s m → Clean c
     → sheet false d latin n ≡ Is s m
 derived-sheet latin {d} {n} (document {l = l} {k = k} {m = m} {t = t} h y z) c =
     let r = derived-read false d y c in
@@ -201,7 +201,7 @@ derived-sheet latin {d} {n} (document {l = l} {k = k} {m = m} {t = t} h y z) c =
     ∙ rw (root-there false latin d h (r .name) (r .edge), r .reads (depth false d) (omega arith), tail-exactly false d m tail.Clean .1 z)
 
 -- SHEET: what stands behind the declaration is read as s, up to m, exactly when it is derived so and nothing in it is charged
-pub sheet-exactly : (latin : Bool) (d : List ℕ) (n m : ℕ) (s : Survey) → (sheet false d latin n ≡ Is s m) ↔ Derivation latin d n s m
+pub sheet-exactly : (latin : Bool) (d : List ℕ) (n m : ℕ) (s : XmlSurvey) → (sheet false d latin n ≡ Is s m) ↔ Derivation latin d n s m
 sheet-exactly latin d n m s = (λ e. sheet-derived false latin d n s m e .1, λ y. derived-sheet latin (y .derived) (y .clean))
 
 -- ---- characters
@@ -244,39 +244,39 @@ legal-all l d n c =
     ⊎-elim (λ i. omega (arith, bad-end l d n (omega arith))) (λ i. omega (arith, legal-end l d n i c)) (lt-or-le (length d) n)
 
 -- ---- names, and a table long enough
-record Kept (d : List ℕ) (latin standard : Bool) (l : List Entry) (n : ℕ) : Type 0 where
-  pub names : standard ≡ true → length l ≤ nameFault (namesOf latin d l)
-  pub long : length (tableOf l) ≤ n
+record Kept (d : List ℕ) (latin standard : Bool) (l : List XmlEntry) (n : ℕ) : Type 0 where
+  pub names : standard ≡ true → length l ≤ nameFault (xmlNames latin d l)
+  pub long : length (xmlTable l) ≤ n
 
-module _ (d : List ℕ) (latin : Bool) (n : ℕ) (l : List Entry) where
-  fitting-built : {k : List Entry} → fitting n l ≡ Built k → (length (tableOf l) ≤ n) × (l ≡ k)
-  unfolding fitting
-  fitting-built {k} e = by (ltb n (length (tableOf l))) refl e where
-    by : (b : Bool) → ltb n (length (tableOf l)) ≡ b → cond b (Refusal 10 0) (Built l) ≡ Built k → (length (tableOf l) ≤ n) × (l ≡ k)
+module _ (d : List ℕ) (latin : Bool) (n : ℕ) (l : List XmlEntry) where
+  fitting-built : {k : List XmlEntry} → xmlFitting n l ≡ Built k → (length (xmlTable l) ≤ n) × (l ≡ k)
+  unfolding xmlFitting
+  fitting-built {k} e = by (ltb n (length (xmlTable l))) refl e where
+    by : (b : Bool) → ltb n (length (xmlTable l)) ≡ b → cond b (Refusal 10 0) (Built l) ≡ Built k → (length (xmlTable l) ≤ n) × (l ≡ k)
     by true h e = never cc
-    by false h e = (ltb-false n (length (tableOf l)) h, cc)
+    by false h e = (ltb-false n (length (xmlTable l)) h, cc)
 
-  names-built : (standard : Bool) {k : List Entry} → judgeNames latin d n standard l ≡ Built k → Kept d latin standard l n × (l ≡ k)
-  unfolding judgeNames
+  names-built : (standard : Bool) {k : List XmlEntry} → judgeXmlNames latin d n standard l ≡ Built k → Kept d latin standard l n × (l ≡ k)
+  unfolding judgeXmlNames
   names-built false e = let f = fitting-built e in (record { names = λ h. never cc; long = f .0 }, f .1)
-  names-built true {k} e = by (ltb (nameFault (namesOf latin d l)) (length l)) refl e where
-    by : (b : Bool) → ltb (nameFault (namesOf latin d l)) (length l) ≡ b
-        → cond b (Refusal 9 (placeOf l (nameFault (namesOf latin d l)))) (fitting n l) ≡ Built k → Kept d latin true l n × (l ≡ k)
+  names-built true {k} e = by (ltb (nameFault (xmlNames latin d l)) (length l)) refl e where
+    by : (b : Bool) → ltb (nameFault (xmlNames latin d l)) (length l) ≡ b
+        → cond b (Refusal 9 (entryPlace l (nameFault (xmlNames latin d l)))) (xmlFitting n l) ≡ Built k → Kept d latin true l n × (l ≡ k)
     by true h e = never cc
     by false h e =
         let f = fitting-built e in
-        (record { names = λ o. ltb-false (nameFault (namesOf latin d l)) (length l) h; long = f .0 }, f .1)
+        (record { names = λ o. ltb-false (nameFault (xmlNames latin d l)) (length l) h; long = f .0 }, f .1)
 
-  names-there : (standard : Bool) → Kept d latin standard l n → judgeNames latin d n standard l ≡ Built l
-  unfolding judgeNames fitting
-  names-there false k = rw (le-ltb n (length (tableOf l)) (k .long))
+  names-there : (standard : Bool) → Kept d latin standard l n → judgeXmlNames latin d n standard l ≡ Built l
+  unfolding judgeXmlNames xmlFitting
+  names-there false k = rw (le-ltb n (length (xmlTable l)) (k .long))
   names-there true k =
-      rw (le-ltb (nameFault (namesOf latin d l)) (length l) (k .names refl), le-ltb n (length (tableOf l)) (k .long))
+      rw (le-ltb (nameFault (xmlNames latin d l)) (length l) (k .names refl), le-ltb n (length (xmlTable l)) (k .long))
 
 -- ---- the outcome
 module _ (d : List ℕ) (n : ℕ) where
   -- what is read behind the declaration, at p
-  sheet-taken : (latin : Bool) (p : ℕ) {k : List Entry} → length d ≤ 1048576 → Declared d (prolog.Read latin p) → sheetOf latin d p n
+  sheet-taken : (latin : Bool) (p : ℕ) {k : List XmlEntry} → length d ≤ 1048576 → Declared d (prolog.Read latin p) → sheetOf latin d p n
       ≡ Built k
       → Taken d n k
   unfolding sheetOf
@@ -284,7 +284,7 @@ module _ (d : List ℕ) (n : ℕ) where
     q : ℕ
     q = firstBad latin d p
 
-    on : (r : Result Survey) → sheet (ltb q (length d)) (take q d) latin p ≡ r → settled latin (take q d) n r ≡ Built k → Taken d n k
+    on : (r : Result XmlSurvey) → sheet (ltb q (length d)) (take q d) latin p ≡ r → xmlSettled latin (take q d) n r ≡ Built k → Taken d n k
     on (Is s m) f e =
         let y = sheet-derived (ltb q (length d)) latin (take q d) p s m f in
         let o = ltb-false q (length d) (y .0) in
@@ -296,8 +296,8 @@ module _ (d : List ℕ) (n : ℕ) where
         rw (← v) (taken (definition h g (c .1) (x .derived)) (x .clean) (z .0 .names) (z .0 .long))
     on (Not x) f e = never cc
 
-  taken-of : {k : List Entry} → outcomeOf d n ≡ Built k → Taken d n k
-  unfolding outcomeOf
+  taken-of : {k : List XmlEntry} → xmlOutcome d n ≡ Built k → Taken d n k
+  unfolding xmlOutcome
   taken-of {k} e = by (ltb 1048576 (length d)) refl e where
     on : (y : Prolog) → declarationOf d ≡ y → length d ≤ 1048576 → declared d n y ≡ Built k → Taken d n k
     on (prolog.Read latin p) g h e = sheet-taken latin p h (declaration-exactly d (prolog.Read latin p) .0 g) e
@@ -307,8 +307,8 @@ module _ (d : List ℕ) (n : ℕ) where
     by true h e = never cc
     by false h e = on (declarationOf d) refl (ltb-false 1048576 (length d) h) e
 
-  of-taken : {k : List Entry} → Taken d n k → outcomeOf d n ≡ Built k
-  unfolding outcomeOf sheetOf
+  of-taken : {k : List XmlEntry} → Taken d n k → xmlOutcome d n ≡ Built k
+  unfolding xmlOutcome sheetOf
   of-taken (taken {latin = latin} {s = s} (definition {n = p} h g c x) o names long) =
       let q = legal-all latin d p c in
       let w : take (firstBad latin d p) d ≡ d = take-all (firstBad latin d p) d q in
@@ -323,9 +323,9 @@ module _ (d : List ℕ) (n : ℕ) where
 
   -- THE FILE: a definition in XML is built into a table of these variables exactly when its file is derived as a survey of them, nothing in
   -- it is charged, its names are good where that is asked, and the table is long enough
-  pub taken-exactly : (k : List Entry) → (outcomeOf d n ≡ Built k) ↔ Taken d n k
+  pub taken-exactly : (k : List XmlEntry) → (xmlOutcome d n ≡ Built k) ↔ Taken d n k
   taken-exactly k = (taken-of, of-taken)
 
 -- a definition is taken as one list of variables alone
-pub taken-once : {d : List ℕ} {n : ℕ} {k l : List Entry} → Taken d n k → Taken d n l → k ≡ l
+pub taken-once : {d : List ℕ} {n : ℕ} {k l : List XmlEntry} → Taken d n k → Taken d n l → k ≡ l
 taken-once {d} {n} x y = let e = of-taken d n x in let f = of-taken d n y in cc

@@ -9,7 +9,7 @@ use Rattle.markup.proofs.Gaps.{Gapped}
 use Rattle.tags.specs.declared.Held.{Held}
 use Rattle.tags.specs.rule.Tag.{stretchFits}
 use Rattle.pairs.proofs.Ends.{EndAt}
-use Rattle.survey.specs.rule.Survey.{Text}
+use Rattle.survey.specs.rule.Survey.{KeptText}
 use Rattle.reading.specs.rule.Least.{Charge}
 use Rattle.reading.specs.rule.Variable.{Sort}
 use Rattle.grammar.specs.Faults.{widthFaults}
@@ -63,7 +63,7 @@ closingOf (table.parts l) s = []
 closingOf (table.typed l) s = widthFaults (variableIn s)
 
 -- what may be charged in an element with these attributes and this text
-abbrev pub chargesOf : List ℕ → Element → State → Held → Text → List Charge
+abbrev pub chargesOf : List ℕ → Element → State → Held → KeptText → List Charge
 chargesOf d x s h t = meaningOf d x .charges s h t ++ (meaningOf d x .also s h t ++ behindOf d x s t)
 
 -- an element, whose < stands here; or parts that are due inside an element of this word, with white space and comments before each, up to
@@ -77,12 +77,12 @@ pub data Says (d : List ℕ) : Thing → State → ℕ → List Charge → State
   empty : {x : Element} {s : State} {p n m : ℕ} {h : Held} {alone : Bool} → ruleOf x .holds ≡ nothing
       → StartTag d (s .manner .old) (ruleOf x .attributes) (ruleOf x .word) p h alone n → NothingAt d (ruleOf x .word) alone n m
       → Says d (the x) s p (chargesOf d x s h noText) (saysOf d x s h noText) m
-  text : {x : Element} {s : State} {p n m mode : ℕ} {h : Held} {alone : Bool} {t : Text} {r : Holds} → ruleOf x .holds ≡ r
+  text : {x : Element} {s : State} {p n m mode : ℕ} {h : Held} {alone : Bool} {t : KeptText} {r : Holds} → ruleOf x .holds ≡ r
       → Texts (s .manner .languages) r mode
       → StartTag d (s .manner .old) (ruleOf x .attributes) (ruleOf x .word) p h alone n
       → TextAt (s .manner .latin) d mode (ruleOf x .word) alone n t m
       → Says d (the x) s p (chargesOf d x s h t) (saysOf d x s h t) m
-  digits : {x : Element} {s : State} {p n m : ℕ} {h : Held} {alone : Bool} {t : Text} → ruleOf x .holds ≡ number
+  digits : {x : Element} {s : State} {p n m : ℕ} {h : Held} {alone : Bool} {t : KeptText} → ruleOf x .holds ≡ number
       → StartTag d (s .manner .old) (ruleOf x .attributes) (ruleOf x .word) p h alone n
       → TextAt (s .manner .latin) d 0 (ruleOf x .word) alone n t m → stretchFits 1 d (t .place) (t .place + t .length) ≡ true
       → Says d (the x) s p (chargesOf d x s h t) (saysOf d x s h t) m

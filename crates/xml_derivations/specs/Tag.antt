@@ -14,7 +14,7 @@ use Rattle.tags.specs.rule.Tag as tag
 use Rattle.pairs.proofs.Lies.{Lies}
 use Rattle.pairs.proofs.Ends.{PairAt}
 use Rattle.contents.proofs.Exactly.{ContentAt}
-use Rattle.survey.specs.rule.Survey.{Text}
+use Rattle.survey.specs.rule.Survey.{KeptText}
 use Rattle.xml_grammar.specs.Grammar.{Attribute}
 use Rattle.xml_grammar.specs.Reader.{nameIn, formIn, neededBy}
 
@@ -64,7 +64,7 @@ pub record StartTag (d : List ℕ) (old : Bool) (l : List Attribute) (w : List �
   pub behind-name : ℕ
   pub end-mark : ℕ
   pub name : Lies d p behind-name (60 ∷ w)
-  pub attributes : Attributes d old l (tag.nothing behind-name) h
+  pub attributes : Attributes d old l (tag.nothingHeld behind-name) h
   pub complete : missesOf (neededOf l) h ≡ false
   pub end : Ended d (h .next) alone end-mark m
 
@@ -74,9 +74,9 @@ pub data NothingAt (d w : List ℕ) : Bool → ℕ → ℕ → Type 0 where
   pair : {n m : ℕ} → PairAt d w n m → NothingAt d w false n m
 
 -- ---- what follows the start tag of an element w that holds a text: "place just after its tag's `>`, length to its end tag's `<`"
-abbrev pub stretch : ℕ → ℕ → Text
+abbrev pub stretch : ℕ → ℕ → KeptText
 stretch n e = record { place = n; length = e - n }
 
-pub data TextAt (latin : Bool) (d : List ℕ) (mode : ℕ) (w : List ℕ) : Bool → ℕ → Text → ℕ → Type 0 where
+pub data TextAt (latin : Bool) (d : List ℕ) (mode : ℕ) (w : List ℕ) : Bool → ℕ → KeptText → ℕ → Type 0 where
   alone : {n : ℕ} → TextAt latin d mode w true n (stretch n n) n
   ended : {n e m : ℕ} → ContentAt latin d mode w n e m 0 → TextAt latin d mode w false n (stretch n e) m

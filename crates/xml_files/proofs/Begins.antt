@@ -10,7 +10,7 @@ use Rattle.reading.specs.rule.Result.{Result, Is, Not, Reader, bind}
 use Rattle.bridge.specs.Lowest.{never}
 use Rattle.xml_reading.specs.rule.Word.{VARIABLE}
 use Rattle.xml_reading.specs.rule.Open.{start, misplaced, due}
-use Rattle.xml_reading.specs.rule.Role.{Entry}
+use Rattle.xml_reading.specs.rule.Role.{XmlEntry}
 use Rattle.xml_reading.specs.rule.Variable.{Manner, variable}
 use Rattle.laying.specs.declared.Tally.{Tally}
 use Rattle.elements.specs.Code.{blamed}
@@ -28,12 +28,12 @@ due-bind {A} {B} bad d w p e k g = by (isNamed d (p + 1) e w) where
   by true = refl
   by false = rw (missed bad d {A = A} p e, missed bad d {A = B} p e)
 
-module _ (bad : Bool) (d : List ℕ) (m : Manner) (p e : ℕ) (l : List Entry) where
+module _ (bad : Bool) (d : List ℕ) (m : Manner) (p e : ℕ) (l : List XmlEntry) where
   begun-named : isNamed d (p + 1) e VARIABLE ≡ true → begunAt bad d m p e l ≡ variable bad d m l p e
   begun-named q = rw q
 
   begun-other : isNamed d (p + 1) e VARIABLE ≡ false → begunAt bad d m p e l ≡ Not (blamed {A = Unit} (misplaced bad d p e))
-  begun-other q = rw q (missed bad d {A = Entry} p e)
+  begun-other q = rw q (missed bad d {A = XmlEntry} p e)
 
 module _ (bad : Bool) (d : List ℕ) (m : Manner) (p e : ℕ) (seen : List ℕ) (y : Tally) (rows rows′ lines lines′ : List ℤ) where
   pub joined-named : (q : Bool) (r : Entered) → q ≡ isNamed d (p + 1) e VARIABLE → q ≡ true

@@ -15,12 +15,12 @@ use Rattle.survey.specs.rule.Table.{linesOf, linesAll, highestIn, lineCells, ce
 use Rattle.laying.proofs.Small.{ident-low, finish-low}
 use Rattle.measures.specs.Survey.{columnsIn, holdsIn}
 use Rattle.measures.specs.Good.{GoodVariable}
-use Rattle.survey.specs.rule.Table.{columnsOf}
-use Rattle.xml_reading.specs.rule.Role.{Entry, variablesOf}
+use Rattle.survey.specs.rule.Table.{variableColumns}
+use Rattle.xml_reading.specs.rule.Role.{XmlEntry, variablesOf}
 use Rattle.xml_bridge.specs.Book.{bookOf, columns-same}
 use Rattle.xml_bridge.specs.Table.{FineEntries, nothing, more}
 
-pub variables-with : (l : List Entry) (v : Entry) → variablesOf (l ++ v ∷ []) ≡ variablesOf l ++ v .variable ∷ []
+pub variables-with : (l : List XmlEntry) (v : XmlEntry) → variablesOf (l ++ v ∷ []) ≡ variablesOf l ++ v .variable ∷ []
 variables-with [] v = refl
 variables-with (w ∷ l) v = rw (variables-with l v)
 
@@ -65,14 +65,14 @@ take-pasted t s p k h e =
 -- ---- numbers of a variable that was read
 module _ (before : ℕ) (v : Variable) (g : GoodVariable before (bookOf v)) where
   pub ident-few : v .ident .value ≤ 9999
-  unfolding holdsIn columnsOf
+  unfolding holdsIn variableColumns
   ident-few = rw (columns-same before v) at (ident-low (columnsIn before (bookOf v)) (g .counts) (g .places) (g .holds))
 
   finish-few : finishIn v ≤ 16384
-  unfolding holdsIn columnsOf
+  unfolding holdsIn variableColumns
   finish-few = rw (columns-same before v) at (finish-low (columnsIn before (bookOf v)) (g .counts) (g .places) (g .holds))
 
-pub highest-low : {l : List Entry} → FineEntries l → highestIn (variablesOf l) ≤ 16384
+pub highest-low : {l : List XmlEntry} → FineEntries l → highestIn (variablesOf l) ≤ 16384
 unfolding highestIn
 highest-low nothing = omega arith
 highest-low (more {l} {v} g f) =

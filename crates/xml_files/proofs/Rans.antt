@@ -17,17 +17,17 @@ use Rattle.scan.specs.rule.Loop.{Next, Again, Done}
 use Rattle.tokens.specs.declared.Fault.{Fault}
 use Rattle.rows.specs.rule.Cells.{rowCells}
 use Rattle.variables.specs.Ident.{marked}
-use Rattle.survey.specs.rule.Survey.{Text, Variable}
+use Rattle.survey.specs.rule.Survey.{KeptText, Variable}
 use Rattle.survey.specs.rule.Width.{someOf, finishIn}
-use Rattle.survey.specs.rule.Table.{columnsOf, linesOf, linesAll, highestIn, cellsOf, allLines}
+use Rattle.survey.specs.rule.Table.{variableColumns, linesOf, linesAll, highestIn, cellsOf, allLines}
 use Rattle.reading.specs.rule.Result.{Result, Is, Not, Reader, bind, turn, repeat}
 use Rattle.bridge.specs.Lowest.{never}
 use Rattle.xml_reading.specs.rule.Word.{VARIABLE, RECORD}
-use Rattle.xml_reading.specs.rule.Open.{start, within, due}
-use Rattle.xml_reading.specs.rule.Role.{Entry, variablesOf}
+use Rattle.xml_reading.specs.rule.Open.{start, withinElement, due}
+use Rattle.xml_reading.specs.rule.Role.{XmlEntry, variablesOf}
 use Rattle.xml_reading.specs.rule.Variable.{Manner, variable}
-use Rattle.xml_reading.specs.rule.Sheet.{another, variables}
-use Rattle.xml_reading.specs.rule.Whole.{columnsFor, rowsFrom}
+use Rattle.xml_reading.specs.rule.Sheet.{anotherElement, variables}
+use Rattle.xml_reading.specs.rule.Whole.{columnsFor, xmlRows}
 use Rattle.laying.specs.declared.Tally.{Tally}
 use Rattle.laying.specs.Code.{zeros, tallyWith}
 use Rattle.laying.proofs.Zeros.{zero-at}
@@ -52,22 +52,25 @@ use Rattle.xml_files.proofs.Lists.{take-pasted}
 
 -- ---- where the rule's reader stands: before the first variable, or with turns enough left (the 513th variable is refused)
 module _ (bad : Bool) (d : List ℕ) (m : Manner) (at₀ : ℕ) where
-  pub data From : List Entry → ℕ → Type 0 where
+  pub data From : List XmlEntry → ℕ → Type 0 where
     first : From [] at₀
-    later : {l : List Entry} {at : ℕ} (f : ℕ) → 1 ≤ length l → mostRows < f + length l → variables bad d m at₀
-        ≡ repeat f (another bad d m) l at → From l at
+    later : {l : List XmlEntry} {at : ℕ} (f : ℕ) → 1 ≤ length l → mostRows < f + length l → variables bad d m at₀
+        ≡ repeat f (anotherElement bad d m) l at → From l at
 
-  repeat-again : (f : ℕ) (l k : List Entry) (at n : ℕ) → another bad d m l at ≡ Is (Again k) n → repeat (suc f) (another bad d m) l at
-      ≡ repeat f (another bad d m) k n
+  repeat-again : (f : ℕ) (l k : List XmlEntry) (at n : ℕ) → anotherElement bad d m l at ≡ Is (Again k) n
+      → repeat (suc f) (anotherElement bad d m) l at
+      ≡ repeat f (anotherElement bad d m) k n
   unfolding repeat
   repeat-again f l k at n e = rw e
 
-  repeat-done : (f : ℕ) (l k : List Entry) (at n : ℕ) → another bad d m l at ≡ Is (Done k) n → repeat (suc f) (another bad d m) l at
+  repeat-done : (f : ℕ) (l k : List XmlEntry) (at n : ℕ) → anotherElement bad d m l at ≡ Is (Done k) n
+      → repeat (suc f) (anotherElement bad d m) l at
       ≡ Is k n
   unfolding repeat
   repeat-done f l k at n e = rw e
 
-  repeat-not : (f : ℕ) (l : List Entry) (at : ℕ) (g : Fault) → another bad d m l at ≡ Not g → repeat (suc f) (another bad d m) l at ≡ Not g
+  repeat-not : (f : ℕ) (l : List XmlEntry) (at : ℕ) (g : Fault) → anotherElement bad d m l at ≡ Not g
+      → repeat (suc f) (anotherElement bad d m) l at ≡ Not g
   unfolding repeat
   repeat-not f l at g e = rw e
 
@@ -76,7 +79,7 @@ module _ (bad : Bool) (d : List ℕ) (m : Manner) (at₀ : ℕ) where
   bind-stops (Is a n) g k e = rw e
   bind-stops (Not h) g k {f} e = let u : h ≡ f = cc in ap Not u
 
-  from-more : (l : List Entry) (at : ℕ) (v : Entry) (n : ℕ) → From l at → length l < mostRows → Added bad d m l at v n
+  from-more : (l : List XmlEntry) (at : ℕ) (v : XmlEntry) (n : ℕ) → From l at → length l < mostRows → Added bad d m l at v n
       → From (l ++ v ∷ []) n
   unfolding variables
   from-more l at v n first h a = later {l = v ∷ []} {at = n} (suc mostRows) (omega arith) (omega arith) (rw (a .open-is, a .read))
@@ -86,24 +89,24 @@ module _ (bad : Bool) (d : List ℕ) (m : Manner) (at₀ : ℕ) where
       later {l = l ++ v ∷ []} {at = n} f (omega arith) (omega arith)
       (q ∙ repeat-again f l (l ++ v ∷ []) at n (another-more bad d m l at v n a))
 
-  from-over : (l : List Entry) (at n : ℕ) → From l at → length l ≤ mostRows → 1 ≤ length l → Over bad d at n → variables bad d m at₀
+  from-over : (l : List XmlEntry) (at n : ℕ) → From l at → length l ≤ mostRows → 1 ≤ length l → Over bad d at n → variables bad d m at₀
       ≡ Is l n
   from-over l at n first h k o = absurd (omega arith)
   from-over l at n (later zero s e q) h k o = absurd (omega arith)
   from-over l at n (later (suc f) s e q) h k o = q ∙ repeat-done f l l at n (another-over bad d m l at n o)
 
-  from-fails : (l : List Entry) (at : ℕ) (g : Fault) → From l at → length l ≤ mostRows → Fails bad d m l at g → variables bad d m at₀
+  from-fails : (l : List XmlEntry) (at : ℕ) (g : Fault) → From l at → length l ≤ mostRows → Fails bad d m l at g → variables bad d m at₀
       ≡ Not g
   unfolding variables
-  from-fails l at g first h e = bind-stops (within bad d RECORD at) (λ o. due bad d VARIABLE o (variable bad d m []))
-      (λ v. repeat (suc mostRows) (another bad d m) (v ∷ [])) e
+  from-fails l at g first h e = bind-stops (withinElement bad d RECORD at) (λ o. due bad d VARIABLE o (variable bad d m []))
+      (λ v. repeat (suc mostRows) (anotherElement bad d m) (v ∷ [])) e
   from-fails l at g (later zero s k q) h e = absurd (omega arith)
   from-fails [] at g (later (suc f) s k q) h e = absurd (omega arith)
   from-fails (w ∷ l) at g (later (suc f) s k q) h e = q ∙ repeat-not f (w ∷ l) at g e
 
 -- ---- THE INVARIANT
 pub record Ran (bad : Bool) (d : List ℕ) (m : Manner) (at₀ at : ℕ) (y : Tally) (seen : List ℕ) (rows lines : List ℤ) : Type 0 where
-  pub read : List Entry
+  pub read : List XmlEntry
   pub from : From bad d m at₀ read at
   pub before : Before d seen y rows read
   pub lines-are : take (lineSize * linesAll (variablesOf read)) lines ≡ allLines (variablesOf read)
@@ -130,7 +133,7 @@ ran-none bad d m at y seen rows lines e h q k = record {
 }
 
 -- the ident of one more is marked
-module _ (seen : List ℕ) (l : List Entry) (v : Entry) (met : Idents seen l) (long : length seen ≡ 10000)
+module _ (seen : List ℕ) (l : List XmlEntry) (v : XmlEntry) (met : Idents seen l) (long : length seen ≡ 10000)
     (small : v .variable .ident .value < 10000) where
   idents-more : Idents (set seen (v .variable .ident .value) 1) (l ++ v ∷ [])
   idents-more k =
@@ -156,10 +159,10 @@ module _ (seen : List ℕ) (l : List Entry) (v : Entry) (met : Idents seen l) (l
   idents-as : (i : ℕ) → i ≡ v .variable .ident .value → Idents (set seen i 1) (l ++ v ∷ [])
   idents-as i e = rw e idents-more
 
-pub moved-rows : {rows rows′ : List ℤ} {a b : ℕ} {k : List Entry} → rows′ ≡ rows → b ≡ a → RowsOf rows a k → RowsOf rows′ b k
+pub moved-rows : {rows rows′ : List ℤ} {a b : ℕ} {k : List XmlEntry} → rows′ ≡ rows → b ≡ a → RowsOf rows a k → RowsOf rows′ b k
 moved-rows e f h = rw (e, f) h
 
-lines-more : (l : List Entry) (v : Entry) (lines lines′ : List ℤ) → lines′
+lines-more : (l : List XmlEntry) (v : XmlEntry) (lines lines′ : List ℤ) → lines′
     ≡ pasted lines (lineSize * linesAll (variablesOf l)) (cellsOf (linesOf (v .variable)))
     → lineSize * linesAll (variablesOf l) ≤ length lines → take (lineSize * linesAll (variablesOf l)) lines ≡ allLines (variablesOf l)
     → take (lineSize * linesAll (variablesOf (l ++ v ∷ []))) lines′ ≡ allLines (variablesOf (l ++ v ∷ []))
@@ -194,7 +197,7 @@ sums-moved latin d rows rows′ count sums e y s = record {
       let a = above (columnIn rows i 19) m in
       let b = y .filters i k in
       ap (λ (x : ℕ). getD sums (binOf (sumIn latin d (nameIn rows′ (x - 1)))) 0) g
-      ∙ ap (λ (t : Text). getD sums (binOf (sumIn latin d t)) 0) (named (columnIn rows i 19 - 1) (omega arith))
+      ∙ ap (λ (t : KeptText). getD sums (binOf (sumIn latin d t)) 0) (named (columnIn rows i 19 - 1) (omega arith))
       ∙ s .served i k m;
 } where
   columns : (i k : ℕ) → i < count → k < rowSize → columnIn rows′ i k ≡ columnIn rows i k
@@ -203,19 +206,19 @@ sums-moved latin d rows rows′ count sums e y s = record {
   named : (i : ℕ) → i < count → nameIn rows′ i ≡ nameIn rows i
   named i h = rw (columns i 14 h (omega arith), columns i 15 h (omega arith))
 
-finish-for : (b : ℕ) (v : Entry) → columnsFor b v .finish ≡ finishIn (v .variable)
-unfolding columnsFor columnsOf
+finish-for : (b : ℕ) (v : XmlEntry) → columnsFor b v .finish ≡ finishIn (v .variable)
+unfolding columnsFor variableColumns
 finish-for b v = refl
 
-lines-is : (y : Tally) (l : List Entry) → y ≡ tallyOf l → y .lines ≡ linesAll (variablesOf l)
+lines-is : (y : Tally) (l : List XmlEntry) → y ≡ tallyOf l → y .lines ≡ linesAll (variablesOf l)
 unfolding tallyOf
 lines-is y l tally = ap (λ (z : Tally). z .lines) tally
 
-rows-is : (y : Tally) (l : List Entry) → y ≡ tallyOf l → y .rows ≡ length l
+rows-is : (y : Tally) (l : List XmlEntry) → y ≡ tallyOf l → y .rows ≡ length l
 unfolding tallyOf
 rows-is y l tally = ap (λ (z : Tally). z .rows) tally
 
-module _ (y : Tally) (l : List Entry) (v : Entry) (tally : y ≡ tallyOf l) where
+module _ (y : Tally) (l : List XmlEntry) (v : XmlEntry) (tally : y ≡ tallyOf l) where
   tally-more : (z : Tally) → z ≡ tallyWith y (columnsFor (y .lines) v) (y .lines + length (linesOf (v .variable))) → z
       ≡ tallyOf (l ++ v ∷ [])
   unfolding tallyOf tallyWith
@@ -232,7 +235,7 @@ module _ (y : Tally) (l : List Entry) (v : Entry) (tally : y ≡ tallyOf l) wher
 
 module _ (bad : Bool) (d : List ℕ) (m : Manner) (long : length d ≤ 1048576) (at₀ at : ℕ) (y : Tally) (seen : List ℕ) (rows lines : List ℤ)
     (r : Ran bad d m at₀ at y seen rows lines) (wide : length rows ≡ rowSize * mostRows) (many : length lines ≡ lineSize * mostLines) where
-  abbrev l : List Entry
+  abbrev l : List XmlEntry
   l = r .read
 
   rows-few : length l ≤ mostRows
@@ -252,7 +255,7 @@ module _ (bad : Bool) (d : List ℕ) (m : Manner) (long : length d ≤ 1048576) 
       o : OneMore bad d m seen y at rows rows′ lines lines′ l i z n
       o = t .more e l (r .before)
 
-      abbrev v : Entry
+      abbrev v : XmlEntry
       v = o .entry
 
       entry-fine : Read bad d l v n
@@ -319,7 +322,7 @@ module _ (bad : Bool) (d : List ℕ) (m : Manner) (long : length d ≤ 1048576) 
       pub run-over : run.Is y n ≡ runOf (variables bad d m at₀)
       run-over = ap (λ (z : Tally). run.Is z n) (r .before .tally) ∙ ap runOf (sym over-is)
 
-      same-all : (a : List Entry) (k : ℕ) → variables bad d m at₀ ≡ Is a k → l ≡ a
+      same-all : (a : List XmlEntry) (k : ℕ) → variables bad d m at₀ ≡ Is a k → l ≡ a
       same-all a k q = let u = sym over-is ∙ q in cc
 
       pub laid-over : Laid (variables bad d m at₀) rows′ lines′

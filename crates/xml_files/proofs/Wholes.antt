@@ -15,7 +15,7 @@ use Rattle.utf.specs.rule.Cut.{firstBad}
 use Rattle.utf.proofs.Exactly.{utf-exactly}
 use Rattle.markup.specs.rule.Bytes.{stands}
 use Rattle.prologs.specs.rule.Form.{XML, declaration}
-use Rattle.prologs.specs.rule.Told.{startOf, tellOf, declarationOf}
+use Rattle.prologs.specs.rule.Told.{startBehindMark, tellOf, declarationOf}
 use Rattle.prologs.specs.declared.Prolog.{Prolog}
 use Rattle.prologs.specs.declared.Prolog.the-variants as prolog
 use Rattle.prologs.proofs.Steps.{stands-in}
@@ -27,10 +27,11 @@ use Rattle.survey.specs.rule.Table.{linesAll, highestIn, allLines}
 use Rattle.reading.specs.rule.Result.{Result, Is, Not, bind}
 use Rattle.reading.specs.rule.Token.{passed}
 use Rattle.bridge.specs.Lowest.{never}
-use Rattle.xml_reading.specs.rule.Role.{Entry, variablesOf}
+use Rattle.xml_reading.specs.rule.Role.{XmlEntry, variablesOf}
 use Rattle.xml_reading.specs.rule.Variable.{Manner}
-use Rattle.xml_reading.specs.rule.Sheet.{Survey, preface, variables, closing, sheet}
-use Rattle.xml_reading.specs.rule.Whole.{headerFor, rowsFrom, tableOf, Outcome, Refusal, fitting, judgeNames, settled, sheetOf, outcomeOf}
+use Rattle.xml_reading.specs.rule.Sheet.{XmlSurvey, preface, variables, sheetClosed, sheet}
+use Rattle.xml_reading.specs.rule.Whole.{xmlHeader, xmlRows, xmlTable, XmlOutcome, Refusal, xmlFitting, judgeXmlNames, xmlSettled, sheetOf}
+use Rattle.xml_reading.specs.rule.Whole.{xmlOutcome}
 use Rattle.laying.specs.declared.Tally.{Tally}
 use Rattle.laying.specs.declared.Rooms.{Rooms}
 use Rattle.laying.specs.declared.Rooms.the-variants as rooms
@@ -65,7 +66,7 @@ prefaced-is (Is m n) e = ap prefaceRead e
 prefaced-is (Not f) e = ap prefaceRead e
 
 -- ---- what the rooms come to
-pub rooms-moved : {o p : ℕ → Outcome} {rows lines : List ℤ} {r : Rooms} → ((n : ℕ) → o n ≡ p n) → RoomsRead p rows lines r
+pub rooms-moved : {o p : ℕ → XmlOutcome} {rows lines : List ℤ} {r : Rooms} → ((n : ℕ) → o n ≡ p n) → RoomsRead p rows lines r
     → RoomsRead o rows lines r
 rooms-moved h w = record {
   stands = λ e. let s = w .stands e in record {
@@ -80,7 +81,7 @@ rooms-moved h w = record {
   refuses = λ e n. h n ∙ w .refuses e n;
 }
 
-pub rooms-refused : {o : ℕ → Outcome} {rows lines : List ℤ} (k p : ℕ) → ((n : ℕ) → o n ≡ Refusal k p)
+pub rooms-refused : {o : ℕ → XmlOutcome} {rows lines : List ℤ} (k p : ℕ) → ((n : ℕ) → o n ≡ Refusal k p)
     → RoomsRead o rows lines (rooms.Refused k p)
 rooms-refused k p h = record {
   stands = λ e. never cc;
@@ -93,7 +94,7 @@ rooms-refused k p h = record {
 -- ---- behind the preface
 module _ (bad : Bool) (d : List ℕ) (long : length d ≤ 1048576) (m : Manner) (at : ℕ) where
   pub record All (y : Tally) (n : ℕ) (rows lines : List ℤ) : Type 0 where
-    pub read : List Entry
+    pub read : List XmlEntry
     pub are : variables bad d m at ≡ Is read n
     pub tally : y ≡ tallyOf read
     pub held : RowsOf rows (length read) read
@@ -105,7 +106,7 @@ module _ (bad : Bool) (d : List ℕ) (long : length d ≤ 1048576) (m : Manner) 
   module _ (q : Run) (rows lines : List ℤ) (says : q ≡ runOf (variables bad d m at)) (laid : Laid (variables bad d m at) rows lines) where
     pub all-read : (y : Tally) (n : ℕ) → q ≡ run.Is y n → All y n rows lines
     all-read y n e = by (variables bad d m at) refl (sym says ∙ e) where
-      by : (x : Result (List Entry)) → variables bad d m at ≡ x → runOf x ≡ run.Is y n → All y n rows lines
+      by : (x : Result (List XmlEntry)) → variables bad d m at ≡ x → runOf x ≡ run.Is y n → All y n rows lines
       by (Is l k) i j =
           let a : tallyOf l ≡ y = cc in
           let b : k ≡ n = cc in
@@ -124,12 +125,12 @@ module _ (bad : Bool) (d : List ℕ) (long : length d ≤ 1048576) (m : Manner) 
 
     pub run-refused : (f : Fault) → q ≡ run.Not f → variables bad d m at ≡ Not f
     run-refused f e = by (variables bad d m at) refl (sym says ∙ e) where
-      by : (x : Result (List Entry)) → variables bad d m at ≡ x → runOf x ≡ run.Not f → variables bad d m at ≡ Not f
+      by : (x : Result (List XmlEntry)) → variables bad d m at ≡ x → runOf x ≡ run.Not f → variables bad d m at ≡ Not f
       by (Is l k) i j = never cc
       by (Not g) i j = let a : g ≡ f = cc in i ∙ ap Not a
 
     pub body-not : (latin : Bool) (f : Fault) → q ≡ run.Not f
-        → RoomsRead (λ n. settled latin d n (bodyOf bad d m at)) rows lines (rooms.Refused (f .number) (f .place))
+        → RoomsRead (λ n. xmlSettled latin d n (bodyOf bad d m at)) rows lines (rooms.Refused (f .number) (f .place))
     unfolding bodyOf
     body-not latin f e = rooms-refused (f .number) (f .place) (λ n. rw (run-refused f e))
 
@@ -150,12 +151,12 @@ module _ (bad : Bool) (d : List ℕ) (long : length d ≤ 1048576) (m : Manner) 
       pub body-next : k ≤ length d
       body-next = s .next
 
-      cells-are : cellsIn markXml y rows lines ≡ tableOf (s .read)
-      unfolding cellsIn headerBy tallyOf headerFor tableOf headerCells allLines rowsFrom
+      cells-are : cellsIn markXml y rows lines ≡ xmlTable (s .read)
+      unfolding cellsIn headerBy tallyOf xmlHeader xmlTable headerCells allLines xmlRows
       cells-are = ap (λ (z : Tally). cellsIn markXml z rows lines) (s .tally) ∙ held-parts (s .read) (s .held .held) (s .lines-are) where
-        held-parts : (l : List Entry) → take (rowSize * length l) rows ≡ rowsFrom 0 l → take (lineSize * linesAll (variablesOf l)) lines
+        held-parts : (l : List XmlEntry) → take (rowSize * length l) rows ≡ xmlRows 0 l → take (lineSize * linesAll (variablesOf l)) lines
             ≡ allLines (variablesOf l)
-            → headerCells (headerFor l) ++ (take (rowSize * length l) rows ++ take (lineSize * linesAll (variablesOf l)) lines) ≡ tableOf l
+            → headerCells (xmlHeader l) ++ (take (rowSize * length l) rows ++ take (lineSize * linesAll (variablesOf l)) lines) ≡ xmlTable l
         held-parts l a b = rw (a, b) refl
 
       few-here : (y .rows ≤ mostRows) × (y .lines ≤ mostLines) × (y .length ≤ 16384)
@@ -166,26 +167,26 @@ module _ (bad : Bool) (d : List ℕ) (long : length d ≤ 1048576) (m : Manner) 
       unfolding tallyOf
       lines-here = ap (λ (z : Tally). z .lines) (s .tally)
 
-      module _ (latin : Bool) (x : Reading) (shut : x ≡ readingOf (closing bad d k)) where
+      module _ (latin : Bool) (x : Reading) (shut : x ≡ readingOf (sheetClosed bad d k)) where
         pub body-ends : (f : Fault) → x ≡ Refused f
-            → RoomsRead (λ n. settled latin d n (bodyOf bad d m at)) rows lines (rooms.Refused (f .number) (f .place))
+            → RoomsRead (λ n. xmlSettled latin d n (bodyOf bad d m at)) rows lines (rooms.Refused (f .number) (f .place))
         unfolding bodyOf
-        body-ends f i = rooms-refused (f .number) (f .place) (λ n. rw (s .are, sym (passed-is (closing bad d k) shut) ∙ ap passed i))
+        body-ends f i = rooms-refused (f .number) (f .place) (λ n. rw (s .are, sym (passed-is (sheetClosed bad d k) shut) ∙ ap passed i))
 
-        body-is : (j : ℕ) → x ≡ At j → (n : ℕ) → settled latin d n (bodyOf bad d m at) ≡ judgeNames latin d n (m .standard) (s .read)
+        body-is : (j : ℕ) → x ≡ At j → (n : ℕ) → xmlSettled latin d n (bodyOf bad d m at) ≡ judgeXmlNames latin d n (m .standard) (s .read)
         unfolding bodyOf
-        body-is j i n = rw (s .are, sym (passed-is (closing bad d k) shut) ∙ ap passed i)
+        body-is j i n = rw (s .are, sym (passed-is (sheetClosed bad d k) shut) ∙ ap passed i)
 
         pub body-here : (j : ℕ) (o : Rooms) → x ≡ At j → NamesSettled latin d (m .standard) y rows o
-            → RoomsRead (λ n. settled latin d n (bodyOf bad d m at)) rows lines o
+            → RoomsRead (λ n. xmlSettled latin d n (bodyOf bad d m at)) rows lines o
         body-here j o i w = record {
           stands = λ {y = z} e.
               let p = w .passes e (s .read) held-here in
               stands-as z (p .0) (λ n. body-is j i n ∙ p .1 n);
           refuses = λ e n. body-is j i n ∙ w .fails e (s .read) held-here n;
         } where
-          stands-as : (z : Tally) → z ≡ y → ((n : ℕ) → settled latin d n (bodyOf bad d m at) ≡ fitting n (s .read))
-              → Standing (λ n. settled latin d n (bodyOf bad d m at)) rows lines z
+          stands-as : (z : Tally) → z ≡ y → ((n : ℕ) → xmlSettled latin d n (bodyOf bad d m at) ≡ xmlFitting n (s .read))
+              → Standing (λ n. xmlSettled latin d n (bodyOf bad d m at)) rows lines z
           stands-as z u h = rw u (record {
             read = s .read;
             fine = s .fine;
@@ -204,19 +205,19 @@ ends-in d (prefaced.Not f) h e = never cc
 module _ (bad latin : Bool) (d : List ℕ) (at : ℕ) (p : Prefaced) (says : p ≡ prefacedOf (preface bad d latin at)) (rows lines : List ℤ)
   where
     pub sheet-not : (f : Fault) → p ≡ prefaced.Not f
-        → RoomsRead (λ n. settled latin d n (sheet bad d latin at)) rows lines (rooms.Refused (f .number) (f .place))
+        → RoomsRead (λ n. xmlSettled latin d n (sheet bad d latin at)) rows lines (rooms.Refused (f .number) (f .place))
     unfolding sheet
     sheet-not f e = rooms-refused (f .number) (f .place) (λ n. rw (sym (prefaced-is (preface bad d latin at) (sym e ∙ says))))
 
     pub sheet-here : (m : code.Manner) (k : ℕ) (r : Rooms) → p ≡ prefaced.Is m k
-        → RoomsRead (λ n. settled latin d n (bodyOf bad d (ruleOf m) k)) rows lines r
-        → RoomsRead (λ n. settled latin d n (sheet bad d latin at)) rows lines r
+        → RoomsRead (λ n. xmlSettled latin d n (bodyOf bad d (ruleOf m) k)) rows lines r
+        → RoomsRead (λ n. xmlSettled latin d n (sheet bad d latin at)) rows lines r
     unfolding sheet bodyOf
     sheet-here m k r e w = rooms-moved (λ n. rw (sym (prefaced-is (preface bad d latin at) (sym e ∙ says)))) w
 
 -- ---- the whole
-start-few : (d : List ℕ) → startOf d ≤ length d
-unfolding startOf
+start-few : (d : List ℕ) → startBehindMark d ≤ length d
+unfolding startBehindMark
 start-few d = by (stands (239 ∷ 187 ∷ 191 ∷ []) d) refl where
   by : (b : Bool) → stands (239 ∷ 187 ∷ 191 ∷ []) d ≡ b → cond b 3 0 ≤ length d
   by true e = omega (arith, stands-in 239 (187 ∷ 191 ∷ []) d 0 e)
@@ -224,13 +225,14 @@ start-few d = by (stands (239 ∷ 187 ∷ 191 ∷ []) d) refl where
 
 pub declared-in : (d : List ℕ) (latin : Bool) (at : ℕ) → declarationOf d ≡ prolog.Read latin at → at ≤ length d
 unfolding declarationOf
-declared-in d latin at = by (stands XML (drop (startOf d) d)) where
-  by : (b : Bool) → cond b (tellOf false d (startOf d) (declaration (ltb 0 (startOf d))) false (startOf d)) (prolog.Read false (startOf d))
+declared-in d latin at = by (stands XML (drop (startBehindMark d) d)) where
+  by : (b : Bool) → cond b (tellOf false d (startBehindMark d) (declaration (ltb 0 (startBehindMark d))) false (startBehindMark d))
+      (prolog.Read false (startBehindMark d))
       ≡ prolog.Read latin at
       → at ≤ length d
-  by true e = rw (ap reach e) at (reaches false d (startOf d)
-      (tells false d (startOf d) (declaration (ltb 0 (startOf d))) false (startOf d)) (start-few d))
-  by false e = let u : startOf d ≡ at = cc in omega (arith, start-few d)
+  by true e = rw (ap reach e) at (reaches false d (startBehindMark d)
+      (tells false d (startBehindMark d) (declaration (ltb 0 (startBehindMark d))) false (startBehindMark d)) (start-few d))
+  by false e = let u : startBehindMark d ≡ at = cc in omega (arith, start-few d)
 
 pub cut-in : (latin : Bool) (d : List ℕ) (at q : ℕ) → at ≤ length d → q ≡ firstBad latin d at → at ≤ q
 cut-in latin d at q h e = let c = utf-exactly latin d at q h .0 (sym e) in omega (arith, c .place)
@@ -240,12 +242,12 @@ pub cut-here : (latin : Bool) (d : List ℕ) (at q : ℕ) → at ≤ length d �
 cut-here latin d at q h e k l = let n = length-take-le q d k in let c = cut-in latin d at q h e in (omega arith, omega arith)
 
 module _ (d : List ℕ) (long : length d ≤ 1048576) (p : Prolog) (says : p ≡ declarationOf d) (rows lines : List ℤ) where
-  pub whole-not : (k q : ℕ) → p ≡ prolog.Fault k q → RoomsRead (outcomeOf d) rows lines (rooms.Refused k q)
-  unfolding outcomeOf
+  pub whole-not : (k q : ℕ) → p ≡ prolog.Fault k q → RoomsRead (xmlOutcome d) rows lines (rooms.Refused k q)
+  unfolding xmlOutcome
   whole-not k q e = rooms-refused k q (λ n. rw (le-ltb 1048576 (length d) long, sym says ∙ e))
 
   pub whole-here : (latin : Bool) (at q : ℕ) (bad : Bool) (r : Rooms) → p ≡ prolog.Read latin at → q ≡ firstBad latin d at → bad
       ≡ ltb q (length d)
-      → RoomsRead (λ n. settled latin (take q d) n (sheet bad (take q d) latin at)) rows lines r → RoomsRead (outcomeOf d) rows lines r
-  unfolding outcomeOf sheetOf
+      → RoomsRead (λ n. xmlSettled latin (take q d) n (sheet bad (take q d) latin at)) rows lines r → RoomsRead (xmlOutcome d) rows lines r
+  unfolding xmlOutcome sheetOf
   whole-here latin at q bad r e f g w = rooms-moved (λ n. rw (le-ltb 1048576 (length d) long, sym says ∙ e, ← f, ← g)) w

@@ -21,7 +21,7 @@ ghost use Rattle.laying.specs.Code.{zeros};
 ghost use Rattle.filters.specs.Code.{columnIn, Lying};
 ghost use Rattle.prefaces.specs.Code.{ruleOf};
 ghost use Rattle.xml_reading.specs.rule.Sheet.{variables, sheet};
-ghost use Rattle.xml_reading.specs.rule.Whole.{settled, sheetOf, outcomeOf};
+ghost use Rattle.xml_reading.specs.rule.Whole.{xmlSettled, sheetOf, xmlOutcome};
 ghost use Rattle.sheets.specs.Code.{Knowing, Joined};
 ghost use Rattle.xml_files.specs.Code.{begunAt, Turned, runOf, Laid, NamesSettled, RoomsRead, bodyOf};
 
@@ -231,7 +231,7 @@ fn read_body(
     requires { ⌜ (length (now d) ≤ 1048576) × (at ≤ length (now d)) ⌝ }
     requires { ⌜ (length (now rows) ≡ rowSize * mostRows) × (length (now lines) ≡ lineSize * mostLines) × (length (now marks) ≡ 16384) ⌝ }
     requires { ⌜ now seen ≡ zeros 10000 ⌝ }
-    ensures { λ r. ⌜ RoomsRead (λ n. settled latin (now (d .entry)) n (bodyOf bad (now (d .entry)) (ruleOf m) at)) (now (rows .exit))
+    ensures { λ r. ⌜ RoomsRead (λ n. xmlSettled latin (now (d .entry)) n (bodyOf bad (now (d .entry)) (ruleOf m) at)) (now (rows .exit))
         (now (lines .exit)) r ⌝ }
 {
     match read_variables(powers, bad, d, at, m, rows, lines, marks, seen) {
@@ -267,7 +267,7 @@ fn read_sheet(
     requires { ⌜ (length (now d) ≤ 1048576) × (at ≤ length (now d)) ⌝ }
     requires { ⌜ (length (now rows) ≡ rowSize * mostRows) × (length (now lines) ≡ lineSize * mostLines) × (length (now marks) ≡ 16384) ⌝ }
     requires { ⌜ now seen ≡ zeros 10000 ⌝ }
-    ensures { λ r. ⌜ RoomsRead (λ n. settled latin (now (d .entry)) n (sheet bad (now (d .entry)) latin at)) (now (rows .exit))
+    ensures { λ r. ⌜ RoomsRead (λ n. xmlSettled latin (now (d .entry)) n (sheet bad (now (d .entry)) latin at)) (now (rows .exit))
         (now (lines .exit)) r ⌝ }
 {
     match prefaces::read_preface(bad, latin, d, at) {
@@ -306,7 +306,7 @@ pub fn read_in(
     requires { ⌜ length (now d) ≤ 1048576 ⌝ }
     requires { ⌜ (length (now rows) ≡ rowSize * mostRows) × (length (now lines) ≡ lineSize * mostLines) × (length (now marks) ≡ 16384) ⌝ }
     requires { ⌜ now seen ≡ zeros 10000 ⌝ }
-    ensures { λ r. ⌜ RoomsRead (outcomeOf (now (d .entry))) (now (rows .exit)) (now (lines .exit)) r ⌝ }
+    ensures { λ r. ⌜ RoomsRead (xmlOutcome (now (d .entry))) (now (rows .exit)) (now (lines .exit)) r ⌝ }
 {
     match prologs::read_declaration(d) {
         Prolog::Read { latin, next } => {

@@ -108,7 +108,7 @@ module _ (bad : Bool) (d : List ℕ) where
 
   pub either-behind : {A B E : Type 0} (w : List ℕ) (o : Open) (n : ℕ) (c : ℕ → Reader B) (k : ℕ → Reader A) (q : Reader B) (r : Reader A)
       (z : B → Reader E) (y : A → Reader E) → ((p : ℕ) → bind (c p n) z ≡ bind (k p n) y) → bind (q n) z ≡ bind (r n) y
-      → bind (stands.either bad d w o c q n) z ≡ bind (stands.either bad d w o k r n) y
+      → bind (stands.eitherElement bad d w o c q n) z ≡ bind (stands.eitherElement bad d w o k r n) y
   either-behind w (start p) n c k q r z y e h = by (isNamed d (p + 1) n w) where
     by : (x : Bool) → bind (cond x (c p n) (q n)) z ≡ bind (cond x (k p n) (r n)) y
     by true = e p

@@ -12,9 +12,9 @@ use Rattle.survey.specs.rule.Survey as survey
 use Rattle.reading.specs.rule.Result.{Result, Is, Not, Reader, _>>=_, _>>_, give, repeat, bind}
 use Rattle.reading.specs.rule.Values.{withLine, unlisted}
 use Rattle.xml_reading.specs.rule.Word.{VALUES, RANGE, VALUE}
-use Rattle.xml_reading.specs.rule.Open.{Open, within, due, unknownAt, enter}
+use Rattle.xml_reading.specs.rule.Open.{Open, withinElement, due, unknownAt, enter}
 use Rattle.xml_reading.specs.rule.Open as stands
-use Rattle.xml_reading.specs.rule.Block.{range, line, lined, onOpen, another, first, values}
+use Rattle.xml_reading.specs.rule.Block.{range, line, lined, onOpen, anotherLine, first, values}
 use Rattle.xml_grammar.specs.Grammar.{Element, Values, Range, Value, either, any}
 use Rattle.xml_grammar.specs.Reader.{steps, round, rounds, element}
 use Rattle.xml_grammar.specs.Meaning.{State, withBlock, isQuantity, linesBefore, meanings}
@@ -42,7 +42,7 @@ module _ (bad : Bool) (d : List ℕ) (f : ℕ) (s : State) where
   lineOn b = lined bad d (s .manner .languages) quantity (linesBefore s) b
 
   abbrev nextOne : Block → Reader (Next Block Block)
-  nextOne = another bad d (s .manner .languages) quantity (linesBefore s)
+  nextOne = anotherLine bad d (s .manner .languages) quantity (linesBefore s)
 
   -- ---- another value
   handed : (b : Block) (K L : Block → Reader State) (r : Result Line) → ((c : Block) (m : ℕ) → K c m ≡ L c m)
@@ -56,7 +56,7 @@ module _ (bad : Bool) (d : List ℕ) (f : ℕ) (s : State) where
 
   a-round : (b : Block) (n : ℕ) (K : State → Reader State) (L : Block → Reader State) → ((c : Block) (m : ℕ) → K (hold c) m ≡ L c m)
       → bind (round bad d (meanings d) child VALUES Value (hold b) n) (onward K (ending bad d hold)) ≡ bind (nextOne b n) (onward L held)
-  unfolding another
+  unfolding anotherLine
   a-round b n K L e =
       turn-is bad d hold VALUE VALUES b (child Value (hold b)) (λ p. lineOn b p >>= λ c. give (Again c)) K L
       (λ p m. rw (value-is bad d f (hold b) p m) (through (lineIn b p m) (λ l. hold (withLine b l)) K
@@ -71,7 +71,7 @@ module _ (bad : Bool) (d : List ℕ) (f : ℕ) (s : State) where
       → steps bad d (meanings d) child VALUES (either Range Value ∷ any Value ∷ []) .go (hold (unlisted none)) n
       ≡ bind (bind (first bad d (s .manner .languages) quantity (linesBefore s) n) rest) held
   unfolding steps first
-  first-is n = by (within bad d VALUES n) where
+  first-is n = by (withinElement bad d VALUES n) where
     loop : State → Reader State
     loop t n = bind (repeat (suc mostLines) (round bad d (meanings d) child VALUES Value) t n) (ending bad d hold)
 
@@ -101,16 +101,16 @@ module _ (bad : Bool) (d : List ℕ) (f : ℕ) (s : State) where
     lined-is p m = value-is bad d f (hold (unlisted none)) p m ∙ map-behind (lineIn (unlisted none) p m) _ _ held λ l m. refl
 
     by : (r : Result Open)
-        → bind r (λ o n. bind (stands.either bad d RANGE o (child Range (hold (unlisted none)))
+        → bind r (λ o n. bind (stands.eitherElement bad d RANGE o (child Range (hold (unlisted none)))
         (due bad d VALUE o (child Value (hold (unlisted none)))) n) loop)
-        ≡ bind (bind (bind r λ o. stands.either bad d RANGE o (λ p. range bad d quantity p >>= λ r. give (unlisted (some r)))
+        ≡ bind (bind (bind r λ o. stands.eitherElement bad d RANGE o (λ p. range bad d quantity p >>= λ r. give (unlisted (some r)))
         (due bad d VALUE o (lineOn (unlisted none)))) rest) held
     by (Is o m) =
         either-behind bad d RANGE o m (child Range (hold (unlisted none))) (λ p. range bad d quantity p >>= λ r. give (unlisted (some r)))
         (due bad d VALUE o (child Value (hold (unlisted none)))) (due bad d VALUE o (lineOn (unlisted none))) loop done
         (λ p. ranged p m)
         (due-behind bad d VALUE o m (child Value (hold (unlisted none))) (lineOn (unlisted none)) hold loop done lined-is loops)
-        ∙ sym (behind (stands.either bad d RANGE o (λ p. range bad d quantity p >>= λ r. give (unlisted (some r)))
+        ∙ sym (behind (stands.eitherElement bad d RANGE o (λ p. range bad d quantity p >>= λ r. give (unlisted (some r)))
         (due bad d VALUE o (lineOn (unlisted none))) m))
     by (Not x) = refl
 

@@ -12,7 +12,7 @@ use Rattle.tags.specs.declared.Tag.{Tag}
 use Rattle.tags.specs.rule.Tag.{tagOf}
 use Rattle.pairs.specs.rule.Stand.{bareOf}
 use Rattle.tokens.specs.rule.Gap.{fault}
-use Rattle.survey.specs.rule.Survey.{Figure, Text}
+use Rattle.survey.specs.rule.Survey.{Figure, KeptText}
 use Rattle.reading.specs.rule.Result.{Result, Is, Not, Reader, _>>=_, _>>_, give, bind}
 use Rattle.reading.specs.rule.Least.{Charge, _when_, judged}
 use Rattle.reading.specs.rule.Statement.{sizeCharges}
@@ -86,7 +86,7 @@ module _ (bad : Bool) (d : List ℕ) where
       on-tag bad d (bareOf bad d p e) _ _ _ λ h empty q n. map-behind (body bad d SIZE 0 empty n) _ _ _ λ b m. size-in s h b m
 
   -- ---- elements that are only a text
-  text-is : (t : Tag) (w : List ℕ) (m : ℕ) (g : Text → Reader State)
+  text-is : (t : Tag) (w : List ℕ) (m : ℕ) (g : KeptText → Reader State)
       → onTag bad d t (λ h empty q. body bad d w m empty >>= λ b. judged (unknownAt (h .unknown) ∷ b .charges) (tt {0}) >> g (b .text))
       ≡ bind (onTag bad d t λ h empty q. body bad d w m empty >>= λ b. judged (unknownAt (h .unknown) ∷ b .charges) (b .text)) g
   text-is t w m g =

@@ -7,7 +7,7 @@ use Rattle.scan.specs.rule.Loop.{Next, Again, Done}
 use Rattle.tags.specs.rule.Tag.{isNamed}
 use Rattle.pairs.specs.rule.Stand.{bareOf}
 use Rattle.reading.specs.rule.Result.{Result, Is, Not, Reader, _>>=_, _>>_, give, repeat, bind, turn}
-use Rattle.xml_reading.specs.rule.Open.{Open, start, shut, within, due, over, onBare}
+use Rattle.xml_reading.specs.rule.Open.{Open, start, shut, withinElement, due, over, onBare}
 use Rattle.xml_reading.specs.rule.Open as stands
 use Rattle.xml_grammar.specs.Behind.{bare-behind}
 
@@ -53,7 +53,7 @@ module _ (bad : Bool) (d : List ℕ) {S B : Type 0} (hold : B → S) where
     again s = give (Again s)
 
     abbrev pub roundOn : Open → Reader (Next S (S × Open))
-    roundOn o = stands.either bad d w o (λ p. c p >>= again) (give (Done (hold b, o)))
+    roundOn o = stands.eitherElement bad d w o (λ p. c p >>= again) (give (Done (hold b, o)))
 
     read : (r : Result S) → bind (bind r again) (onward K ending) ≡ bind r K
     read (Is s m) = refl
@@ -68,8 +68,9 @@ module _ (bad : Bool) (d : List ℕ) {S B : Type 0} (hold : B → S) where
     -- `turnOn` is what the rule does where it is known what stands there
     pub turn-is : (turnOn : Open → Reader (Next B B)) → ((p n : ℕ) → turnOn (start p) n ≡ due bad d w (start p) k n)
         → ((p n : ℕ) → turnOn (shut p) n ≡ Is (Done b) n) → (n : ℕ)
-        → bind (bind (within bad d around n) roundOn) (onward K ending) ≡ bind (bind (within bad d around n) turnOn) (onward L holding)
-    turn-is turnOn i j n = by (within bad d around n) where
+        → bind (bind (withinElement bad d around n) roundOn) (onward K ending)
+        ≡ bind (bind (withinElement bad d around n) turnOn) (onward L holding)
+    turn-is turnOn i j n = by (withinElement bad d around n) where
       by : (r : Result Open) → bind (bind r roundOn) (onward K ending) ≡ bind (bind r turnOn) (onward L holding)
       by (Is (start p) m) = rw (i p m) (on-start p m (isNamed d (p + 1) m w))
       by (Is (shut p) m) = rw (j p m)

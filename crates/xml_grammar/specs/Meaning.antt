@@ -8,7 +8,7 @@ use lib.Dec.{eqb}
 use Rattle.layout.specs.rule.Layout.{mostRows, mostLines}
 use Rattle.tags.specs.declared.Held.{Held}
 use Rattle.tokens.specs.rule.Gap.{fault}
-use Rattle.survey.specs.rule.Survey.{Figure, Amount, Text, Content, Block, single, multiple, quantity, character, logical}
+use Rattle.survey.specs.rule.Survey.{Figure, Amount, KeptText, Content, Block, single, multiple, quantity, character, logical}
 use Rattle.survey.specs.rule.Survey as survey
 use Rattle.survey.specs.rule.Table.{linesAll}
 use Rattle.reading.specs.rule.Result.{Reader, _>>=_, give}
@@ -20,7 +20,7 @@ use Rattle.reading.specs.rule.Variable.{Sort, Single, Multiple, Quantity, Chara
 use Rattle.xml_reading.specs.rule.Word.{ONE-ONE, ONE-TWO}
 use Rattle.xml_reading.specs.rule.Element.{figureOf, amountIn, givenAt}
 use Rattle.xml_reading.specs.rule.Block.{pairCharges}
-use Rattle.xml_reading.specs.rule.Role.{Entry, variablesOf, typeAt, useAt, useWrong, hasServed, filterOf}
+use Rattle.xml_reading.specs.rule.Role.{XmlEntry, variablesOf, typeAt, useAt, useWrong, hasServed, filterOf}
 use Rattle.xml_reading.specs.rule.Variable.{Manner}
 use Rattle.xml_reading.specs.rule.Sheet.{saysWord}
 use Rattle.xml_grammar.specs.Grammar.{Element, Sss, Date, Time, Origin, User, Survey, SurveyName, SurveyVersion, Title, Record}
@@ -31,19 +31,20 @@ use Rattle.xml_grammar.specs.Reader.{Meaning, Meanings}
 -- ---- what was read so far: of the file, and of the variable that is open
 pub record State : Type 0 where
   pub manner : Manner
-  pub entries : List Entry
+  pub entries : List XmlEntry
   pub ident : Figure
   pub sort : Sort
   pub usage : ℕ
-  pub name : Text
-  pub label : Text
+  pub name : KeptText
+  pub label : KeptText
   pub place : statement.Position
   pub filter : ℕ
   pub spread : Option survey.Spread
   pub block : Block
   pub size : Figure
 
-abbrev pub state : Manner → List Entry → Figure → Sort → ℕ → Text → Text → statement.Position → ℕ → Option survey.Spread → Block → Figure
+abbrev pub state : Manner → List XmlEntry → Figure → Sort → ℕ → KeptText → KeptText → statement.Position → ℕ → Option survey.Spread → Block
+    → Figure
     → State
 state m l i k u n b p f s v z = record {
   manner = m;
@@ -63,25 +64,25 @@ state m l i k u n b p f s v z = record {
 abbrev pub noFigure : Figure
 noFigure = record { place = 0; end = 0; digits = 0; value = 0 }
 
-abbrev pub noName : Text
+abbrev pub noName : KeptText
 noName = record { place = 0; length = 0 }
 
 abbrev pub noPlace : statement.Position
 noPlace = record { start = noFigure; finish = none }
 
 -- a variable of which the start tag was read
-abbrev pub begun : Manner → List Entry → Figure → Sort → ℕ → State
+abbrev pub begun : Manner → List XmlEntry → Figure → Sort → ℕ → State
 begun m l i k u = state m l i k u noName noName noPlace 0 none (unlisted none) noFigure
 
 -- between variables
-abbrev pub between : Manner → List Entry → State
+abbrev pub between : Manner → List XmlEntry → State
 between m l = begun m l noFigure Logical 0
 
-abbrev pub withName : State → Text → State
+abbrev pub withName : State → KeptText → State
 withName s x = state (s .manner) (s .entries) (s .ident) (s .sort) (s .usage) x (s .label) (s .place) (s .filter) (s .spread) (s .block)
     (s .size)
 
-abbrev pub withLabel : State → Text → State
+abbrev pub withLabel : State → KeptText → State
 withLabel s x = state (s .manner) (s .entries) (s .ident) (s .sort) (s .usage) (s .name) x (s .place) (s .filter) (s .spread) (s .block)
     (s .size)
 
@@ -151,11 +152,11 @@ abbrev pub mute : Meaning State
 mute = record { charges = λ s h t. []; also = λ s h t. []; said = λ s h t. give s; closed = give }
 
 -- says something, with no charge but those of its form
-abbrev pub tells : (State → Text → Reader State) → Meaning State
+abbrev pub tells : (State → KeptText → Reader State) → Meaning State
 tells f = record { charges = λ s h t. []; also = λ s h t. []; said = λ s h t. f s t; closed = give }
 
 -- is charged, and says something
-abbrev pub judges : (State → Held → Text → List Charge) → (State → Held → Text → State) → Meaning State
+abbrev pub judges : (State → Held → KeptText → List Charge) → (State → Held → KeptText → State) → Meaning State
 judges c f = record { charges = c; also = λ s h t. []; said = λ s h t. give (f s h t); closed = give }
 
 module _ (d : List ℕ) where
@@ -173,11 +174,11 @@ module _ (d : List ℕ) where
   amountB h = amountIn d (h .b) (h .be)
 
   -- the row, plus one, that a filter names
-  abbrev pub filterIn : State → Text → ℕ
+  abbrev pub filterIn : State → KeptText → ℕ
   filterIn s t = filterOf (s .manner .latin) (s .manner .standard) d (s .entries) (s .name) (s .usage) t
 
   -- ---- what each element says: what is known behind it, or behind its start tag where it holds others
-  abbrev pub saysOf : Element → State → Held → Text → State
+  abbrev pub saysOf : Element → State → Held → KeptText → State
   saysOf Sss s h t =
       between (record {
         old = saysWord d (h .a) (h .ae) ONE-ONE;
@@ -207,7 +208,7 @@ module _ (d : List ℕ) where
   saysOf Value s h t = withBlock s (withLine (s .block) (record { value = amountA h; text = t; special = false }))
 
   -- what is charged behind all else in an element: names and filters
-  abbrev pub behindOf : Element → State → Text → List Charge
+  abbrev pub behindOf : Element → State → KeptText → List Charge
   behindOf Sss s t = []
   behindOf Date s t = []
   behindOf Time s t = []
@@ -250,11 +251,11 @@ module _ (d : List ℕ) where
   }
 
   -- "A later variable with the name of a logical that has served as a filter is 52 at its name's text"
-  abbrev pub named : State → Text → Reader State
+  abbrev pub named : State → KeptText → Reader State
   named s t = judged (behindOf Name s t) (withName s t)
 
   -- "exactly one has the decoded text as its name, and that is an earlier logical; else .. 52 at the text's place"
-  abbrev pub filtered : State → Text → Reader State
+  abbrev pub filtered : State → KeptText → Reader State
   filtered s t = judged (behindOf Filter s t) (withFilter s (filterIn s t))
 
   abbrev pub meaningOf : Element → Meaning State

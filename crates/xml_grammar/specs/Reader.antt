@@ -1,5 +1,6 @@
 -- THE READER THAT KNOWS NOTHING BUT THE TABLE (Grammar.antt) and what each element says (`Meaning`). A state is handed from element to
--- element. Where the grammar is left, `due`, `over` and `within` of crate `xml_reading` have the number: 51 for a start tag that may not
+-- element. Where the grammar is left, `due`, `over` and `withinElement` of crate `xml_reading` have the number: 51 for a start tag that may
+-- not
 -- stand there, 2 for an end tag or text, 50 where XML is broken. Above it: Meaning.antt, and that the rule is this reader.
 use mathlib.Core.Bool.{Bool, true, false, cond}
 use mathlib.Core.List.{List, [], _∷_, _++_}
@@ -12,11 +13,11 @@ use Rattle.tags.specs.declared.Held.{Held}
 use Rattle.tags.specs.declared.Tag.{Tag}
 use Rattle.tags.specs.rule.Tag.{tagOf}
 use Rattle.tokens.specs.rule.Gap.{fault}
-use Rattle.survey.specs.rule.Survey.{Text}
+use Rattle.survey.specs.rule.Survey.{KeptText}
 use Rattle.reading.specs.rule.Result.{Result, Is, Not, Reader, _>>=_, _>>_, give, repeat, bind}
 use Rattle.reading.specs.rule.Least.{Charge, judged}
 use Rattle.reading.specs.rule.Variable.{Sort}
-use Rattle.xml_reading.specs.rule.Open.{Open, within, due, over, unknownAt, onTag, enter}
+use Rattle.xml_reading.specs.rule.Open.{Open, withinElement, due, over, unknownAt, onTag, enter}
 use Rattle.xml_reading.specs.rule.Open as stands
 use Rattle.xml_reading.specs.rule.Element.{Body, body}
 use Rattle.xml_reading.specs.rule.Block.{rich}
@@ -53,10 +54,10 @@ neededBy (later w f) = 0
 -- what an element says, in a state S that is handed from element to element
 pub record Meaning (S : Type 0) : Type 0 where
   -- what is charged once it was read, by its attributes and its text: before and behind attributes that aren't known
-  pub charges : S → Held → Text → List Charge
-  pub also : S → Held → Text → List Charge
+  pub charges : S → Held → KeptText → List Charge
+  pub also : S → Held → KeptText → List Charge
   -- the state behind it, or behind its start tag where it holds others; and behind its end tag then
-  pub said : S → Held → Text → Reader S
+  pub said : S → Held → KeptText → Reader S
   pub closed : S → Reader S
 
 pub record Meanings (S : Type 0) : Type 0 where
@@ -73,7 +74,7 @@ pub record Steps (S : Type 0) : Type 0 where
   pub go : S → Reader S
   pub at : S → Open → Reader S
 
-abbrev pub noText : Text
+abbrev pub noText : KeptText
 noText = record { place = 0; length = 0 }
 
 module _ (bad : Bool) (d : List ℕ) where
@@ -92,7 +93,7 @@ module _ (bad : Bool) (d : List ℕ) where
     module _ (child : Element → S → ℕ → Reader S) (around : List ℕ) where
       -- where it is looked first
       abbrev pub looking : (S → Open → Reader S) → Steps S
-      looking f = record { go = λ s. within bad d around >>= f s; at = f }
+      looking f = record { go = λ s. withinElement bad d around >>= f s; at = f }
 
       -- x: it stands there, or "2 .. 51" (`due`)
       abbrev pub stepOnce : Element → Steps S → S → Open → Reader S
@@ -100,18 +101,18 @@ module _ (bad : Bool) (d : List ℕ) where
 
       -- x?: it stands there, or what follows does
       abbrev pub stepPerhaps : Element → Steps S → S → Open → Reader S
-      stepPerhaps x r s o = stands.either bad d (ruleOf x .word) o (λ p. child x s p >>= r .go) (r .at s o)
+      stepPerhaps x r s o = stands.eitherElement bad d (ruleOf x .word) o (λ p. child x s p >>= r .go) (r .at s o)
 
       -- (x | y)
       abbrev pub stepEither : Element → Element → Steps S → S → Open → Reader S
       stepEither x y r s o =
-          stands.either bad d (ruleOf x .word) o (child x s) (due bad d (ruleOf y .word) o (child y s)) >>= r .go
+          stands.eitherElement bad d (ruleOf x .word) o (child x s) (due bad d (ruleOf y .word) o (child y s)) >>= r .go
 
       -- x*
       abbrev pub round : Element → S → Reader (Next S (S × Open))
       round x s =
-          within bad d around >>= λ o.
-          stands.either bad d (ruleOf x .word) o (λ p. child x s p >>= λ s. give (Again s)) (give (Done (s, o)))
+          withinElement bad d around >>= λ o.
+          stands.eitherElement bad d (ruleOf x .word) o (λ p. child x s p >>= λ s. give (Again s)) (give (Done (s, o)))
 
       abbrev pub rounds : Element → Steps S → S → Reader S
       rounds x r s = repeat (M .turns x) (round x) s >>= λ t. r .at (t .0) (t .1)
@@ -124,7 +125,7 @@ module _ (bad : Bool) (d : List ℕ) where
       step (any x) r =
           record {
             go = rounds x r;
-            at = λ s o. stands.either bad d (ruleOf x .word) o (λ p. child x s p >>= rounds x r) (r .at s o);
+            at = λ s o. stands.eitherElement bad d (ruleOf x .word) o (λ p. child x s p >>= rounds x r) (r .at s o);
           }
 
       -- behind the last part stands the end tag
@@ -135,7 +136,7 @@ module _ (bad : Bool) (d : List ℕ) where
     -- ---- an element, behind its start tag
     module _ (x : Element) (s : S) (h : Held) where
       -- judged once read
-      abbrev pub judging : Text → List Charge → Reader S
+      abbrev pub judging : KeptText → List Charge → Reader S
       judging t l =
           judged (M .of x .charges s h t ++ unknownAt (h .unknown) ∷ (M .of x .also s h t ++ l)) (tt {0}) >> M .of x .said s h t
 

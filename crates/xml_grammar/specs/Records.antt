@@ -8,10 +8,10 @@ use Rattle.scan.specs.rule.Loop.{Next, Again, Done}
 use Rattle.tags.specs.rule.Tag.{tagOf}
 use Rattle.reading.specs.rule.Result.{Result, Is, Not, Reader, _>>=_, _>>_, give, repeat, bind}
 use Rattle.xml_reading.specs.rule.Word.{RECORD, VARIABLE, IDENT, HREF}
-use Rattle.xml_reading.specs.rule.Open.{Open, within, due, unknownAt, enter}
-use Rattle.xml_reading.specs.rule.Role.{Entry}
+use Rattle.xml_reading.specs.rule.Open.{Open, withinElement, due, unknownAt, enter}
+use Rattle.xml_reading.specs.rule.Role.{XmlEntry}
 use Rattle.xml_reading.specs.rule.Variable.{Manner, variable}
-use Rattle.xml_reading.specs.rule.Sheet.{record-tag, onOpen, another, variables}
+use Rattle.xml_reading.specs.rule.Sheet.{record-tag, onOpen, anotherElement, variables}
 use Rattle.xml_grammar.specs.Grammar.{Element, Record, Variable, once, any}
 use Rattle.xml_grammar.specs.Reader.{steps, round, element}
 use Rattle.xml_grammar.specs.Meaning.{State, between, meanings}
@@ -23,23 +23,23 @@ module _ (bad : Bool) (d : List ℕ) (f : ℕ) (m : Manner) where
   abbrev child : Element → State → ℕ → Reader State
   child = element bad d (meanings d) (suc (suc (suc f)))
 
-  abbrev hold : List Entry → State
+  abbrev hold : List XmlEntry → State
   hold l = between m l
 
-  abbrev held : List Entry → Reader State
+  abbrev held : List XmlEntry → Reader State
   held l = give (hold l)
 
-  handed : (l : List Entry) (K : State → Reader State) (L : List Entry → Reader State) (r : Result Entry)
-      → ((c : List Entry) (n : ℕ) → K (hold c) n ≡ L c n)
+  handed : (l : List XmlEntry) (K : State → Reader State) (L : List XmlEntry → Reader State) (r : Result XmlEntry)
+      → ((c : List XmlEntry) (n : ℕ) → K (hold c) n ≡ L c n)
       → bind (bind r λ v. give (hold (l ++ v ∷ []))) K ≡ bind (bind r λ v. give (Again (l ++ v ∷ []))) (onward L held)
   handed l K L (Is v n) e = e (l ++ v ∷ []) n
   handed l K L (Not x) e = refl
 
-  a-round : (l : List Entry) (n : ℕ) (K : State → Reader State) (L : List Entry → Reader State)
-      → ((c : List Entry) (n : ℕ) → K (hold c) n ≡ L c n)
+  a-round : (l : List XmlEntry) (n : ℕ) (K : State → Reader State) (L : List XmlEntry → Reader State)
+      → ((c : List XmlEntry) (n : ℕ) → K (hold c) n ≡ L c n)
       → bind (round bad d (meanings d) child RECORD Variable (hold l) n) (onward K (ending bad d hold))
-      ≡ bind (another bad d m l n) (onward L held)
-  unfolding another
+      ≡ bind (anotherElement bad d m l n) (onward L held)
+  unfolding anotherElement
   a-round l n K L e =
       turn-is bad d hold VARIABLE RECORD l (child Variable (hold l)) (λ p. variable bad d m l p >>= λ v. give (Again (l ++ v ∷ []))) K L
       (λ p n. rw (variable-is bad d f m l p n) (handed l K L (variable bad d m l p n) e)) (onOpen bad d m l) (λ p n. refl) (λ p n. refl) n
@@ -47,13 +47,13 @@ module _ (bad : Bool) (d : List ℕ) (f : ℕ) (m : Manner) where
   abbrev loop : State → Reader State
   loop t n = bind (repeat (suc mostRows) (round bad d (meanings d) child RECORD Variable) t n) (ending bad d hold)
 
-  loop-is : (l : List Entry) (n : ℕ) → loop (hold l) n ≡ bind (repeat (suc mostRows) (another bad d m) l n) held
-  loop-is l n = rounds-are bad d hold (round bad d (meanings d) child RECORD Variable) (another bad d m) a-round (suc mostRows) l n
+  loop-is : (l : List XmlEntry) (n : ℕ) → loop (hold l) n ≡ bind (repeat (suc mostRows) (anotherElement bad d m) l n) held
+  loop-is l n = rounds-are bad d hold (round bad d (meanings d) child RECORD Variable) (anotherElement bad d m) a-round (suc mostRows) l n
 
-  abbrev rest : Entry → Reader (List Entry)
-  rest v = repeat (suc mostRows) (another bad d m) (v ∷ [])
+  abbrev rest : XmlEntry → Reader (List XmlEntry)
+  rest v = repeat (suc mostRows) (anotherElement bad d m) (v ∷ [])
 
-  first-then : (r : Result Entry) → bind (bind r λ v. give (hold (v ∷ []))) loop ≡ bind r λ v n. bind (rest v n) held
+  first-then : (r : Result XmlEntry) → bind (bind r λ v. give (hold (v ∷ []))) loop ≡ bind r λ v n. bind (rest v n) held
   first-then (Is v n) = loop-is (v ∷ []) n
   first-then (Not x) = refl
 
@@ -63,8 +63,8 @@ module _ (bad : Bool) (d : List ℕ) (f : ℕ) (m : Manner) where
   variables-are : (n : ℕ)
       → steps bad d (meanings d) child RECORD (once Variable ∷ any Variable ∷ []) .go (hold []) n ≡ bind (variables bad d m n) held
   unfolding steps variables
-  variables-are n = by (within bad d RECORD n) where
-    back : (r : Result Entry) → bind r (λ v n. bind (rest v n) held) ≡ bind (bind r rest) held
+  variables-are n = by (withinElement bad d RECORD n) where
+    back : (r : Result XmlEntry) → bind r (λ v n. bind (rest v n) held) ≡ bind (bind r rest) held
     back (Is v n) = refl
     back (Not x) = refl
 

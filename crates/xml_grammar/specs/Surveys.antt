@@ -5,16 +5,16 @@ use mathlib.Core.List.{List, [], _∷_, _++_}
 use Prim.Native.Nat.{ℕ, suc, _+_}
 use Rattle.tags.specs.rule.Tag.{tagOf, isNamed}
 use Rattle.pairs.specs.rule.Stand.{bareOf}
-use Rattle.survey.specs.rule.Survey.{Text}
+use Rattle.survey.specs.rule.Survey.{KeptText}
 use Rattle.reading.specs.rule.Result.{Result, Is, Not, Reader, _>>=_, _>>_, give, bind}
 use Rattle.xml_reading.specs.rule.Word.{SSS, DATE, TIME, ORIGIN, USER, SURVEY, NAME, VERSION, TITLE, RECORD, OPTIONS, LANGUAGES}
-use Rattle.xml_reading.specs.rule.Open.{Open, start, shut, within, due, over, unknownAt, enter}
+use Rattle.xml_reading.specs.rule.Open.{Open, start, shut, withinElement, due, over, unknownAt, enter}
 use Rattle.xml_reading.specs.rule.Open as stands
 use Rattle.xml_reading.specs.rule.Element.{text}
 use Rattle.xml_reading.specs.rule.Block.{rich}
-use Rattle.xml_reading.specs.rule.Role.{Entry}
+use Rattle.xml_reading.specs.rule.Role.{XmlEntry}
 use Rattle.xml_reading.specs.rule.Variable.{Manner}
-use Rattle.xml_reading.specs.rule.Sheet.{manner, perhaps, heading, survey, titles, record-tag, variables}
+use Rattle.xml_reading.specs.rule.Sheet.{manner, perhapsElement, heading, survey, titles, record-tag, variables}
 use Rattle.xml_grammar.specs.Grammar.{Element, Sss, Date, Time, Origin, User, Survey, SurveyName, SurveyVersion, Title, Record}
 use Rattle.xml_grammar.specs.Grammar.{Part, once, newly}
 use Rattle.xml_grammar.specs.Grammar as grammar
@@ -32,23 +32,24 @@ module _ (bad : Bool) (d : List ℕ) (f : ℕ) where
   -- a text that may be left out and says nothing here: the state stays
   perhaps-is : (around w : List ℕ) (k : ℕ) (s : State) (c : ℕ → Reader State) (at : State → Open → Reader State)
       → ((p n : ℕ) → c p n ≡ bind (text bad d w k p n) λ t. give s) → (o : Open) (n : ℕ)
-      → stands.either bad d w o (λ p. c p >>= λ t. within bad d around >>= at t) (at s o) n ≡ bind (perhaps bad d around w k o n) (at s)
-  unfolding perhaps
+      → stands.eitherElement bad d w o (λ p. c p >>= λ t. withinElement bad d around >>= at t) (at s o) n
+      ≡ bind (perhapsElement bad d around w k o n) (at s)
+  unfolding perhapsElement
   perhaps-is around w k s c at e (start p) n = by (isNamed d (p + 1) n w) where
-    read : (r : Result Text)
-        → bind (bind r λ t. give s) (λ t. within bad d around >>= at t) ≡ bind (bind r λ t. within bad d around) (at s)
+    read : (r : Result KeptText)
+        → bind (bind r λ t. give s) (λ t. withinElement bad d around >>= at t) ≡ bind (bind r λ t. withinElement bad d around) (at s)
     read (Is t m) = refl
     read (Not x) = refl
 
-    by : (x : Bool) → cond x (bind (c p n) λ t. within bad d around >>= at t) (at s (start p) n)
-        ≡ bind (cond x (bind (text bad d w k p n) λ t. within bad d around) (Is (start p) n)) (at s)
+    by : (x : Bool) → cond x (bind (c p n) λ t. withinElement bad d around >>= at t) (at s (start p) n)
+        ≡ bind (cond x (bind (text bad d w k p n) λ t. withinElement bad d around) (Is (start p) n)) (at s)
     by true = rw (e p n) (read (text bad d w k p n))
     by false = refl
   perhaps-is around w k s c at e (shut p) n = refl
 
   -- behind the last part, the end tag of an element
   abbrev pub ended : List ℕ → State → Reader State
-  ended w s = within bad d w >>= λ o. over bad d o >> give s
+  ended w s = withinElement bad d w >>= λ o. over bad d o >> give s
 
   -- ---- survey
   abbrev child : Element → State → ℕ → Reader State
@@ -75,7 +76,7 @@ module _ (bad : Bool) (d : List ℕ) (f : ℕ) where
     so old = between (by old languages standard latin) []
 
     abbrev title-read : Open → Reader Open
-    title-read o = perhaps bad d SURVEY TITLE (rich languages) o
+    title-read o = perhapsElement bad d SURVEY TITLE (rich languages) o
 
     title-part : (old : Bool) (o : Open) (n : ℕ) → inSurvey titled .at (so old) o n ≡ bind (title-read o n) (inSurvey last .at (so old))
     unfolding steps
@@ -84,17 +85,18 @@ module _ (bad : Bool) (d : List ℕ) (f : ℕ) where
         (λ p n. title-is bad d (suc (suc (suc f))) (so old) p n) o n
 
     version-part : (o : Open) (n : ℕ)
-        → inSurvey versioned .at (so false) o n ≡ bind (perhaps bad d SURVEY VERSION 0 o n) (inSurvey titled .at (so false))
+        → inSurvey versioned .at (so false) o n ≡ bind (perhapsElement bad d SURVEY VERSION 0 o n) (inSurvey titled .at (so false))
     unfolding steps
     version-part o n =
         perhaps-is SURVEY VERSION 0 (so false) (child SurveyVersion (so false)) (inSurvey titled .at)
         (λ p n. survey-version-is bad d (suc (suc (suc f))) (so false) p n) o n
 
     named-then : (r : Result Open) → bind r (inSurvey versioned .at (so false))
-        ≡ bind (bind (bind r (perhaps bad d SURVEY VERSION 0)) title-read) (inSurvey last .at (so false))
+        ≡ bind (bind (bind r (perhapsElement bad d SURVEY VERSION 0)) title-read) (inSurvey last .at (so false))
     named-then (Is o n) =
         version-part o n
-        ∙ map-behind (perhaps bad d SURVEY VERSION 0 o n) title-read (inSurvey titled .at (so false)) (inSurvey last .at (so false)) λ o n.
+        ∙ map-behind (perhapsElement bad d SURVEY VERSION 0 o n) title-read (inSurvey titled .at (so false)) (inSurvey last .at (so false))
+        λ o n.
         title-part false o n
     named-then (Not x) = refl
 
@@ -102,14 +104,16 @@ module _ (bad : Bool) (d : List ℕ) (f : ℕ) where
         ≡ bind (titles bad d (by old languages standard latin) n) (inSurvey last .at (so old))
     unfolding steps titles
     titles-part true n =
-        map-behind (within bad d SURVEY n) title-read (inSurvey titled .at (so true)) (inSurvey last .at (so true)) λ o n. title-part true o
+        map-behind (withinElement bad d SURVEY n) title-read (inSurvey titled .at (so true)) (inSurvey last .at (so true)) λ o n. title-part
+        true o
         n
     titles-part false n =
-        map-behind (within bad d SURVEY n) (λ o. (perhaps bad d SURVEY NAME 0 o >>= perhaps bad d SURVEY VERSION 0) >>= title-read)
+        map-behind (withinElement bad d SURVEY n)
+        (λ o. (perhapsElement bad d SURVEY NAME 0 o >>= perhapsElement bad d SURVEY VERSION 0) >>= title-read)
         (inSurvey (newly SurveyName ∷ versioned) .at (so false)) (inSurvey last .at (so false)) λ o n.
         perhaps-is SURVEY NAME 0 (so false) (child SurveyName (so false)) (inSurvey versioned .at)
         (λ p n. survey-name-is bad d (suc (suc (suc f))) (so false) p n) o n
-        ∙ named-then (perhaps bad d SURVEY NAME 0 o n)
+        ∙ named-then (perhapsElement bad d SURVEY NAME 0 o n)
 
   module _ (m : Manner) where
     abbrev pub recorded : Reader State
@@ -120,7 +124,7 @@ module _ (bad : Bool) (d : List ℕ) (f : ℕ) where
 
     record-then : (r : Result Unit) → bind (bind r λ u. variables bad d m >>= λ l. give (between m l)) (ended SURVEY) ≡ bind r λ u. recorded
     record-then (Is u n) = listed (variables bad d m n) where
-      listed : (r : Result (List Entry)) → bind (bind r λ l. give (between m l)) (ended SURVEY) ≡ bind r λ l. ended SURVEY (between m l)
+      listed : (r : Result (List XmlEntry)) → bind (bind r λ l. give (between m l)) (ended SURVEY) ≡ bind r λ l. ended SURVEY (between m l)
       listed (Is l n) = refl
       listed (Not x) = refl
     record-then (Not x) = refl
@@ -167,13 +171,13 @@ module _ (bad : Bool) (d : List ℕ) (f : ℕ) where
       → inSss (grammar.perhaps Date ∷ times) .go s n ≡ bind (heading bad d n) (inSss surveys .at s)
   unfolding steps heading
   heading-part s n =
-      map-behind (within bad d SSS n) _ (inSss (grammar.perhaps Date ∷ times) .at s) (inSss surveys .at s) λ o n.
+      map-behind (withinElement bad d SSS n) _ (inSss (grammar.perhaps Date ∷ times) .at s) (inSss surveys .at s) λ o n.
       perhaps-is SSS DATE 0 s (above Date s) (inSss times .at) (λ p n. date-is bad d (suc (suc (suc (suc f)))) s p n) o n
-      ∙ map-behind (perhaps bad d SSS DATE 0 o n) _ (inSss times .at s) (inSss surveys .at s) λ o n.
+      ∙ map-behind (perhapsElement bad d SSS DATE 0 o n) _ (inSss times .at s) (inSss surveys .at s) λ o n.
       perhaps-is SSS TIME 0 s (above Time s) (inSss origins .at) (λ p n. time-is bad d (suc (suc (suc (suc f)))) s p n) o n
-      ∙ map-behind (perhaps bad d SSS TIME 0 o n) _ (inSss origins .at s) (inSss surveys .at s) λ o n.
+      ∙ map-behind (perhapsElement bad d SSS TIME 0 o n) _ (inSss origins .at s) (inSss surveys .at s) λ o n.
       perhaps-is SSS ORIGIN 0 s (above Origin s) (inSss users .at) (λ p n. origin-is bad d (suc (suc (suc (suc f)))) s p n) o n
-      ∙ map-behind (perhaps bad d SSS ORIGIN 0 o n) _ (inSss users .at s) (inSss surveys .at s) λ o n.
+      ∙ map-behind (perhapsElement bad d SSS ORIGIN 0 o n) _ (inSss users .at s) (inSss surveys .at s) λ o n.
       perhaps-is SSS USER 0 s (above User s) (inSss surveys .at) (λ p n. user-is bad d (suc (suc (suc (suc f)))) s p n) o n
 
   -- before the version is known

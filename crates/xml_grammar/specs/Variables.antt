@@ -7,7 +7,7 @@ use Prim.Native.Nat.{ℕ, suc, _+_}
 use lib.Dec.{eqb}
 use Rattle.tags.specs.declared.Held.{Held}
 use Rattle.tags.specs.rule.Tag.{tagOf, isNamed}
-use Rattle.survey.specs.rule.Survey.{Figure, Text, Content, Block, single, multiple, quantity, character, logical}
+use Rattle.survey.specs.rule.Survey.{Figure, KeptText, Content, Block, single, multiple, quantity, character, logical}
 use Rattle.survey.specs.rule.Survey as survey
 use Rattle.reading.specs.rule.Result.{Result, Is, Not, Reader, _>>=_, _>>_, give, bind}
 use Rattle.survey.specs.rule.Table.{linesAll}
@@ -16,11 +16,11 @@ use Rattle.reading.specs.rule.Values.{unlisted}
 use Rattle.reading.specs.rule.Variable.{Sort, Single, Multiple, Quantity, Character, Logical, room, variableOf}
 use Rattle.reading.specs.rule.Variable as sort
 use Rattle.xml_reading.specs.rule.Word.{VARIABLE, NAME, LABEL, POSITION, FILTER, SPREAD, VALUES, SIZE, IDENT, TYPE, USE}
-use Rattle.xml_reading.specs.rule.Open.{Open, start, shut, within, due, over}
+use Rattle.xml_reading.specs.rule.Open.{Open, start, shut, withinElement, due, over}
 use Rattle.xml_reading.specs.rule.Open as stands
 use Rattle.xml_reading.specs.rule.Element.{text, position, spread, size}
 use Rattle.xml_reading.specs.rule.Block.{rich, values}
-use Rattle.xml_reading.specs.rule.Role.{Entry, Title, variablesOf, title, naming, filter}
+use Rattle.xml_reading.specs.rule.Role.{XmlEntry, Title, variablesOf, title, naming, filter}
 use Rattle.xml_reading.specs.rule.Variable.{Manner, Then, with, filtered, spreading, content, variable}
 use Rattle.xml_grammar.specs.Grammar.{Element, Variable, Name, Label, Position, Filter, Spread, Values, Size}
 use Rattle.xml_grammar.specs.Grammar.{Part, once, newly, typedOf}
@@ -38,7 +38,7 @@ module _ (bad : Bool) (d : List ℕ) (f : ℕ) where
   child = element bad d (meanings d) (suc (suc f))
 
   abbrev inside : Reader Open
-  inside = within bad d VARIABLE
+  inside = withinElement bad d VARIABLE
 
   -- behind the end tag: the width is judged, the variable is among the entries
   abbrev closed : State → Reader State
@@ -58,7 +58,7 @@ module _ (bad : Bool) (d : List ℕ) (f : ℕ) where
   rest-go Logical s n = refl
 
   -- a variable whose start tag, name, label, position and filter were read
-  abbrev told : Manner → List Entry → Figure → Sort → ℕ → Text → Text → statement.Position → ℕ → State
+  abbrev told : Manner → List XmlEntry → Figure → Sort → ℕ → KeptText → KeptText → statement.Position → ℕ → State
   told m l i k u name label p x = withFilter (withPlace (withLabel (withName (begun m l i k u) name) label) p) x
 
   -- what is read behind the last part that a type asks for
@@ -129,7 +129,7 @@ module _ (bad : Bool) (d : List ℕ) (f : ℕ) where
       ended
       (λ b. ended (con b)) closed fin (λ p m. values-is bad d f s p m) (λ b m. ended-as (withBlock s b) (con b) closed fin (e b) m) o n
 
-  module _ (m : Manner) (l : List Entry) (i : Figure) (u : ℕ) (name label : Text) (p : statement.Position) (x : ℕ) where
+  module _ (m : Manner) (l : List XmlEntry) (i : Figure) (u : ℕ) (name label : KeptText) (p : statement.Position) (x : ℕ) where
     -- the width, and the variable among the entries
     abbrev added : survey.Variable → Reader State
     added v = give (between m (l ++ record { variable = v; usage = u; filter = x } ∷ []))
@@ -187,10 +187,10 @@ module _ (bad : Bool) (d : List ℕ) (f : ℕ) where
     rest-is Logical o n = over-as (so Logical) logical closed fin (λ n. refl) o n
 
     -- the rule makes the entry first
-    abbrev made : Content → Reader Entry
+    abbrev made : Content → Reader XmlEntry
     made c = sort.held (variableOf i name label p c) >>= λ v. give (record { variable = v; usage = u; filter = x })
 
-    abbrev listed : Entry → Reader State
+    abbrev listed : XmlEntry → Reader State
     listed v = give (between m (l ++ v ∷ []))
 
     rest-made : (t : ℕ) (o : Open) (n : ℕ)
@@ -204,14 +204,14 @@ module _ (bad : Bool) (d : List ℕ) (f : ℕ) where
         refl)
 
   -- ---- a filter or none
-  module _ (m : Manner) (l : List Entry) (i : Figure) (t u : ℕ) (name label : Text) (p : statement.Position) where
+  module _ (m : Manner) (l : List XmlEntry) (i : Figure) (t u : ℕ) (name label : KeptText) (p : statement.Position) where
     abbrev at : ℕ → State
     at x = told m l i (sortOf t) u name label p x
 
-    abbrev then : Then ℕ → Reader Entry
+    abbrev then : Then ℕ → Reader XmlEntry
     then x = content bad d m p (linesAll (variablesOf l)) t (x .behind) >>= made m l i u name label p (x .it)
 
-    abbrev last : Entry → Reader State
+    abbrev last : XmlEntry → Reader State
     last v = give (between m (l ++ v ∷ []))
 
     abbrev on : Then ℕ → Reader State
@@ -233,11 +233,11 @@ module _ (bad : Bool) (d : List ℕ) (f : ℕ) where
 
     abbrev filterOr : Open → Reader (Then ℕ)
     filterOr o =
-        stands.either bad d FILTER o (λ q. filter bad d (m .latin) (m .standard) l name u q >>= λ x. inside >>= λ o. give (with x o))
+        stands.eitherElement bad d FILTER o (λ q. filter bad d (m .latin) (m .standard) l name u q >>= λ x. inside >>= λ o. give (with x o))
         (give (with 0 o))
 
     abbrev stepOr : Open → Reader State
-    stepOr o = stands.either bad d FILTER o (λ q. child Filter (at 0) q >>= restOf (sortOf t) .go) (restOf (sortOf t) .at (at 0) o)
+    stepOr o = stands.eitherElement bad d FILTER o (λ q. child Filter (at 0) q >>= restOf (sortOf t) .go) (restOf (sortOf t) .at (at 0) o)
 
     filter-by : (old : Bool) (o : Open) (n : ℕ)
         → bind (cond old (restOf (sortOf t) .at (at 0) o) (stepOr o) n) closed
@@ -258,8 +258,8 @@ module _ (bad : Bool) (d : List ℕ) (f : ℕ) where
         (λ o. filtered bad d m l name u o >>= then) closed last λ o n. filter-by (m .old) o n
 
   -- ---- the whole
-  module _ (m : Manner) (l : List Entry) where
-    abbrev after : Title → Reader Entry
+  module _ (m : Manner) (l : List XmlEntry) where
+    abbrev after : Title → Reader XmlEntry
     after t = do
       o ← inside
       name ← due bad d NAME o (naming bad d (m .latin) (m .standard) l)
@@ -272,7 +272,7 @@ module _ (bad : Bool) (d : List ℕ) (f : ℕ) where
       c ← content bad d m p (linesAll (variablesOf l)) (t .type) (x .behind)
       sort.held (variableOf (t .ident) name label p c) >>= λ v. give (record { variable = v; usage = t .usage; filter = x .it })
 
-    abbrev entry : Entry → Reader State
+    abbrev entry : XmlEntry → Reader State
     entry v = give (between m (l ++ v ∷ []))
 
     abbrev opened : Title → State

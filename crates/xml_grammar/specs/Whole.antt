@@ -7,17 +7,18 @@ use Prim.Native.Nat.{ℕ, _+_}
 use lib.Dec.{ltb}
 use lib.ListN.{length, take}
 use Rattle.utf.specs.rule.Cut.{firstBad}
-use Rattle.prologs.specs.rule.Told.{declarationOf, tailOf}
+use Rattle.prologs.specs.rule.Told.{declarationOf, tailFrom}
 use Rattle.prologs.specs.declared.Prolog.{Prolog}
 use Rattle.prologs.specs.declared.Prolog.the-variants as prolog
 use Rattle.reading.specs.rule.Result.{Result, Is, Not, Reader, _>>=_, _>>_, give, bind}
 use Rattle.xml_reading.specs.rule.Word.{SSS, SURVEY, RECORD}
-use Rattle.xml_reading.specs.rule.Open.{Open, within, due, over}
-use Rattle.xml_reading.specs.rule.Role.{Entry}
+use Rattle.xml_reading.specs.rule.Open.{Open, withinElement, due, over}
+use Rattle.xml_reading.specs.rule.Role.{XmlEntry}
 use Rattle.xml_reading.specs.rule.Variable.{Manner}
-use Rattle.xml_reading.specs.rule.Sheet.{Survey, root, manner, heading, survey, titles, record-tag, preface, variables, cleared, closing}
+use Rattle.xml_reading.specs.rule.Sheet.{XmlSurvey, root, manner, heading, survey, titles, record-tag, preface, variables, cleared}
+use Rattle.xml_reading.specs.rule.Sheet.{sheetClosed}
 use Rattle.xml_reading.specs.rule.Sheet.{sheet}
-use Rattle.xml_reading.specs.rule.Whole.{Outcome, Refusal, settled, sheetOf, declared, outcomeOf}
+use Rattle.xml_reading.specs.rule.Whole.{XmlOutcome, Refusal, xmlSettled, sheetOf, declared, xmlOutcome}
 use Rattle.xml_grammar.specs.Grammar.{Sss}
 use Rattle.xml_grammar.specs.Reader.{element}
 use Rattle.xml_grammar.specs.Meaning.{State, between, meanings}
@@ -31,21 +32,21 @@ module _ (bad : Bool) (d : List ℕ) where
 
   -- what may follow, and what was said
   abbrev pub tail : Reader Unit
-  tail n = cleared bad d (tailOf bad d n) n
+  tail n = cleared bad d (tailFrom bad d n) n
 
-  abbrev pub last : State → Reader Survey
+  abbrev pub last : State → Reader XmlSurvey
   last s = tail >> give (record { manner = s .manner; entries = s .entries })
 
   -- the reading by the table
-  abbrev pub sheetBy : Bool → Reader Survey
+  abbrev pub sheetBy : Bool → Reader XmlSurvey
   sheetBy latin = root bad d latin >>= λ p. element bad d (meanings d) depth Sss (unknown bad d 0 latin) p >>= last
 
   module _ (latin : Bool) where
     -- the rule, behind each of its parts
-    abbrev closed : Manner → List Entry → Reader Survey
-    closed m l = closing bad d >> give (record { manner = m; entries = l })
+    abbrev closed : Manner → List XmlEntry → Reader XmlSurvey
+    closed m l = sheetClosed bad d >> give (record { manner = m; entries = l })
 
-    abbrev rest : Manner → Reader Survey
+    abbrev rest : Manner → Reader XmlSurvey
     rest m = variables bad d m >>= closed m
 
     abbrev titling : Manner → Reader Manner
@@ -55,24 +56,24 @@ module _ (bad : Bool) (d : List ℕ) where
     fronting m = heading bad d >>= λ o. due bad d SURVEY o (survey bad d) >> titling m
 
     -- the three end tags
-    ends : (m : Manner) (l : List Entry) (n : ℕ)
+    ends : (m : Manner) (l : List XmlEntry) (n : ℕ)
         → bind (bind (ended bad d 0 SURVEY (between m l) n) (ended bad d 0 SSS)) last ≡ closed m l n
-    unfolding closing
+    unfolding sheetClosed
     ends m l n =
-        three-behind (within bad d SURVEY n) (λ o. over bad d o >> give (between m l)) (ended bad d 0 SSS) last
-        (λ o. over bad d o >> (within bad d SSS >>= λ o. over bad d o >> tail)) said λ o n.
+        three-behind (withinElement bad d SURVEY n) (λ o. over bad d o >> give (between m l)) (ended bad d 0 SSS) last
+        (λ o. over bad d o >> (withinElement bad d SSS >>= λ o. over bad d o >> tail)) said λ o n.
         three-behind (over bad d o n) (λ u. give (between m l)) (ended bad d 0 SSS) last
-        (λ u. within bad d SSS >>= λ o. over bad d o >> tail)
+        (λ u. withinElement bad d SSS >>= λ o. over bad d o >> tail)
         said λ u n.
-        both-behind (within bad d SSS n) (λ o. over bad d o >> give (between m l)) (λ o. over bad d o >> tail) last said λ o n.
+        both-behind (withinElement bad d SSS n) (λ o. over bad d o >> give (between m l)) (λ o. over bad d o >> tail) last said λ o n.
         both-behind (over bad d o n) (λ u. give (between m l)) (λ u. tail) last said λ u n. refl where
-          said : Unit {0} → Reader Survey
+          said : Unit {0} → Reader XmlSurvey
           said u = give (record { manner = m; entries = l })
 
     records : (m : Manner) (n : ℕ)
         → bind (bind (bind (variables bad d m n) λ l. ended bad d 0 SURVEY (between m l)) (ended bad d 0 SSS)) last ≡ rest m n
     records m n = by (variables bad d m n) where
-      by : (r : Result (List Entry))
+      by : (r : Result (List XmlEntry))
           → bind (bind (bind r λ l. ended bad d 0 SURVEY (between m l)) (ended bad d 0 SSS)) last ≡ bind r (closed m)
       by (Is l n) = ends m l n
       by (Not x) = refl
@@ -106,16 +107,16 @@ module _ (bad : Bool) (d : List ℕ) where
         (λ p. element bad d (meanings d) depth Sss (unknown bad d 0 latin) p >>= last) rest λ p n. rooted p n)
 
 -- ---- the outcome of a definition and a lent table of n numbers, with the sheet read by the table
-abbrev pub sheetOfBy : Bool → List ℕ → ℕ → ℕ → Outcome
+abbrev pub sheetOfBy : Bool → List ℕ → ℕ → ℕ → XmlOutcome
 sheetOfBy latin d at n =
     let q = firstBad latin d at in
-    settled latin (take q d) n (sheetBy (ltb q (length d)) (take q d) latin at)
+    xmlSettled latin (take q d) n (sheetBy (ltb q (length d)) (take q d) latin at)
 
-abbrev pub declaredBy : List ℕ → ℕ → Prolog → Outcome
+abbrev pub declaredBy : List ℕ → ℕ → Prolog → XmlOutcome
 declaredBy d n (prolog.Read latin at) = sheetOfBy latin d at n
 declaredBy d n (prolog.Fault number p) = Refusal number p
 
-abbrev pub outcomeBy : List ℕ → ℕ → Outcome
+abbrev pub outcomeBy : List ℕ → ℕ → XmlOutcome
 outcomeBy d n = cond (ltb 1048576 (length d)) (Refusal 1 0) (declaredBy d n (declarationOf d))
 
 sheet-of : (latin : Bool) (d : List ℕ) (at n : ℕ) → sheetOf latin d at n ≡ sheetOfBy latin d at n
@@ -124,8 +125,8 @@ sheet-of latin d at n =
     rw (sheet-is (ltb (firstBad latin d at) (length d)) (take (firstBad latin d at) d) latin at)
 
 -- A DEFINITION IN XML SAYS WHAT THE TABLE SAYS, and is refused as the table says
-pub outcome-is : (d : List ℕ) (n : ℕ) → outcomeOf d n ≡ outcomeBy d n
-unfolding outcomeOf
+pub outcome-is : (d : List ℕ) (n : ℕ) → xmlOutcome d n ≡ outcomeBy d n
+unfolding xmlOutcome
 outcome-is d n = sized (ltb 1048576 (length d)) where
   on : (p : Prolog) → declared d n p ≡ declaredBy d n p
   on (prolog.Read latin at) = sheet-of latin d at n

@@ -5,8 +5,8 @@ use mathlib.Core.List.{List, [], _∷_}
 use Prim.Native.Nat.{ℕ}
 use lib.Dec.{ltb}
 use Rattle.spans.specs.rule.Heard.{Heard}
-use Rattle.spans.specs.rule.Says.{wordOf}
-use Rattle.forms.specs.rule.Form.{kindOf, useOf, fitsOf}
+use Rattle.spans.specs.rule.Says.{heardWord}
+use Rattle.forms.specs.rule.Form.{formKind, useOf, fitsOf}
 use Rattle.forms.specs.rule.Form as form
 use Rattle.xml_grammar.specs.Grammar.{type, usage, option, wordsOf}
 use Rattle.xml_grammar.specs.Reader.{numberOf}
@@ -14,11 +14,12 @@ use Rattle.xml_grammar.specs.Reader.{numberOf}
 -- one of these words
 unfoldable pub isOneOf : List (List ℕ) → Heard → Bool
 isOneOf [] h = false
-isOneOf (w ∷ l) h = wordOf w h || isOneOf l h
+isOneOf (w ∷ l) h = heardWord w h || isOneOf l h
 
 pub type-words : (h : Heard) → fitsOf (numberOf type) h ≡ isOneOf (wordsOf type) h
-unfolding fitsOf kindOf isOneOf
-type-words h = by (wordOf form.single h) (wordOf form.multiple h) (wordOf form.quantity h) (wordOf form.character h) (wordOf form.logical h)
+unfolding fitsOf formKind isOneOf
+type-words h = by (heardWord form.single h) (heardWord form.multiple h) (heardWord form.quantity h) (heardWord form.character h)
+    (heardWord form.logical h)
   where
     by : (a b c d e : Bool) → ltb 0 (cond a 1 (cond b 2 (cond c 3 (cond d 4 (cond e 5 0))))) ≡ a || (b || (c || (d || (e || false))))
     by true b c d e = refl
@@ -30,7 +31,7 @@ type-words h = by (wordOf form.single h) (wordOf form.multiple h) (wordOf form.q
 
 pub use-words : (h : Heard) → fitsOf (numberOf usage) h ≡ isOneOf (wordsOf usage) h
 unfolding fitsOf useOf isOneOf
-use-words h = by (wordOf form.serial h) (wordOf form.weight h) where
+use-words h = by (heardWord form.serial h) (heardWord form.weight h) where
   by : (a b : Bool) → ltb 0 (cond a 1 (cond b 2 0)) ≡ a || (b || false)
   by true b = refl
   by false true = refl
@@ -38,7 +39,7 @@ use-words h = by (wordOf form.serial h) (wordOf form.weight h) where
 
 pub option-words : (h : Heard) → fitsOf (numberOf option) h ≡ isOneOf (wordsOf option) h
 unfolding fitsOf isOneOf
-option-words h = by (wordOf form.standardnames h) where
+option-words h = by (heardWord form.standardnames h) where
   by : (a : Bool) → a ≡ a || false
   by true = refl
   by false = refl

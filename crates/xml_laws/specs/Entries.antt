@@ -12,13 +12,14 @@ use borrow.Author.Tests.{eqb-true, eqb-false, ltb-false, leb-false, not-false}
 use Rattle.below.specs.Below.{and-left, and-right, holds-not}
 use Rattle.layout.specs.rule.Layout.{mostRows}
 use Rattle.spans.specs.rule.Heard.{Heard, heard}
-use Rattle.spans.specs.rule.Says.{wordOf}
+use Rattle.spans.specs.rule.Says.{heardWord}
 use Rattle.forms.specs.rule.Form.{useOf, serial, weight}
 use Rattle.tags.specs.declared.Held.{Held}
 use Rattle.tags.specs.declared.Tag.the-variants as tag
 use Rattle.tags.specs.rule.Tag.{tagOf, isNamed}
 use Rattle.tokens.specs.rule.Gap.{fault}
-use Rattle.survey.specs.rule.Survey.{Figure, Text, Line, Block, Spread, Content, single, multiple, quantity, character, logical, Variable}
+use Rattle.survey.specs.rule.Survey.{Figure, KeptText, Line, Block, Spread, Content, single, multiple, quantity, character, logical}
+use Rattle.survey.specs.rule.Survey.{Variable}
 use Rattle.survey.specs.rule.Width.{someOf, eachOf, finishIn, roomIn, blockIn}
 use Rattle.survey.specs.rule.Table.{typeOf, linesOf, linesAll, holds}
 use Rattle.reading.specs.rule.Result.{Result, Is, Not, Reader, bind}
@@ -28,10 +29,10 @@ use Rattle.reading.specs.rule.Variable.{identCharges, room, variableOf, held}
 use Rattle.bridge.specs.Contents.{Parts, bits, fields}
 use Rattle.bridge.specs.Lowest.{never, Clear, clear}
 use Rattle.xml_reading.specs.rule.Word.{VARIABLE, NAME, LABEL, POSITION, FILTER, SPREAD, VALUES, SIZE, IDENT, TYPE, USE}
-use Rattle.xml_reading.specs.rule.Open.{Open, start, shut, within, misplaced, either, due, over, unknownAt, onTag, entered}
+use Rattle.xml_reading.specs.rule.Open.{Open, start, shut, withinElement, misplaced, eitherElement, due, over, unknownAt, onTag, entered}
 use Rattle.xml_reading.specs.rule.Element.{figureOf, text, position, spread, size}
 use Rattle.xml_reading.specs.rule.Block.{rich, values}
-use Rattle.xml_reading.specs.rule.Role.{Entry, Title, variablesOf, typeAt, useAt, mayServe, useWrong, sameName, countNamed, filterFrom}
+use Rattle.xml_reading.specs.rule.Role.{XmlEntry, Title, variablesOf, typeAt, useAt, mayServe, useWrong, sameName, countNamed, filterFrom}
 use Rattle.xml_reading.specs.rule.Role.{filterOf, hasServed, title, naming, filter}
 use Rattle.xml_reading.specs.rule.Variable.{Manner, Then, with, inside, filtered, spreading, block, ended, content, variable}
 use Rattle.elements.proofs.Bounds.{tag-within}
@@ -69,7 +70,7 @@ module _ (bad : Bool) (d : List ℕ) where
   due-is w (shut p) k n f = never cc
 
   -- ---- the start tag
-  pub record Titled (old : Bool) (l : List Entry) (t : Title) (n : ℕ) : Type 0 where
+  pub record Titled (old : Bool) (l : List XmlEntry) (t : Title) (n : ℕ) : Type 0 where
     pub some : 1 ≤ t .ident .value
     pub digits : t .ident .digits ≤ 4
     pub fresh : someOf (λ v. eqb (v .ident .value) (t .ident .value)) (variablesOf l) ≡ false
@@ -89,14 +90,15 @@ module _ (bad : Bool) (d : List ℕ) where
 
   use-known : (v e : ℕ) → useAt d v e ≤ 2
   unfolding useAt useOf
-  use-known v e = by (eqb v 0) (wordOf serial (heard (take (e - v) (drop v d)) 0)) (wordOf weight (heard (take (e - v) (drop v d)) 0)) where
-    by : (p q r : Bool) → cond p 0 (cond q 1 (cond r 2 0)) ≤ 2
-    by true q r = omega arith
-    by false true r = omega arith
-    by false false true = omega arith
-    by false false false = omega arith
+  use-known v e = by (eqb v 0) (heardWord serial (heard (take (e - v) (drop v d)) 0)) (heardWord weight (heard (take (e - v) (drop v d)) 0))
+    where
+      by : (p q r : Bool) → cond p 0 (cond q 1 (cond r 2 0)) ≤ 2
+      by true q r = omega arith
+      by false true r = omega arith
+      by false false true = omega arith
+      by false false false = omega arith
 
-  title-charged : (l : List Entry) (x : Figure) (u c t : ℕ) (k : ℕ)
+  title-charged : (l : List XmlEntry) (x : Figure) (u c t : ℕ) (k : ℕ)
       → Clear (identCharges (variablesOf l) x ++ unknownAt k ∷ fault 52 c when useWrong l u t ∷ [])
       → (1 ≤ x .value) × (x .digits ≤ 4) × (someOf (λ v. eqb (v .ident .value) (x .value)) (variablesOf l) ≡ false) × (length l < mostRows)
       × (useWrong l u t ≡ false)
@@ -107,7 +109,7 @@ module _ (bad : Bool) (d : List ℕ) where
       some-one : (n : ℕ) → eqb n 0 ≡ false → 1 ≤ n
       some-one n e = let z = eqb-false n 0 e in omega arith
 
-  pub title-fine : (old : Bool) (l : List Entry) (p e : ℕ) {t : Title} {n : ℕ} → title bad d old l p e ≡ Is t n → Titled old l t n
+  pub title-fine : (old : Bool) (l : List XmlEntry) (p e : ℕ) {t : Title} {n : ℕ} → title bad d old l p e ≡ Is t n → Titled old l t n
   unfolding title
   title-fine old l p e {t} {n} f =
       let o = opened bad d (tagOf bad d p e IDENT TYPE (cond old [] USE) 1 4 (cond old 0 5) 2) _ t n f in
@@ -145,15 +147,15 @@ module _ (bad : Bool) (d : List ℕ) where
 
   -- ---- the filter
   -- the first logical with the name, from row i on
-  pub record Logical (i : ℕ) (l : List Entry) (m : ℕ) : Type 0 where
-    pub front : List Entry
-    pub row : Entry
-    pub rest : List Entry
+  pub record Logical (i : ℕ) (l : List XmlEntry) (m : ℕ) : Type 0 where
+    pub front : List XmlEntry
+    pub row : XmlEntry
+    pub rest : List XmlEntry
     pub is : l ≡ front ++ row ∷ rest
     pub count : m ≡ i + length front + 1
     pub typed : typeOf (row .variable .content) ≡ 5
 
-  logical-from : (f : Text → Bool) (i : ℕ) (l : List Entry) → eqb (filterFrom f i l) 0 ≡ false → Logical i l (filterFrom f i l)
+  logical-from : (f : KeptText → Bool) (i : ℕ) (l : List XmlEntry) → eqb (filterFrom f i l) 0 ≡ false → Logical i l (filterFrom f i l)
   unfolding filterFrom
   logical-from f i [] e = never cc
   logical-from f i (v ∷ l) e = by (f (v .variable .name) && eqb (typeOf (v .variable .content)) 5) refl e (λ g. logical-from f (i + 1) l g)
@@ -177,18 +179,18 @@ module _ (bad : Bool) (d : List ℕ) where
             front = v ∷ o .front;
             row = o .row;
             rest = o .rest;
-            is = ap (λ (m : List Entry). v ∷ m) (o .is);
+            is = ap (λ (m : List XmlEntry). v ∷ m) (o .is);
             count = o .count
                 ∙ omega arith;
             typed = o .typed;
           }
 
-  pub data Filter (l : List Entry) (usage : ℕ) : ℕ → Type 0 where
+  pub data Filter (l : List XmlEntry) (usage : ℕ) : ℕ → Type 0 where
     no-filter : Filter l usage 0
     one-filter : {f : ℕ} → usage ≡ 0 → Logical 0 l f → Filter l usage f
 
-  module _ (latin standard : Bool) (l : List Entry) (name : Text) (usage : ℕ) where
-    filter-named : (t : Text) → eqb (filterOf latin standard d l name usage t) 0 ≡ false
+  module _ (latin standard : Bool) (l : List XmlEntry) (name : KeptText) (usage : ℕ) where
+    filter-named : (t : KeptText) → eqb (filterOf latin standard d l name usage t) 0 ≡ false
         → Filter l usage (filterOf latin standard d l name usage t)
     unfolding filterOf
     filter-named t = by (eqb usage 0) (not (sameName latin standard d t name) && eqb (countNamed (sameName latin standard d t) l) 1) refl
@@ -207,8 +209,8 @@ module _ (bad : Bool) (d : List ℕ) where
         let j = judged-is (fault 52 (b .value .place) when eqb o 0 ∷ []) o (b .place) (b .then-is) in
         moved (λ (x y : ℕ). Filter l usage x) (j .0) (j .1) (filter-named (b .value) (clear-head (j .2)))
 
-  module _ (m : Manner) (l : List Entry) where
-    pub filtered-fine : (name : Text) (usage : ℕ) (o : Open) (e : ℕ) {x : Then ℕ} {n : ℕ} → 1 ≤ e → e ≤ length d
+  module _ (m : Manner) (l : List XmlEntry) where
+    pub filtered-fine : (name : KeptText) (usage : ℕ) (o : Open) (e : ℕ) {x : Then ℕ} {n : ℕ} → 1 ≤ e → e ≤ length d
         → filtered bad d m l name usage o e ≡ Is x n → Filter l usage (x .it) × (1 ≤ n) × (n ≤ length d)
     unfolding filtered
     filtered-fine name usage o e {x} {n} g h f = by (m .old) o f where
@@ -219,11 +221,11 @@ module _ (bad : Bool) (d : List ℕ) where
           moved (λ (x : Then ℕ) (n : ℕ). Filter l usage (x .it) × (1 ≤ n) × (n ≤ length d)) q r (no-filter, g, h)
 
       read : (p : ℕ) → bind (filter bad d (m .latin) (m .standard) l name usage p e)
-          (λ f k. bind (within bad d VARIABLE k) λ o j. Is (with f o) j) ≡ Is x n
+          (λ f k. bind (withinElement bad d VARIABLE k) λ o j. Is (with f o) j) ≡ Is x n
           → Filter l usage (x .it) × (1 ≤ n) × (n ≤ length d)
       read p f =
           let b = bound (filter bad d (m .latin) (m .standard) l name usage p e) _ x n f in
-          let c = bound (within bad d VARIABLE (b .place)) _ x n (b .then-is) in
+          let c = bound (withinElement bad d VARIABLE (b .place)) _ x n (b .then-is) in
           let q : with (b .value) (c .value) ≡ x = cc in
           let r : c .place ≡ n = cc in
           moved (λ (x : Then ℕ) (n : ℕ). Filter l usage (x .it) × (1 ≤ n) × (n ≤ length d)) q r (
@@ -234,7 +236,8 @@ module _ (bad : Bool) (d : List ℕ) where
 
       by : (old : Bool) (o : Open)
           → cond old (λ n. Is (with 0 o) n)
-          (either bad d FILTER o (λ p n. bind (filter bad d (m .latin) (m .standard) l name usage p n) λ f k. bind (within bad d VARIABLE k)
+          (eitherElement bad d FILTER o (λ p n. bind (filter bad d (m .latin) (m .standard) l name usage p n) λ f k. bind
+          (withinElement bad d VARIABLE k)
           λ o j. Is (with f o) j)
           (λ n. Is (with 0 o) n)) e ≡ Is x n
           → Filter l usage (x .it) × (1 ≤ n) × (n ≤ length d)
@@ -242,7 +245,7 @@ module _ (bad : Bool) (d : List ℕ) where
       by false (shut p) f = none-there (shut p) f
       by false (start p) f = on (isNamed d (p + 1) e FILTER) f where
         on : (q : Bool) → cond q (bind (filter bad d (m .latin) (m .standard) l name usage p e)
-            (λ f k. bind (within bad d VARIABLE k) λ o j. Is (with f o) j)) (Is (with 0 (start p)) e) ≡ Is x n
+            (λ f k. bind (withinElement bad d VARIABLE k) λ o j. Is (with f o) j)) (Is (with 0 (start p)) e) ≡ Is x n
             → Filter l usage (x .it) × (1 ≤ n) × (n ≤ length d)
         on true f = read p f
         on false f = none-there (start p) f
@@ -257,18 +260,18 @@ module _ (bad : Bool) (d : List ℕ) where
 
   ended-is : (m : Manner) (c : Content) (e : ℕ) {x : Content} {n : ℕ} → ended bad d m c e ≡ Is x n → (c ≡ x) × (n ≤ length d)
   ended-is m c e {x} {n} f =
-      let b = bound (within bad d VARIABLE e) _ x n f in
+      let b = bound (withinElement bad d VARIABLE e) _ x n f in
       let o = over-is c (b .value) (b .place) (b .then-is) in
       (o .0, rw (o .1) at (within-long bad d VARIABLE e (b .first-is) .1))
 
   -- a logical serves no use
-  idle : (l : List Entry) (u t : ℕ) → eqb t 3 ≡ false → eqb t 4 ≡ false → useWrong l u t ≡ false → useWrong l u 5 ≡ false
+  idle : (l : List XmlEntry) (u t : ℕ) → eqb t 3 ≡ false → eqb t 4 ≡ false → useWrong l u t ≡ false → useWrong l u 5 ≡ false
   unfolding useWrong mayServe
   idle l u t a b e = by (ltb 0 u) (eqb u 1) (someOf (λ v. eqb (v .usage) u) l) (rw (a, b) at e) where
     by : (p q r : Bool) → (p && (not (false || (q && false)) || r)) ≡ false → (p && (not (false || (q && false)) || r)) ≡ false
     by p q r e = e
 
-  pub record Contained (l : List Entry) (u : ℕ) (p : Position) (before : ℕ) (c : Content) (n : ℕ) : Type 0 where
+  pub record Contained (l : List XmlEntry) (u : ℕ) (p : Position) (before : ℕ) (c : Content) (n : ℕ) : Type 0 where
     pub subfields : ℕ
     pub subwidth : ℕ
     pub told : Told (room p) subfields subwidth c
@@ -277,7 +280,7 @@ module _ (bad : Bool) (d : List ℕ) where
     pub plain : eachOf (λ s. not (s .special)) (blockIn c .lines) ≡ true
     pub next : n ≤ length d
 
-  module _ (long : length d ≤ 1048576) (m : Manner) (l : List Entry) (u : ℕ) (p : Position) (before : ℕ) (low : before ≤ 4096)
+  module _ (long : length d ≤ 1048576) (m : Manner) (l : List XmlEntry) (u : ℕ) (p : Position) (before : ℕ) (low : before ≤ 4096)
       (some-room : 1 ≤ room p) (few-room : room p ≤ 16384) where
     block-fine : (q : Bool) (o : Open) (e : ℕ) {b : Block} {n : ℕ} → block bad d m q before o e ≡ Is b n → Sofar bad d long q before b n
     block-fine q o e f =
@@ -298,18 +301,20 @@ module _ (bad : Bool) (d : List ℕ) where
           let r : e ≡ n = cc in
           moved (λ (x : Then (Option Spread)) (n : ℕ). PartsFor (x .it)) q r (record { count = 0; width = 0; parts = bits })
 
-      by : (o : Open) → either bad d SPREAD o (λ p′ n. bind (spread bad d (room p) p′ n) λ s k. bind (within bad d VARIABLE k) λ o j. Is
+      by : (o : Open) → eitherElement bad d SPREAD o
+          (λ p′ n. bind (spread bad d (room p) p′ n) λ s k. bind (withinElement bad d VARIABLE k) λ o j. Is
           (with (some s) o) j)
           (λ n. Is (with none o) n) e ≡ Is x n → PartsFor (x .it)
       by (shut q) f = none-there (shut q) f
       by (start q) f = on (isNamed d (q + 1) e SPREAD) f where
-        on : (t : Bool) → cond t (bind (spread bad d (room p) q e) λ s k. bind (within bad d VARIABLE k) λ o j. Is (with (some s) o) j)
+        on : (t : Bool) → cond t (bind (spread bad d (room p) q e) λ s k. bind (withinElement bad d VARIABLE k) λ o j. Is (with (some s) o)
+            j)
             (Is (with none (start q)) e) ≡ Is x n
             → PartsFor (x .it)
         on false f = none-there (start q) f
         on true f =
             let b = bound (spread bad d (room p) q e) _ x n f in
-            let c = bound (within bad d VARIABLE (b .place)) _ x n (b .then-is) in
+            let c = bound (withinElement bad d VARIABLE (b .place)) _ x n (b .then-is) in
             let z : with (some (b .value)) (c .value) ≡ x = cc in
             let r : c .place ≡ n = cc in
             let g = spread-fine bad d (room p) q e some-room few-room (b .first-is) in
@@ -420,17 +425,17 @@ module _ (bad : Bool) (d : List ℕ) where
       (j .0, j .1, not-false (holds v) (clear-head (j .2)))
 
   -- a text that was read lies within the file
-  pub record Read (l : List Entry) (v : Entry) (n : ℕ) : Type 0 where
+  pub record Read (l : List XmlEntry) (v : XmlEntry) (n : ℕ) : Type 0 where
     pub fine : FineEntry l v
     pub name : v .variable .name .place + v .variable .name .length ≤ length d
     pub next : n ≤ length d
 
-  module _ (long : length d ≤ 1048576) (m : Manner) (l : List Entry) (g : FineEntries l)
+  module _ (long : length d ≤ 1048576) (m : Manner) (l : List XmlEntry) (g : FineEntries l)
       (few : (p e : ℕ) (t : Title) (n : ℕ) → title bad d (m .old) l p e ≡ Is t n → t .ident .value < 10000) where
     abbrev before : ℕ
     before = linesAll (variablesOf l)
 
-    naming-long : (p e : ℕ) {t : Text} {n : ℕ} → naming bad d (m .latin) (m .standard) l p e ≡ Is t n → Lying bad d t n
+    naming-long : (p e : ℕ) {t : KeptText} {n : ℕ} → naming bad d (m .latin) (m .standard) l p e ≡ Is t n → Lying bad d t n
     unfolding naming
     naming-long p e {t} {n} f =
         let b = bound (text bad d NAME 0 p e) _ t n f in
@@ -438,12 +443,12 @@ module _ (bad : Bool) (d : List ℕ) where
         (b .then-is) in
         moved (Lying bad d) (j .0) (j .1) (text-long bad d NAME 0 p e (b .first-is))
 
-    filters-of : {u f : ℕ} (v : Entry) → v .usage ≡ u → v .filter ≡ f → Filter l u f → Filters l v
+    filters-of : {u f : ℕ} (v : XmlEntry) → v .usage ≡ u → v .filter ≡ f → Filter l u f → Filters l v
     filters-of v a b no-filter = table.unfiltered b
     filters-of v a b (one-filter e x) = table.filtered (x .front) (x .rest) (x .row) (a ∙ e) (x .is) (b ∙ x .count ∙ omega arith) (x .typed)
 
     module _ (t : Title) (n₀ : ℕ) (tf : Titled (m .old) l t n₀) (short : t .ident .value < 10000) where
-      module _ (name label : Text) (p : Position) (n₁ : ℕ) (nb : name .place + name .length ≤ length d)
+      module _ (name label : KeptText) (p : Position) (n₁ : ℕ) (nb : name .place + name .length ≤ length d)
           (lb : label .place + label .length ≤ length d)
           (pf : Positioned bad d p n₁) where
         fine-made : (f : ℕ) (c : Content) {j : ℕ} → holds (variableOf (t .ident) name label p c) ≡ true → Filter l (t .usage) f
@@ -473,7 +478,7 @@ module _ (bad : Bool) (d : List ℕ) where
           plain = cf .plain;
         }
 
-        content-read : (f : ℕ) (c : Content) (e : ℕ) {v : Entry} {n : ℕ} → Filter l (t .usage) f → Contained l (t .usage) p before c e
+        content-read : (f : ℕ) (c : Content) (e : ℕ) {v : XmlEntry} {n : ℕ} → Filter l (t .usage) f → Contained l (t .usage) p before c e
             → afterContent bad d m l t name label p f c e ≡ Is v n → Read l v n
         unfolding afterContent
         content-read f c e {v} {n} flt cf z =
@@ -484,10 +489,10 @@ module _ (bad : Bool) (d : List ℕ) where
             moved (Read l) (ap (λ (y : Variable). record { variable = y; usage = t .usage; filter = f }) (hh .0) ∙ q) (hh .1 ∙ r)
             (record { fine = fine-made f c (hh .2) flt cf; name = nb; next = cf .next })
 
-        position-read : (e : ℕ) {v : Entry} {n : ℕ} → afterPosition bad d m l t name label p e ≡ Is v n → Read l v n
+        position-read : (e : ℕ) {v : XmlEntry} {n : ℕ} → afterPosition bad d m l t name label p e ≡ Is v n → Read l v n
         unfolding afterPosition afterFilter
         position-read e {v} {n} z =
-            let r = bound (within bad d VARIABLE e) _ v n z in
+            let r = bound (withinElement bad d VARIABLE e) _ v n z in
             let s = bound (filtered bad d m l name (t .usage) (r .value) (r .place)) _ v n (r .then-is) in
             let w = bound (content bad d m p before (t .type) (s .value .behind) (s .place)) _ v n (s .then-is) in
             let rr = within-long bad d VARIABLE e (r .first-is) in
@@ -497,36 +502,38 @@ module _ (bad : Bool) (d : List ℕ) where
             (s .value .behind) (s .place) (ff .1) (ff .2) (tf .right) (w .first-is) in
             content-read (s .value .it) (w .value) (w .place) (ff .0) cf (w .then-is)
 
-      label-read : (name label : Text) (e : ℕ) {v : Entry} {n : ℕ} → name .place + name .length ≤ length d → label .place + label .length
+      label-read : (name label : KeptText) (e : ℕ) {v : XmlEntry} {n : ℕ} → name .place + name .length ≤ length d → label .place
+          + label .length
           ≤ length d
           → afterLabel bad d m l t name label e ≡ Is v n → Read l v n
       unfolding afterLabel
       label-read name label e {v} {n} nb lb z =
-          let k = bound (within bad d VARIABLE e) _ v n z in
+          let k = bound (withinElement bad d VARIABLE e) _ v n z in
           let o = bound (due bad d POSITION (k .value) (position bad d) (k .place)) _ v n (k .then-is) in
           let pp = due-is POSITION (k .value) (position bad d) (k .place) (o .first-is) in
           position-read name label (o .value) (o .place) nb lb (position-fine bad d (pp .place) (k .place) (pp .then-is)) (o .place)
           (o .then-is)
 
-      name-read : (name : Text) (e : ℕ) {v : Entry} {n : ℕ} → name .place + name .length ≤ length d → afterName bad d m l t name e ≡ Is v n
+      name-read : (name : KeptText) (e : ℕ) {v : XmlEntry} {n : ℕ} → name .place + name .length ≤ length d → afterName bad d m l t name e
+          ≡ Is v n
           → Read l v n
       unfolding afterName
       name-read name e {v} {n} nb z =
-          let k = bound (within bad d VARIABLE e) _ v n z in
+          let k = bound (withinElement bad d VARIABLE e) _ v n z in
           let o = bound (due bad d LABEL (k .value) (text bad d LABEL (rich (m .languages))) (k .place)) _ v n (k .then-is) in
           let pp = due-is LABEL (k .value) (text bad d LABEL (rich (m .languages))) (k .place) (o .first-is) in
           label-read name (o .value) (o .place) nb
           (text-long bad d LABEL (rich (m .languages)) (pp .place) (k .place) (pp .then-is) .inside) (o .then-is)
 
-      title-read : (e : ℕ) {v : Entry} {n : ℕ} → afterTitle bad d m l t e ≡ Is v n → Read l v n
+      title-read : (e : ℕ) {v : XmlEntry} {n : ℕ} → afterTitle bad d m l t e ≡ Is v n → Read l v n
       unfolding afterTitle
       title-read e {v} {n} z =
-          let k = bound (within bad d VARIABLE e) _ v n z in
+          let k = bound (withinElement bad d VARIABLE e) _ v n z in
           let o = bound (due bad d NAME (k .value) (naming bad d (m .latin) (m .standard) l) (k .place)) _ v n (k .then-is) in
           let pp = due-is NAME (k .value) (naming bad d (m .latin) (m .standard) l) (k .place) (o .first-is) in
           name-read (o .value) (o .place) (naming-long (pp .place) (k .place) (pp .then-is) .inside) (o .then-is)
 
-    pub entry-read : (q e : ℕ) {v : Entry} {n : ℕ} → variable bad d m l q e ≡ Is v n → Read l v n
+    pub entry-read : (q e : ℕ) {v : XmlEntry} {n : ℕ} → variable bad d m l q e ≡ Is v n → Read l v n
     entry-read q e {v} {n} f =
         let a = bound (title bad d (m .old) l q e) (afterTitle bad d m l) v n (sym (variable-is bad d m l q e) ∙ f) in
         title-read (a .value) (a .place) (title-fine (m .old) l q e (a .first-is)) (few q e (a .value) (a .place) (a .first-is)) (a .place)

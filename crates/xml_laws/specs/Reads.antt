@@ -23,10 +23,10 @@ use Rattle.contents.specs.declared.Said.the-variants as saids
 use Rattle.signs.specs.declared.Sign.{Sign}
 use Rattle.markup.specs.rule.Bytes.{stands}
 use Rattle.markup.specs.rule.Reference.{referenceOf}
-use Rattle.markup.specs.rule.Gap.{commentOf}
+use Rattle.markup.specs.rule.Gap.{xmlComment}
 use Rattle.angles.specs.rule.Angle.{angleOf}
 use Rattle.spans.specs.rule.Heard.{heard}
-use Rattle.contents.specs.rule.Step.{brokenAt, goOn, breakAt, languageAt, onOut}
+use Rattle.contents.specs.rule.Step.{brokenAt, goOnSaying, breakAt, languageAt, onOut}
 use Rattle.contents.specs.rule.Grammar as grammar
 use Rattle.elements.specs.Code.{openOf, Within}
 use Rattle.tags.specs.declared.Held.{Held}
@@ -48,12 +48,12 @@ use Rattle.contents.specs.rule.Content.{begun}
 use Rattle.contents.specs.declared.Going.{Going}
 use Rattle.contents.specs.declared.Step.{Step}
 use Rattle.contents.specs.declared.Step.the-variants as step
-use Rattle.contents.specs.rule.Step.{bracketAt, returnAt, onChar, referAt, onNote, noteAt, onOther, otherAt, kindOf, startAt, onEnd}
+use Rattle.contents.specs.rule.Step.{bracketAt, returnAt, onChar, referAt, onNote, noteAt, onOther, otherAt, stepKind, startAt, onEnd}
 use Rattle.contents.specs.rule.Step.{closeAt, onAngle, markAt, stepOf}
 use Rattle.contents.proofs.Goes.{Goes, stay, on, Reached, content-reached, step-on}
 use Rattle.tokens.specs.rule.Gap.{fault}
 use Rattle.tokens.specs.declared.Fault.{Fault}
-use Rattle.survey.specs.rule.Survey.{Figure, Text, Spread}
+use Rattle.survey.specs.rule.Survey.{Figure, KeptText, Spread}
 use Rattle.reading.specs.rule.Result.{Result, Is, Not, Reader, bind}
 use Rattle.reading.specs.rule.Least.{Charge, _when_, judged}
 use Rattle.reading.specs.rule.Statement.{Position, positionCharges, spreadCharges, sizeCharges}
@@ -62,7 +62,7 @@ use Rattle.bridge.specs.Statements.{evenOr}
 use Rattle.bridge.specs.Contents.{Parts, fields}
 use Rattle.bridge.specs.Lowest.{never, Clear, clear, Judged, fine, faulty, judged-view}
 use Rattle.xml_reading.specs.rule.Word.{NAME, LABEL, FILTER, VALUE, SIZE, POSITION, SPREAD, START, FINISH, SUBFIELDS, WIDTH}
-use Rattle.xml_reading.specs.rule.Open.{Open, start, shut, onShut, within, misplaced, onBare, unknownAt, onTag, onPair, nothing}
+use Rattle.xml_reading.specs.rule.Open.{Open, start, shut, onShut, withinElement, misplaced, onBare, unknownAt, onTag, onPair, nothing}
 use Rattle.xml_reading.specs.rule.Open as rule
 use Rattle.elements.proofs.Bounds.{start-within, shut-within, tag-within, content-within}
 use Rattle.xml_reading.specs.rule.Element.{Body, bodyOf, onContent, body, text, givenAt, figureOf, position, spread, sizeIn, size}
@@ -133,7 +133,7 @@ module _ (bad : Bool) (d : List ℕ) where
     by (pair.Fault k p) i e = never cc
 
   -- ---- a text
-  pub record Lying (t : Text) (n : ℕ) : Type 0 where
+  pub record Lying (t : KeptText) (n : ℕ) : Type 0 where
     pub inside : t .place + t .length ≤ length d
     pub next : n ≤ length d
 
@@ -162,7 +162,7 @@ module _ (bad : Bool) (d : List ℕ) where
   bare-long p e {h} {em} {q} {n} f = tag-within bad d p [] [] [] 0 0 0 0 e h em q n f .2
 
   -- an element that is only a text
-  pub text-long : (w : List ℕ) (m p e : ℕ) {t : Text} {n : ℕ} → text bad d w m p e ≡ Is t n → Lying t n
+  pub text-long : (w : List ℕ) (m p e : ℕ) {t : KeptText} {n : ℕ} → text bad d w m p e ≡ Is t n → Lying t n
   unfolding text
   text-long w m p e {t} {n} f =
       let o = opened bad d (bareOf bad d p e) _ t n f in
@@ -256,8 +256,8 @@ module _ (bad : Bool) (d : List ℕ) where
       moved (Parted room) (j .0) (j .1) (record { parts = parted room a c (unknownAt (h .unknown) ∷ b .value) u v (j .2); next = m })
 
   -- ---- where a tag is due
-  pub within-long : (w : List ℕ) (n : ℕ) {o : Open} {m : ℕ} → within bad d w n ≡ Is o m → (1 ≤ m) × (m ≤ length d)
-  unfolding within
+  pub within-long : (w : List ℕ) (n : ℕ) {o : Open} {m : ℕ} → withinElement bad d w n ≡ Is o m → (1 ≤ m) × (m ≤ length d)
+  unfolding withinElement
   within-long w n {o} {m} f = by (standOf bad d n) refl f where
     by : (s : Stand) → standOf bad d n ≡ s → rule.opened bad d w s ≡ Is o m → (1 ≤ m) × (m ≤ length d)
     by (stand.Start p e) i f = let q : e ≡ m = cc in let h = start-within bad d n p e i in rw (← q) (omega (arith, h .1), h .2)
@@ -283,7 +283,7 @@ module _ (bad : Bool) (d : List ℕ) where
     breaks : {k p : ℕ} → Steps g (step.Over (content.Fault k p))
 
   step-plain : (w : List ℕ) (g : Going) → g .inside ≡ false → Steps g (stepOf bad d 0 w g)
-  unfolding stepOf markAt referAt bracketAt returnAt noteAt startAt kindOf otherAt closeAt
+  unfolding stepOf markAt referAt bracketAt returnAt noteAt startAt stepKind otherAt closeAt
   step-plain w g e =
       by (leb (length d) (g .next)) (eqb (getD d (g .next) 0) 60) (eqb (getD d (g .next) 0) 38) (eqb (getD d (g .next) 0) 93)
       (eqb (getD d (g .next) 0) 13)
@@ -301,8 +301,8 @@ module _ (bad : Bool) (d : List ℕ) where
       ended (skip.Broken p) = breaks
 
       begun-at : (i : Bool) (z : ℕ) → i ≡ false
-          → Steps g (cond (eqb (kindOf d (cond i 1 0) (g .next + 1) z) 1) (breakAt bad d g z)
-          (cond (eqb (kindOf d (cond i 1 0) (g .next + 1) z) 2) (languageAt bad d g z) (otherAt bad d g z)))
+          → Steps g (cond (eqb (stepKind d (cond i 1 0) (g .next + 1) z) 1) (breakAt bad d g z)
+          (cond (eqb (stepKind d (cond i 1 0) (g .next + 1) z) 2) (languageAt bad d g z) (otherAt bad d g z)))
       begun-at false z q = other (bareOf bad d (g .next) z)
       begun-at true z q = never cc
 
@@ -318,14 +318,14 @@ module _ (bad : Bool) (d : List ℕ) where
       angled (angle.Broken p) = breaks
 
       marked : (q : Bool) → Steps g (cond q (noteAt bad d g) (onAngle bad d 0 w g (angleOf bad d (g .next))))
-      marked true = noted (commentOf bad (g .next) (g .next + 4) (drop (g .next + 4) d))
+      marked true = noted (xmlComment bad (g .next) (g .next + 4) (drop (g .next + 4) d))
       marked false = angled (angleOf bad d (g .next))
 
       referred : (c : Char) → Steps g (onChar g c)
       referred (char.Is c n) = goes e
       referred char.Bad = breaks
 
-      bracket : (q : Bool) → Steps g (cond q (brokenAt (g .next)) (goOn g (g .next + 1) (saids.Byte 93)))
+      bracket : (q : Bool) → Steps g (cond q (brokenAt (g .next)) (goOnSaying g (g .next + 1) (saids.Byte 93)))
       bracket true = breaks
       bracket false = goes e
 
@@ -333,7 +333,7 @@ module _ (bad : Bool) (d : List ℕ) where
           (cond x (markAt bad d 0 w g)
           (cond y (referAt d g)
           (cond z (bracketAt d g)
-          (cond u (returnAt d g) (goOn g (g .next + 1) (saids.Byte (getD d (g .next) 0))))))))
+          (cond u (returnAt d g) (goOnSaying g (g .next + 1) (saids.Byte (getD d (g .next) 0))))))))
       by true x y z u = breaks
       by false true y z u = marked (stands (60 ∷ 33 ∷ 45 ∷ 45 ∷ []) (drop (g .next) d))
       by false false true z u = referred (referenceOf (g .next) (drop (g .next + 1) d))

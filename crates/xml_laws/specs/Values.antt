@@ -24,13 +24,14 @@ use Rattle.survey.specs.rule.Survey.{Amount, Range, Line, Block}
 use Rattle.survey.specs.rule.Width.{someOf, eachOf, amounts, scaled}
 use Rattle.reading.specs.rule.Result.{Result, Is, Not, Reader, bind, turn, repeat}
 use Rattle.reading.specs.rule.Least.{Charge, _when_, judged}
-use Rattle.reading.specs.rule.Values.{formIs, large, unlike, lineCharges, withLine, rangeFrom, unlisted}
+use Rattle.reading.specs.rule.Values.{formIs, large, unlikeAmounts, lineCharges, withLine, rangeFrom, unlisted}
 use Rattle.bridge.specs.Lowest.{never, Clear, clear}
 use Rattle.xml_reading.specs.rule.Word.{VALUES, RANGE, VALUE, FROM, TO, CODE}
-use Rattle.xml_reading.specs.rule.Open.{Open, start, shut, within, misplaced, onBare, either, due, refuse, unknownAt, onTag, nothing, enter}
+use Rattle.xml_reading.specs.rule.Open.{Open, start, shut, withinElement, misplaced, onBare, eitherElement, due, refuse, unknownAt, onTag}
+use Rattle.xml_reading.specs.rule.Open.{nothing, enter}
 use Rattle.xml_reading.specs.rule.Open.{entered}
 use Rattle.xml_reading.specs.rule.Element.{Body, charsOf, amountIn, body}
-use Rattle.xml_reading.specs.rule.Block.{rich, pairCharges, range, line, lined, onOpen, another, first, values}
+use Rattle.xml_reading.specs.rule.Block.{rich, pairCharges, range, line, lined, onOpen, anotherLine, first, values}
 use Rattle.xml_bridge.specs.Book.{saidAs, saids, isRanged, blockAs}
 use Rattle.xml_bridge.specs.Fine.{Sound, amount-sound, Fine, fine-none, fine-range, fine-line, fine-values}
 use Rattle.elements.proofs.Bounds.{tag-within}
@@ -42,18 +43,18 @@ module _ (bad : Bool) (d : List ℕ) (long : length d ≤ 1048576) where
   pub record Ranged (quantity : Bool) (r : Range) (n : ℕ) : Type 0 where
     pub from : Sound quantity (r .from)
     pub to : Sound quantity (r .to)
-    pub alike : unlike (r .from) (r .to) ≡ false
+    pub alike : unlikeAmounts (r .from) (r .to) ≡ false
     pub ordered : ltZ (scaled (r .to)) (scaled (r .from)) ≡ false
     pub next : n ≤ length d
 
   charged : (quantity : Bool) (a b : Amount) (l : List Charge) → Clear (pairCharges quantity a b ++ l)
-      → (formIs quantity a ≡ true) × (formIs quantity b ≡ true) × (unlike a b ≡ false) × (ltZ (scaled b) (scaled a) ≡ false)
+      → (formIs quantity a ≡ true) × (formIs quantity b ≡ true) × (unlikeAmounts a b ≡ false) × (ltZ (scaled b) (scaled a) ≡ false)
       × (large quantity a ≡ false) × (large quantity b ≡ false)
   unfolding pairCharges
   charged quantity a b l (clear x (clear y (clear z (clear w (clear u (clear v r)))))) =
       let f = not-false (formIs quantity a) x in
       let g = not-false (formIs quantity b) y in
-      (f, g, both (unlike a b) f g z, both (ltZ (scaled b) (scaled a)) f g w, u, v)
+      (f, g, both (unlikeAmounts a b) f g z, both (ltZ (scaled b) (scaled a)) f g w, u, v)
     where
       both : (q : Bool) → formIs quantity a ≡ true → formIs quantity b ≡ true → ((formIs quantity a && formIs quantity b) && q) ≡ false → q
           ≡ false
@@ -83,7 +84,7 @@ module _ (bad : Bool) (d : List ℕ) (long : length d ≤ 1048576) where
   -- ---- a line
   pub record Listed (quantity : Bool) (before : ℕ) (b : Block) (x : Line) (n : ℕ) : Type 0 where
     pub sound : Sound quantity (x .value)
-    pub alike : someOf (unlike (x .value)) (amounts b) ≡ false
+    pub alike : someOf (unlikeAmounts (x .value)) (amounts b) ≡ false
     pub fresh : someOf (λ l. eqZ (scaled (l .value)) (scaled (x .value))) (b .lines) ≡ false
     pub few : before + length (b .lines) < 4096
     pub good : GoodLine (saidAs x)
@@ -91,7 +92,7 @@ module _ (bad : Bool) (d : List ℕ) (long : length d ≤ 1048576) where
     pub next : n ≤ length d
 
   line-charged : (quantity : Bool) (before : ℕ) (b : Block) (a : Amount) (l : List Charge) → Clear (lineCharges quantity before b a ++ l)
-      → (formIs quantity a ≡ true) × (someOf (unlike a) (amounts b) ≡ false)
+      → (formIs quantity a ≡ true) × (someOf (unlikeAmounts a) (amounts b) ≡ false)
       × (someOf (λ l. eqZ (scaled (l .value)) (scaled a)) (b .lines) ≡ false)
       × (large quantity a ≡ false) × (before + length (b .lines) < 4096)
   unfolding lineCharges
@@ -163,11 +164,11 @@ module _ (bad : Bool) (d : List ℕ) (long : length d ≤ 1048576) where
     first-fine : (e : ℕ) {b : Block} {n : ℕ} → first bad d languages quantity before e ≡ Is b n → Sofar quantity before b n
     unfolding first eachOf
     first-fine e {b} {n} f =
-        let o = bound (within bad d VALUES e) _ b n f in
+        let o = bound (withinElement bad d VALUES e) _ b n f in
         by (o .value) (o .place) (o .then-is)
       where
         by : (x : Open) (k : ℕ)
-            → either bad d RANGE x (λ p m. bind (range bad d quantity p m) λ r m. Is (unlisted (some r)) m)
+            → eitherElement bad d RANGE x (λ p m. bind (range bad d quantity p m) λ r m. Is (unlisted (some r)) m)
             (due bad d VALUE x (lined bad d languages quantity before (unlisted none))) k ≡ Is b n
             → Sofar quantity before b n
         by (shut p) k f = never cc
@@ -194,10 +195,10 @@ module _ (bad : Bool) (d : List ℕ) (long : length d ≤ 1048576) where
       over : {c : Block} {n : ℕ} → Sofar quantity before c n → Kept (Done c) n
 
     step-fine : (b : Block) (e : ℕ) → Sofar quantity before b e → {x : Next Block Block} {n : ℕ}
-        → another bad d languages quantity before b e ≡ Is x n → Kept x n
-    unfolding another
+        → anotherLine bad d languages quantity before b e ≡ Is x n → Kept x n
+    unfolding anotherLine
     step-fine b e s {x} {n} f =
-        let o = bound (within bad d VALUES e) _ x n f in
+        let o = bound (withinElement bad d VALUES e) _ x n f in
         by (o .value) (o .place) (within-long bad d VALUES e (o .first-is) .1) (o .then-is)
       where
         by : (z : Open) (k : ℕ) → k ≤ length d → onOpen bad d languages quantity before b z k ≡ Is x n → Kept x n
@@ -213,15 +214,15 @@ module _ (bad : Bool) (d : List ℕ) (long : length d ≤ 1048576) where
             moved Kept q r (onward (lined-fine b p k (s .fine) (s .plain) (o .first-is)))
 
     lines-fine : (f : ℕ) (b : Block) (e : ℕ) → Sofar quantity before b e → {c : Block} {n : ℕ}
-        → repeat f (another bad d languages quantity before) b e ≡ Is c n → Sofar quantity before c n
+        → repeat f (anotherLine bad d languages quantity before) b e ≡ Is c n → Sofar quantity before c n
     unfolding repeat
     lines-fine zero b e s g = never cc
     lines-fine (suc f) b e s {c} {n} g =
-        let o = bound (another bad d languages quantity before b e) _ c n g in
+        let o = bound (anotherLine bad d languages quantity before b e) _ c n g in
         by (o .value) (step-fine b e s (o .first-is)) (o .then-is) (λ x k t q. lines-fine f x k t q)
       where
-        by : (x : Next Block Block) {k : ℕ} → Kept x k → turn (repeat f (another bad d languages quantity before)) x k ≡ Is c n
-            → ((b : Block) (e : ℕ) → Sofar quantity before b e → repeat f (another bad d languages quantity before) b e ≡ Is c n
+        by : (x : Next Block Block) {k : ℕ} → Kept x k → turn (repeat f (anotherLine bad d languages quantity before)) x k ≡ Is c n
+            → ((b : Block) (e : ℕ) → Sofar quantity before b e → repeat f (anotherLine bad d languages quantity before) b e ≡ Is c n
             → Sofar quantity before c n)
             → Sofar quantity before c n
         by (Again y) {k} (onward t) g ih = ih y k t g

@@ -10,7 +10,7 @@ use lib.Dec.{leb, eqb}
 use lib.ListN.{length, drop, getD}
 use borrow.Author.Tests.{eq-eqb, ne-eqb, eqb-true, eqb-false, le-leb, lt-leb, leb-true, leb-false}
 use Rattle.markup.specs.rule.Bytes.{ofKind, startsName, runOf, stands, endFault}
-use Rattle.markup.specs.rule.Gap.{commentOf}
+use Rattle.markup.specs.rule.Gap.{xmlComment}
 use Rattle.markup.specs.rule.Reference.{referenceOf}
 use Rattle.markup.specs.declared.Char.{Char}
 use Rattle.markup.specs.declared.Char.the-variants as char
@@ -34,26 +34,26 @@ pub data NoteStops (bad : Bool) (opened : ℕ) : ℕ → List ℕ → ℕ → Ty
       → NoteStops bad opened p (b ∷ s) q
 
 module _ (bad : Bool) (opened : ℕ) where
-  note-seen : (p : ℕ) (s : List ℕ) (q : ℕ) → commentOf bad opened p s ≡ Broken q → NoteStops bad opened p s q
-  unfolding commentOf
+  note-seen : (p : ℕ) (s : List ℕ) (q : ℕ) → xmlComment bad opened p s ≡ Broken q → NoteStops bad opened p s q
+  unfolding xmlComment
   note-seen p [] q e = let i : endFault bad p opened ≡ q = cc in rw (← i) over
   note-seen p (b ∷ s) q e =
       by (note-seen (p + 1) s q) (stands (45 ∷ 45 ∷ []) (b ∷ s)) (stands (45 ∷ 45 ∷ 62 ∷ []) (b ∷ s)) refl refl e where
-        by : (commentOf bad opened (p + 1) s ≡ Broken q → NoteStops bad opened (p + 1) s q) → (x y : Bool)
+        by : (xmlComment bad opened (p + 1) s ≡ Broken q → NoteStops bad opened (p + 1) s q) → (x y : Bool)
             → stands (45 ∷ 45 ∷ []) (b ∷ s) ≡ x → stands (45 ∷ 45 ∷ 62 ∷ []) (b ∷ s) ≡ y
-            → cond x (cond y (Past (p + 3)) (Broken p)) (commentOf bad opened (p + 1) s) ≡ Broken q → NoteStops bad opened p (b ∷ s) q
+            → cond x (cond y (Past (p + 3)) (Broken p)) (xmlComment bad opened (p + 1) s) ≡ Broken q → NoteStops bad opened p (b ∷ s) q
         by ih true true i j e = never cc
         by ih true false i j e = let k : p ≡ q = cc in rw (← k) (dashes i j)
         by ih false y i j e = further i (ih e)
 
-  note-halted : {p : ℕ} {s : List ℕ} {q : ℕ} → NoteStops bad opened p s q → commentOf bad opened p s ≡ Broken q
-  unfolding commentOf
+  note-halted : {p : ℕ} {s : List ℕ} {q : ℕ} → NoteStops bad opened p s q → xmlComment bad opened p s ≡ Broken q
+  unfolding xmlComment
   note-halted over = refl
   note-halted (dashes i j) = rw (i, j)
   note-halted (further i y) = rw i (note-halted y)
 
   -- COMMENT: broken at q exactly so
-  pub note-refused-exactly : (p : ℕ) (s : List ℕ) (q : ℕ) → (commentOf bad opened p s ≡ Broken q) ↔ NoteStops bad opened p s q
+  pub note-refused-exactly : (p : ℕ) (s : List ℕ) (q : ℕ) → (xmlComment bad opened p s ≡ Broken q) ↔ NoteStops bad opened p s q
   note-refused-exactly p s q = (note-seen p s q, note-halted)
 
 -- ---- REFERENCE: bad exactly when what follows the & is none of the five names and no number of a legal character

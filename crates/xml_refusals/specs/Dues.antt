@@ -22,12 +22,12 @@ use Rattle.angles.specs.declared.Angle.{Angle}
 use Rattle.angles.specs.declared.Angle.the-variants as angle
 use Rattle.tags.specs.rule.Tag.{isNamed}
 use Rattle.pairs.specs.declared.Stand.the-variants as stand
-use Rattle.pairs.specs.rule.Stand.{onChar, textOf, onAngle, standAt, onGap, standOf, onEnd, shutOf}
+use Rattle.pairs.specs.rule.Stand.{onTextChar, textStand, standAngle, standAt, onGap, standOf, standEnd, shutOf}
 use Rattle.tokens.specs.declared.Fault.{Fault}
 use Rattle.tokens.specs.rule.Gap.{fault}
 use Rattle.reading.specs.rule.Result.{Not}
 use Rattle.bridge.specs.Lowest.{never}
-use Rattle.xml_reading.specs.rule.Open.{onShut, opened, within}
+use Rattle.xml_reading.specs.rule.Open.{onShut, opened, withinElement}
 
 module _ (bad : Bool) (d w : List ℕ) (n : ℕ) where
   -- a < stands at p, behind white space and comments
@@ -59,15 +59,15 @@ module _ (bad : Bool) (d w : List ℕ) (n : ℕ) where
 
   -- ---- what is refused stands so
   module _ {f : Fault} (p : ℕ) (g : Gapped d n p) (h : p < length d) where
-    text-seen : (getD d p 0 ≡ 60 → ⊥) → opened bad d w (textOf d p) ≡ Not f → NoTag f
-    unfolding textOf
+    text-seen : (getD d p 0 ≡ 60 → ⊥) → opened bad d w (textStand d p) ≡ Not f → NoTag f
+    unfolding textStand
     text-seen i e = by (eqb (getD d p 0) 38) refl e where
-      on : getD d p 0 ≡ 38 → (c : Char) → referenceOf p (drop (p + 1) d) ≡ c → opened bad d w (onChar p c) ≡ Not f → NoTag f
+      on : getD d p 0 ≡ 38 → (c : Char) → referenceOf p (drop (p + 1) d) ≡ c → opened bad d w (onTextChar p c) ≡ Not f → NoTag f
       on j (char.Is c m) r e = let z : fault 2 p ≡ f = cc in moved z (reference g h j r)
       on j char.Bad r e = let z : fault 50 p ≡ f = cc in moved z (bad-reference g h j r)
 
       by : (b : Bool) → eqb (getD d p 0) 38 ≡ b
-          → opened bad d w (cond b (onChar p (referenceOf p (drop (p + 1) d))) (stand.Text p)) ≡ Not f → NoTag f
+          → opened bad d w (cond b (onTextChar p (referenceOf p (drop (p + 1) d))) (stand.Text p)) ≡ Not f → NoTag f
       by true j e = on (eqb-true (getD d p 0) 38 j) (referenceOf p (drop (p + 1) d)) refl e
       by false j e = let z : fault 2 p ≡ f = cc in moved z (text g h i (eqb-false (getD d p 0) 38 j))
 
@@ -82,11 +82,11 @@ module _ (bad : Bool) (d w : List ℕ) (n : ℕ) where
       named m o true j z = never cc
       named m o false j z = let y : fault 50 p ≡ f = cc in moved y (other-end there a o j)
 
-      by : (r : Skip) → endOf bad d p e ≡ r → onShut p (onEnd d p e w r) ≡ Not f → NoTag f
+      by : (r : Skip) → endOf bad d p e ≡ r → onShut p (standEnd d p e w r) ≡ Not f → NoTag f
       by (skip.Past m) o z = named m o (isNamed d (p + 2) e w) refl z
       by (skip.Broken q) o z = let y : fault 50 q ≡ f = cc in moved y (broken-end there a o)
 
-    angle-seen : getD d p 0 ≡ 60 → (a : Angle) → angleOf bad d p ≡ a → opened bad d w (onAngle p a) ≡ Not f → NoTag f
+    angle-seen : getD d p 0 ≡ 60 → (a : Angle) → angleOf bad d p ≡ a → opened bad d w (standAngle p a) ≡ Not f → NoTag f
     angle-seen i (angle.Start e) a z = never cc
     angle-seen i (angle.Close e) a z = end-seen e i a z
     angle-seen i angle.Foreign a z =
@@ -94,8 +94,8 @@ module _ (bad : Bool) (d w : List ℕ) (n : ℕ) where
     angle-seen i (angle.Broken q) a z =
         let y : fault 50 q ≡ f = cc in moved y (broken (record { gap = g; inside = h; less = i }) a)
 
-  seen : {f : Fault} → within bad d w n ≡ Not f → NoTag f
-  unfolding within standOf standAt
+  seen : {f : Fault} → withinElement bad d w n ≡ Not f → NoTag f
+  unfolding withinElement standOf standAt
   seen {f} e = on (gapOf bad d n) refl e where
     on : (r : Skip) → gapOf bad d n ≡ r → opened bad d w (onGap bad d r) ≡ Not f → NoTag f
     on (skip.Broken q) g e = let z : fault 50 q ≡ f = cc in moved z (comment g)
@@ -104,14 +104,14 @@ module _ (bad : Bool) (d w : List ℕ) (n : ℕ) where
       gap = gap-exactly bad d n p .0 g
 
       by : (a b : Bool) → leb (length d) p ≡ a → eqb (getD d p 0) 60 ≡ b
-          → opened bad d w (cond a (stand.Broken p) (cond b (onAngle p (angleOf bad d p)) (textOf d p))) ≡ Not f → NoTag f
+          → opened bad d w (cond a (stand.Broken p) (cond b (standAngle p (angleOf bad d p)) (textStand d p))) ≡ Not f → NoTag f
       by true b i j e = let z : fault 50 p ≡ f = cc in moved z (over gap (leb-true (length d) p i))
       by false true i j e = angle-seen p gap (leb-false (length d) p i) (eqb-true (getD d p 0) 60 j) (angleOf bad d p) refl e
       by false false i j e = text-seen p gap (leb-false (length d) p i) (eqb-false (getD d p 0) 60 j) e
 
   -- ---- and back
-  halted : {f : Fault} → NoTag f → within bad d w n ≡ Not f
-  unfolding within standOf standAt textOf shutOf
+  halted : {f : Fault} → NoTag f → withinElement bad d w n ≡ Not f
+  unfolding withinElement standOf standAt textStand shutOf
   halted (comment g) = rw g
   halted (over {p} g h) = rw (gap-exactly bad d n p .1 g, le-leb (length d) p h)
   halted (text {p} g h i j) =
@@ -142,5 +142,5 @@ module _ (bad : Bool) (d w : List ℕ) (n : ℕ) where
       rw (gap-exactly bad d n p .1 (o .gap), lt-leb (length d) p (o .inside), eq-eqb (getD d p 0) 60 (o .less), a, z)
 
   -- NO TAG: it is refused with f exactly so
-  pub no-tag-exactly : (f : Fault) → (within bad d w n ≡ Not f) ↔ NoTag f
+  pub no-tag-exactly : (f : Fault) → (withinElement bad d w n ≡ Not f) ↔ NoTag f
   no-tag-exactly f = (seen, halted)

@@ -19,13 +19,13 @@ use Rattle.pairs.proofs.Ends.{start-complete}
 use Rattle.spans.specs.rule.Says.{sameOf}
 use Rattle.tokens.specs.declared.Fault.{Fault}
 use Rattle.tokens.specs.rule.Gap.{fault}
-use Rattle.survey.specs.rule.Survey.{Text}
+use Rattle.survey.specs.rule.Survey.{KeptText}
 use Rattle.reading.specs.rule.Result.{Result, Is, Not, Reader, give, bind}
 use Rattle.reading.specs.rule.Least.{Charge}
 use Rattle.grammar.specs.Faults.{Clean}
 use Rattle.grammar.specs.Refusal.{Lowest}
 use Rattle.grammar_laws.specs.Views.{judged-there, judged-halted, clean-both, clean-left, clean-right}
-use Rattle.xml_reading.specs.rule.Open.{Open, start, shut, within, unknownAt}
+use Rattle.xml_reading.specs.rule.Open.{Open, start, shut, withinElement, unknownAt}
 use Rattle.xml_reading.specs.rule.Open as stands
 use Rattle.xml_reading.specs.rule.Element.{Body, body}
 use Rattle.xml_reading.specs.rule.Block.{rich}
@@ -131,15 +131,16 @@ module _ (bad : Bool) (d : List ℕ) where
   child g = element bad d (meanings d) g
 
   abbrev looked : ℕ → List ℕ → List Part → State → ℕ → Result State
-  looked g w l s n = bind (within bad d w n) (steps-of bad d g w l .at s)
+  looked g w l s n = bind (withinElement bad d w n) (steps-of bad d g w l .at s)
 
   -- a turn of x*
   pub loop-by : (g : ℕ) (w : List ℕ) (x : Element) (l : List Part) (u : ℕ) (s : State) (n : ℕ)
       → loop bad d g w x l (suc u) s n
-      ≡ bind (within bad d w n) λ o.
-      stands.either bad d (ruleOf x .word) o (λ p e. bind (child g x s p e) (loop bad d g w x l u)) (steps-of bad d g w l .at s o)
+      ≡ bind (withinElement bad d w n) λ o.
+      stands.eitherElement bad d (ruleOf x .word) o (λ p e. bind (child g x s p e) (loop bad d g w x l u)) (steps-of bad d g w l .at s o)
   loop-by g w x l u s n =
-      repeat-by u (round bad d (meanings d) (child g) w x) s n (λ y. steps-of bad d g w l .at (y .0) (y .1)) ∙ by (within bad d w n) where
+      repeat-by u (round bad d (meanings d) (child g) w x) s n (λ y. steps-of bad d g w l .at (y .0) (y .1))
+      ∙ by (withinElement bad d w n) where
         last : (State × Open) → Reader State
         last y = steps-of bad d g w l .at (y .0) (y .1)
 
@@ -157,10 +158,11 @@ module _ (bad : Bool) (d : List ℕ) where
         named p e false = refl
 
         by : (r : Result Open)
-            → bind (bind r λ o. stands.either bad d (ruleOf x .word) o (λ p e. bind (child g x s p e) more) (give (Done (s, o))))
+            → bind (bind r λ o. stands.eitherElement bad d (ruleOf x .word) o (λ p e. bind (child g x s p e) more) (give (Done (s, o))))
             (onward (loop bad d g w x l u) last)
             ≡ bind r λ o.
-            stands.either bad d (ruleOf x .word) o (λ p e. bind (child g x s p e) (loop bad d g w x l u)) (steps-of bad d g w l .at s o)
+            stands.eitherElement bad d (ruleOf x .word) o (λ p e. bind (child g x s p e) (loop bad d g w x l u))
+            (steps-of bad d g w l .at s o)
         by (Is (start p) e) = named p e (isNamed d (p + 1) e (ruleOf x .word))
         by (Is (shut p) e) = refl
         by (Not z) = refl
@@ -177,7 +179,7 @@ module _ (bad : Bool) (d : List ℕ) where
       record { go = r (turnsOf d x) (turns-suffice d x s (any-turns bad d k x l e)); loops = r }
 
   -- no tag
-  no-tag-loops : (g : ℕ) (w : List ℕ) (l : List Part) (s : State) (n : ℕ) {f : Fault} → within bad d w n ≡ Not f → Loops g w l s n f
+  no-tag-loops : (g : ℕ) (w : List ℕ) (l : List Part) (s : State) (n : ℕ) {f : Fault} → withinElement bad d w n ≡ Not f → Loops g w l s n f
   no-tag-loops g w [] s n e = tt
   no-tag-loops g w (table.once x ∷ l) s n e = tt
   no-tag-loops g w (table.perhaps x ∷ l) s n e = tt
@@ -193,7 +195,7 @@ module _ (bad : Bool) (d : List ℕ) where
       let e = no-tag-exactly bad d w n f .1 o in stop-by g k w l h (rw e) (no-tag-loops g w l s n e)
 
   -- a start tag of another name
-  module _ (g : ℕ) (w : List ℕ) (s : State) (n : ℕ) {p e : ℕ} {f : Fault} (t : within bad d w n ≡ Is (start p) e)
+  module _ (g : ℕ) (w : List ℕ) (s : State) (n : ℕ) {p e : ℕ} {f : Fault} (t : withinElement bad d w n ≡ Is (start p) e)
       (m : Misplaced bad d p e f) where
     abbrev NoneNamed : List Part → Type 0
     NoneNamed l = (x : Element) (k : List Part) → Leads (s .manner .old) l x k → isNamed d (p + 1) e (ruleOf x .word) ≡ false
@@ -208,7 +210,7 @@ module _ (bad : Bool) (d : List ℕ) where
         by (other-at l (λ y k h. o y k (stops.Leads.later derivation.Passes.newly h))) (s .manner .old) refl where
           by : steps-of bad d g w l .at s (start p) e ≡ Not f → (b : Bool) → s .manner .old ≡ b
               → cond b (steps-of bad d g w l .at s (start p))
-              (stands.either bad d (ruleOf x .word) (start p) (λ p n. bind (child g x s p n) (steps-of bad d g w l .go))
+              (stands.eitherElement bad d (ruleOf x .word) (start p) (λ p n. bind (child g x s p n) (steps-of bad d g w l .go))
               (steps-of bad d g w l .at s (start p))) e ≡ Not f
           by rest true i = rest
           by rest false i = rw (o x l (here (derivation.Comes.newly i))) rest
@@ -232,7 +234,7 @@ module _ (bad : Bool) (d : List ℕ) where
           (other-at l (λ y k h. o y k (stops.Leads.later derivation.Passes.any h)))
 
   -- the end tag, too early
-  module _ (g : ℕ) (w : List ℕ) (s : State) (n : ℕ) {p m : ℕ} (t : within bad d w n ≡ Is (shut p) m) where
+  module _ (g : ℕ) (w : List ℕ) (s : State) (n : ℕ) {p m : ℕ} (t : withinElement bad d w n ≡ Is (shut p) m) where
     early-at : {l : List Part} → Owes l → steps-of bad d g w l .at s (shut p) m ≡ Not (fault 2 p)
     unfolding steps
     early-at stops.Owes.once = refl
@@ -254,7 +256,7 @@ module _ (bad : Bool) (d : List ℕ) where
       turns (suc u) h = loop-by g w x l u s n ∙ rw t (early-at o)
 
   -- an element that comes next
-  module _ (g k : ℕ) (w : List ℕ) (x : Element) (s : State) (n : ℕ) {p e : ℕ} (t : within bad d w n ≡ Is (start p) e)
+  module _ (g k : ℕ) (w : List ℕ) (x : Element) (s : State) (n : ℕ) {p e : ℕ} (t : withinElement bad d w n ≡ Is (start p) e)
       (a : Lies d p e (60 ∷ ruleOf x .word)) where
     not-so : (y : Element) {l b : List Part} → none (ruleOf y .word) (firsts l) ≡ true → Leads (s .manner .old) l x b
         → isNamed d (p + 1) e (ruleOf y .word) ≡ false
@@ -362,7 +364,7 @@ module _ (bad : Bool) (d : List ℕ) where
       deep zero i = let z = some-height x in absurd (omega arith)
       deep (suc g) i = entered g ∙ r g (omega arith)
 
-    judging-stops : {f : Fault} (t : Text) (l : List Charge) (m : ℕ) → Blamed (judgedBy d x s h t l) (behindOf d x s t) f
+    judging-stops : {f : Fault} (t : KeptText) (l : List Charge) (m : ℕ) → Blamed (judgedBy d x s h t l) (behindOf d x s t) f
         → judging bad d (meanings d) x s h t l m ≡ Not f
     judging-stops t l m (stops.at-first z) = rw (judged-halted (judgedBy d x s h t l) (tt {0}) m z)
     judging-stops t l m (stops.at-last c z) =
@@ -387,7 +389,7 @@ module _ (bad : Bool) (d : List ℕ) where
     inner-stops (stops.cut {m = m} {b = b} i e w z) =
         element-stops λ g o. rw (i, read-text 0 e, w, judged-halted (unknownAt (h .unknown) ∷ b .charges) (tt {0}) m z)
 
-    charged-stops : {f : Fault} {t : Text} {l : List Charge} {m : ℕ} → Inner bad d x s em n t l m
+    charged-stops : {f : Fault} {t : KeptText} {l : List Charge} {m : ℕ} → Inner bad d x s em n t l m
         → Blamed (judgedBy d x s h t l) (behindOf d x s t) f
         → ElementStops x s p f
     unfolding stretchFits

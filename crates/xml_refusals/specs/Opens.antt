@@ -24,7 +24,7 @@ use Rattle.pairs.proofs.Stands.{NameAt, stand-start, angle-start}
 use Rattle.tokens.specs.declared.Fault.{Fault}
 use Rattle.tokens.specs.rule.Gap.{fault}
 use Rattle.reading.specs.rule.Result.{Is, Not, Reader, bind}
-use Rattle.xml_reading.specs.rule.Open.{start, within, onBare, misplaced}
+use Rattle.xml_reading.specs.rule.Open.{start, withinElement, onBare, misplaced}
 use Rattle.xml_derivation_laws.specs.Stands as found
 use Rattle.xml_refusals.specs.Tags.{TagFaults, tag-refused-exactly}
 
@@ -40,12 +40,12 @@ pub record Whole (d : List ℕ) (e : ℕ) : Type 0 where
   pub alone : Bool
   pub mark : ℕ
   pub behind : ℕ
-  pub placed : Placed d [] [] [] 0 0 0 (tags.nothing e) held
+  pub placed : Placed d [] [] [] 0 0 0 (tags.nothingHeld e) held
   pub ended : Ended d (held .next) alone mark behind
 
 -- a start tag that is broken behind its name
 abbrev pub Broken : Bool → List ℕ → ℕ → ℕ → Fault → Type 0
-Broken bad d p e f = TagFaults bad d p [] [] [] 0 0 0 0 (tags.nothing e) f
+Broken bad d p e f = TagFaults bad d p [] [] [] 0 0 0 0 (tags.nothingHeld e) f
 
 -- a start tag that may not stand there
 pub data Misplaced (bad : Bool) (d : List ℕ) (p e : ℕ) : Fault → Type 0 where
@@ -82,11 +82,11 @@ module _ (bad : Bool) (d : List ℕ) where
       let s = stand-start bad d n p e f in
       (gap-exactly bad d n p .0 (s .gap), record { inside = s .inside; less = s .less; name = angle-start bad d p e (s .opens) })
 
-  pub opens-found : (w : List ℕ) {n p e : ℕ} → Gapped d n p → Opens d p e → within bad d w n ≡ Is (start p) e
-  unfolding within
+  pub opens-found : (w : List ℕ) {n p e : ℕ} → Gapped d n p → Opens d p e → withinElement bad d w n ≡ Is (start p) e
+  unfolding withinElement
   opens-found w g o = rw (opens-stands g o)
 
-  pub found-opens : (w : List ℕ) (n : ℕ) {p e : ℕ} → within bad d w n ≡ Is (start p) e → Opens d p e
+  pub found-opens : (w : List ℕ) (n : ℕ) {p e : ℕ} → withinElement bad d w n ≡ Is (start p) e → Opens d p e
   found-opens w n f = stands-opens n (found.at-start bad d w n f) .1
 
   -- ---- read for its form only

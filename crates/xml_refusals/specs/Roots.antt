@@ -19,7 +19,7 @@ use Rattle.angles.specs.declared.Angle.{Angle}
 use Rattle.angles.specs.declared.Angle.the-variants as angle
 use Rattle.tags.specs.rule.Tag.{isNamed}
 use Rattle.pairs.specs.declared.Stand.the-variants as stand
-use Rattle.pairs.specs.rule.Stand.{onChar, textOf, onAngle, standAt, onEnd, shutOf}
+use Rattle.pairs.specs.rule.Stand.{onTextChar, textStand, standAngle, standAt, standEnd, shutOf}
 use Rattle.pairs.proofs.Stands.{angle-start, angle-close, name-long}
 use Rattle.tokens.specs.declared.Fault.{Fault}
 use Rattle.tokens.specs.rule.Gap.{fault}
@@ -82,11 +82,11 @@ module _ (bad : Bool) (d : List ℕ) (k : ℕ) where
       named m o true i z = let j = close-named e a in never cc
       named m o false i z = let j : fault 50 k ≡ f = cc in moved j (end-tag l a o)
 
-      by : (r : Skip) → endOf bad d k e ≡ r → noRoot bad d (onEnd d k e [] r) ≡ Not f → NoRoot f
+      by : (r : Skip) → endOf bad d k e ≡ r → noRoot bad d (standEnd d k e [] r) ≡ Not f → NoRoot f
       by (skip.Past m) o z = named m o (isNamed d (k + 2) e []) refl z
       by (skip.Broken q) o z = let j : fault 50 q ≡ f = cc in moved j (broken-end l a o)
 
-    angle-seen : (a : Angle) → angleOf bad d k ≡ a → rooted bad d (onAngle k a) ≡ Not f → NoRoot f
+    angle-seen : (a : Angle) → angleOf bad d k ≡ a → rooted bad d (standAngle k a) ≡ Not f → NoRoot f
     angle-seen (angle.Start e) a z = start-seen e a z
     angle-seen (angle.Close e) a z = end-seen e a z
     angle-seen angle.Foreign a z = by (stands (60 ∷ 63 ∷ []) (drop k d)) refl z where
@@ -95,10 +95,10 @@ module _ (bad : Bool) (d : List ℕ) (k : ℕ) where
       by false i z = let j : fault 50 k ≡ f = cc in moved j (cdata l a i)
     angle-seen (angle.Broken q) a z = let j : fault 50 q ≡ f = cc in moved j (broken l a)
 
-  text-refused : rooted bad d (textOf d k) ≡ Not (fault 50 k)
-  unfolding textOf
+  text-refused : rooted bad d (textStand d k) ≡ Not (fault 50 k)
+  unfolding textStand
   text-refused = by (eqb (getD d k 0) 38) (referenceOf k (drop (k + 1) d)) where
-    by : (b : Bool) (c : Char) → rooted bad d (cond b (onChar k c) (stand.Text k)) ≡ Not (fault 50 k)
+    by : (b : Bool) (c : Char) → rooted bad d (cond b (onTextChar k c) (stand.Text k)) ≡ Not (fault 50 k)
     by true (char.Is x n) = refl
     by true char.Bad = refl
     by false c = refl
@@ -110,12 +110,12 @@ module _ (bad : Bool) (d : List ℕ) (k : ℕ) where
     texts h i r e z = let j : fault 50 k ≡ f = cc in moved j (text h i)
 
     by : (a b : Bool) → leb (length d) k ≡ a → eqb (getD d k 0) 60 ≡ b
-        → rooted bad d (cond a (stand.Broken k) (cond b (onAngle k (angleOf bad d k)) (textOf d k))) ≡ Not f → NoRoot f
+        → rooted bad d (cond a (stand.Broken k) (cond b (standAngle k (angleOf bad d k)) (textStand d k))) ≡ Not f → NoRoot f
     by true b h i z = let j : fault 50 k ≡ f = cc in moved j (over (leb-true (length d) k h))
     by false true h i z =
         angle-seen (record { inside = leb-false (length d) k h; less = eqb-true (getD d k 0) 60 i }) (angleOf bad d k) refl z
     by false false h i z =
-        texts (leb-false (length d) k h) (eqb-false (getD d k 0) 60 i) (rooted bad d (textOf d k)) text-refused z
+        texts (leb-false (length d) k h) (eqb-false (getD d k 0) 60 i) (rooted bad d (textStand d k)) text-refused z
 
   halted : {f : Fault} → NoRoot f → rooted bad d (standAt bad d k) ≡ Not f
   unfolding standAt shutOf

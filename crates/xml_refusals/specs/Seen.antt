@@ -15,7 +15,7 @@ use Rattle.tags.proofs.Exactly.{tag-exactly}
 use Rattle.pairs.proofs.Lies.{Lies}
 use Rattle.tokens.specs.declared.Fault.{Fault}
 use Rattle.tokens.specs.rule.Gap.{fault}
-use Rattle.survey.specs.rule.Survey.{Text}
+use Rattle.survey.specs.rule.Survey.{KeptText}
 use Rattle.reading.specs.rule.Result.{Result, Is, Not, Reader, bind}
 use Rattle.reading.specs.rule.Least.{Charge, named, Finding, clean, first, least, found, judged}
 use Rattle.bridge.specs.Lowest.{never}
@@ -23,7 +23,7 @@ use Rattle.elements.proofs.Bounds.{tag-within}
 use Rattle.grammar.specs.Faults.{Clean}
 use Rattle.grammar.specs.Refusal.{Lowest}
 use Rattle.grammar_laws.specs.Views.{judged-there, clean-both, clean-left, clean-right}
-use Rattle.xml_reading.specs.rule.Open.{Open, start, shut, within, unknownAt, misplaced, enter}
+use Rattle.xml_reading.specs.rule.Open.{Open, start, shut, withinElement, unknownAt, misplaced, enter}
 use Rattle.xml_reading.specs.rule.Open as stands
 use Rattle.xml_reading.specs.rule.Element.{Body, body}
 use Rattle.xml_grammar.specs.Grammar.{Element, Part, Holds, nothing, plain, number, texts, parts, typed, ruleOf, typedOf}
@@ -72,7 +72,7 @@ moved : {bad : Bool} {d : List ℕ} {x : _} {s : State} {n : ℕ} {f g : Fault} 
 moved e y = rw (← e) y
 
 -- an element that holds others is charged with no name or filter
-quiet : (d : List ℕ) (x : Element) (s : State) (t : Text) {k : _} {r : Holds} {l : List Part} → ruleOf x .holds ≡ r → Parts k r l
+quiet : (d : List ℕ) (x : Element) (s : State) (t : KeptText) {k : _} {r : Holds} {l : List Part} → ruleOf x .holds ≡ r → Parts k r l
     → Clean (behindOf d x s t)
 quiet d Sss s t i o = clean-none
 quiet d Date s t i o = clean-none
@@ -136,7 +136,7 @@ module _ (bad : Bool) (d : List ℕ) where
   tag-faults : (old : Bool) (x : Element) (p e : ℕ) {a b : ℕ} → tagBy bad d old (ruleOf x .attributes) p e ≡ tag.Fault a b
       → TagFaults bad d p (nameOf old (ruleOf x .attributes) 0) (nameOf old (ruleOf x .attributes) 1)
       (nameOf old (ruleOf x .attributes) 2) (formOf old (ruleOf x .attributes) 0) (formOf old (ruleOf x .attributes) 1)
-      (formOf old (ruleOf x .attributes) 2) (neededOf (ruleOf x .attributes)) (tags.nothing e) (fault a b)
+      (formOf old (ruleOf x .attributes) 2) (neededOf (ruleOf x .attributes)) (tags.nothingHeld e) (fault a b)
   tag-faults old x p e {a} {b} t =
       let l = ruleOf x .attributes in
       tag-refused-exactly bad d p e (nameOf old l 0) (nameOf old l 1) (nameOf old l 2) (formOf old l 0) (formOf old l 1) (formOf old l 2)
@@ -162,7 +162,7 @@ module _ (bad : Bool) (d : List ℕ) where
     GoSeen l = (s : State) (n : ℕ) (f : Fault) → fitOf d k l ≡ true → steps-by l .go s n ≡ Not f → Stops bad d (inside w l) s n f
 
     abbrev StartSeen : List Part → Type 0
-    StartSeen l = (s : State) (n p e : ℕ) (f : Fault) → fitOf d k l ≡ true → within bad d w n ≡ Is (start p) e
+    StartSeen l = (s : State) (n p e : ℕ) (f : Fault) → fitOf d k l ≡ true → withinElement bad d w n ≡ Is (start p) e
         → steps-by l .at s (start p) e ≡ Not f → AtStart l s p e f
 
     taken : {l b : List Part} {x : Element} {s : State} {p e : ℕ} {f : Fault} (K : State → Reader State) → Leads (s .manner .old) l x b
@@ -224,8 +224,9 @@ module _ (bad : Bool) (d : List ℕ) where
     module _ (q : Part) (x : Element) (l : List Part) (o : Passes q) (at : StartSeen l) (go : GoSeen l) where
       start-maybe : (s : State) (n p e : ℕ) (f : Fault) → Comes (s .manner .old) q x []
           → ((y : Element) (b : List Part) → Comes (s .manner .old) q y b → y ≡ x) → fitOf d k (q ∷ l) ≡ true
-          → within bad d w n ≡ Is (start p) e
-          → stands.either bad d (ruleOf x .word) (start p) (λ p n. bind (child g x s p n) (steps-by l .go)) (steps-by l .at s (start p)) e
+          → withinElement bad d w n ≡ Is (start p) e
+          → stands.eitherElement bad d (ruleOf x .word) (start p) (λ p n. bind (child g x s p n) (steps-by l .go))
+          (steps-by l .at s (start p)) e
           ≡ Not f
           → AtStart (q ∷ l) s p e f
       start-maybe s n p e f c u i t r = by (isNamed d (p + 1) e (ruleOf x .word)) refl r where
@@ -255,7 +256,8 @@ module _ (bad : Bool) (d : List ℕ) where
     unfolding steps
     start-newly x l at go s n p e f i t r = by (s .manner .old) refl r where
       by : (b : Bool) → s .manner .old ≡ b → cond b (steps-by l .at s (start p))
-          (stands.either bad d (ruleOf x .word) (start p) (λ p n. bind (child g x s p n) (steps-by l .go)) (steps-by l .at s (start p))) e
+          (stands.eitherElement bad d (ruleOf x .word) (start p) (λ p n. bind (child g x s p n) (steps-by l .go))
+          (steps-by l .at s (start p))) e
           ≡ Not f
           → AtStart (table.newly x ∷ l) s p e f
       by true o r =
@@ -286,7 +288,7 @@ module _ (bad : Bool) (d : List ℕ) where
             only v b (stops.Leads.later a h) = absurd (either-stays a refl)
 
     -- ---- what stands there, seen
-    settle : (l : List Part) (s : State) (n p e : ℕ) (f : Fault) → fitOf d k l ≡ true → within bad d w n ≡ Is (start p) e
+    settle : (l : List Part) (s : State) (n p e : ℕ) (f : Fault) → fitOf d k l ≡ true → withinElement bad d w n ≡ Is (start p) e
         → AtStart l s p e f → Stops bad d (inside w l) s n f
     settle l s n p e f i t (in-next {x = x} h o z) =
         let b = leads-fits d k h i .low in
@@ -296,7 +298,7 @@ module _ (bad : Bool) (d : List ℕ) where
         stops.behind h (found-gap bad d w t) (element-read bad d g x s p e v j (found-start bad d w n (ruleOf x .word) t o) z) r
     settle l s n p e f i t (none u m) = stops.other (found-gap bad d w t) (found-opens bad d w n t) u m
 
-    shut-seen : (l : List Part) (s : State) (n p m : ℕ) (f : Fault) → within bad d w n ≡ Is (shut p) m
+    shut-seen : (l : List Part) (s : State) (n p m : ℕ) (f : Fault) → withinElement bad d w n ≡ Is (shut p) m
         → steps-by l .at s (shut p) m ≡ Not f → Stops bad d (inside w l) s n f
     shut-seen l s n p m f t r =
         let y = found-end bad d w t in
@@ -304,9 +306,9 @@ module _ (bad : Bool) (d : List ℕ) where
         moved (o .1) (stops.too-early (y .0) (y .1) (o .0))
 
     look : (l : List Part) → StartSeen l → (s : State) (n : ℕ) (f : Fault) → fitOf d k l ≡ true
-        → bind (within bad d w n) (steps-by l .at s) ≡ Not f → Stops bad d (inside w l) s n f
-    look l at s n f i r = by (fails (within bad d w n) (steps-by l .at s) f r) where
-      by : Fails (within bad d w n) (steps-by l .at s) f → Stops bad d (inside w l) s n f
+        → bind (withinElement bad d w n) (steps-by l .at s) ≡ Not f → Stops bad d (inside w l) s n f
+    look l at s n f i r = by (fails (withinElement bad d w n) (steps-by l .at s) f r) where
+      by : Fails (withinElement bad d w n) (steps-by l .at s) f → Stops bad d (inside w l) s n f
       by (before a) = stops.no-tag (no-tag-exactly bad d w n f .0 a)
       by (behind (start p) e a c) = settle l s n p e f i a (at s n p e f i a c)
       by (behind (shut p) m a c) = shut-seen l s n p m f a c
@@ -316,7 +318,8 @@ module _ (bad : Bool) (d : List ℕ) where
       any-one : {old : Bool} (y : Element) (b : List Part) → Comes old (table.any x) y b → y ≡ x
       any-one y b derivation.Comes.any = refl
 
-      fewer-by : (s : State) (n : ℕ) {p e : ℕ} (t : State) (j : ℕ) → fitOf d k (table.any x ∷ l) ≡ true → within bad d w n ≡ Is (start p) e
+      fewer-by : (s : State) (n : ℕ) {p e : ℕ} (t : State) (j : ℕ) → fitOf d k (table.any x ∷ l) ≡ true → withinElement bad d w n
+          ≡ Is (start p) e
           → isNamed d (p + 1) e (ruleOf x .word) ≡ true → child g x s p e ≡ Is t j → left (ruleOf x .holds) t < left (ruleOf x .holds) s
       fewer-by s n {p} {e} t j i f o a =
           let y = element-read bad d g x s p e t j (found-start bad d w n (ruleOf x .word) f o) a in
@@ -326,13 +329,14 @@ module _ (bad : Bool) (d : List ℕ) where
           → loop bad d g w x l u s n ≡ Not f → Stops bad d (inside w (table.any x ∷ l)) s n f
       loop-seen zero s n f i h r = absurd (omega arith)
       loop-seen (suc u) s n f i h r =
-          on (loop-seen u) (fails (within bad d w n) turn f (sym (loop-by bad d g w x l u s n) ∙ r)) where
+          on (loop-seen u) (fails (withinElement bad d w n) turn f (sym (loop-by bad d g w x l u s n) ∙ r)) where
             turn : Open → Reader State
-            turn o = stands.either bad d (ruleOf x .word) o (λ p e. bind (child g x s p e) (loop bad d g w x l u)) (steps-by l .at s o)
+            turn o = stands.eitherElement bad d (ruleOf x .word) o (λ p e. bind (child g x s p e) (loop bad d g w x l u))
+                (steps-by l .at s o)
 
             on : ((s : State) (n : ℕ) (f : Fault) → fitOf d k (table.any x ∷ l) ≡ true → left (ruleOf x .holds) s < u
                 → loop bad d g w x l u s n ≡ Not f → Stops bad d (inside w (table.any x ∷ l)) s n f)
-                → Fails (within bad d w n) turn f → Stops bad d (inside w (table.any x ∷ l)) s n f
+                → Fails (withinElement bad d w n) turn f → Stops bad d (inside w (table.any x ∷ l)) s n f
             on ih (before a) = stops.no-tag (no-tag-exactly bad d w n f .0 a)
             on ih (behind (shut p) m a c) =
                 let y = found-end bad d w a in
@@ -402,7 +406,7 @@ module _ (bad : Bool) (d : List ℕ) where
         (omega (arith, b .1), b .2)
 
     -- judged once read
-    judging-seen : (y : Text) (c : List Charge) (m : ℕ) → judging bad d (meanings d) x s h y c m ≡ Not f
+    judging-seen : (y : KeptText) (c : List Charge) (m : ℕ) → judging bad d (meanings d) x s h y c m ≡ Not f
         → Blamed (judgedBy d x s h y c) (behindOf d x s y) f
     judging-seen y c m r = by (fails (judged (judgedBy d x s h y c) (tt {0}) m) (λ u. meaningOf d x .said s h y) f r) where
       by : Fails (judged (judgedBy d x s h y c) (tt {0}) m) (λ u. meaningOf d x .said s h y) f

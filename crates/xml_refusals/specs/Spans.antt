@@ -9,7 +9,7 @@ use lib.Dec.{leb, eqb}
 use lib.ListN.{length, drop, getD}
 use borrow.Author.Tests.{eq-eqb, ne-eqb, eqb-true, eqb-false, le-leb, lt-leb, leb-true, leb-false}
 use Rattle.markup.specs.rule.Bytes.{isWhite, stands, endFault}
-use Rattle.markup.specs.rule.Gap.{commentOf, moveOf, gapOf}
+use Rattle.markup.specs.rule.Gap.{xmlComment, moveOf, gapOf}
 use Rattle.markup.specs.rule.Reference.{referenceOf}
 use Rattle.markup.specs.declared.Char.{Char}
 use Rattle.markup.specs.declared.Char.the-variants as char
@@ -29,10 +29,10 @@ module _ (bad : Bool) (d : List ℕ) where
   -- ---- white space and comments from p on, up to a comment that is broken at q
   pub data GapStops : ℕ → ℕ → Type 0 where
     here : {p q : ℕ} → p < length d → isWhite (getD d p 0) ≡ false → stands note (drop p d) ≡ true
-        → commentOf bad p (p + 4) (drop (p + 4) d) ≡ Broken q → GapStops p q
+        → xmlComment bad p (p + 4) (drop (p + 4) d) ≡ Broken q → GapStops p q
     white : {p q : ℕ} → p < length d → isWhite (getD d p 0) ≡ true → GapStops (p + 1) q → GapStops p q
     past : {p n q : ℕ} → p < length d → isWhite (getD d p 0) ≡ false → stands note (drop p d) ≡ true
-        → commentOf bad p (p + 4) (drop (p + 4) d) ≡ Past n → GapStops n q → GapStops p q
+        → xmlComment bad p (p + 4) (drop (p + 4) d) ≡ Past n → GapStops n q → GapStops p q
 
   gap-halted : {p q : ℕ} → GapStops p q → gapOf bad d p ≡ Broken q
   gap-halted {p} {q} (here h i j r) = gap-stop bad d p (Broken q) (move-note bad d p h i j ∙ rw r)
@@ -48,7 +48,7 @@ module _ (bad : Bool) (d : List ℕ) where
 
         notes : ((p q : ℕ) → length d - p < u → gapOf bad d p ≡ Broken q → GapStops p q) → p < length d
             → isWhite (getD d p 0) ≡ false → stands note (drop p d) ≡ true → (r : Skip)
-            → commentOf bad p (p + 4) (drop (p + 4) d) ≡ r → GapStops p q
+            → xmlComment bad p (p + 4) (drop (p + 4) d) ≡ r → GapStops p q
         notes ih l i j (Past n) r =
             let m : moveOf bad p (drop p d) ≡ Go n = move-note bad d p l i j ∙ rw r in
             let k = move-less bad d p n m in
@@ -66,7 +66,7 @@ module _ (bad : Bool) (d : List ℕ) where
             let m = move-white bad d p l j in
             white l j (ih (p + 1) q (omega arith) (sym (gap-next bad d p (p + 1) m) ∙ e))
         by ih false false true i j k =
-            notes ih (leb-false (length d) p i) j k (commentOf bad p (p + 4) (drop (p + 4) d)) refl
+            notes ih (leb-false (length d) p i) j k (xmlComment bad p (p + 4) (drop (p + 4) d)) refl
         by ih false false false i j k = none (move-none bad d p (leb-false (length d) p i) j k)
 
   -- GAP: broken at q exactly so

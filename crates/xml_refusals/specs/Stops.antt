@@ -16,7 +16,7 @@ use Rattle.pairs.proofs.Lies.{Lies}
 use Rattle.pairs.proofs.Ends.{EndAt}
 use Rattle.tokens.specs.declared.Fault.{Fault}
 use Rattle.tokens.specs.rule.Gap.{fault}
-use Rattle.survey.specs.rule.Survey.{Text}
+use Rattle.survey.specs.rule.Survey.{KeptText}
 use Rattle.reading.specs.rule.Least.{Charge}
 use Rattle.grammar.specs.Faults.{Clean}
 use Rattle.grammar.specs.Refusal.{Lowest}
@@ -53,7 +53,7 @@ pub record AnyTag (d : List ℕ) (old : Bool) (l : List Attribute) (w : List ℕ
   pub opens : Opens d p behind-name
   pub name : Lies d p behind-name (60 ∷ w)
   pub placed : Placed d (nameOf old l 0) (nameOf old l 1) (nameOf old l 2) (formOf old l 0) (formOf old l 1) (formOf old l 2)
-      (tags.nothing behind-name) h
+      (tags.nothingHeld behind-name) h
   pub complete : missesOf (neededOf l) h ≡ false
   pub ended : Ended d (h .next) alone end m
 
@@ -63,10 +63,10 @@ pub record TagStops (bad : Bool) (d : List ℕ) (old : Bool) (l : List Attribute
   pub opens : Opens d p behind-name
   pub name : Lies d p behind-name (60 ∷ w)
   pub faults : TagFaults bad d p (nameOf old l 0) (nameOf old l 1) (nameOf old l 2) (formOf old l 0) (formOf old l 1) (formOf old l 2)
-      (neededOf l) (tags.nothing behind-name) f
+      (neededOf l) (tags.nothingHeld behind-name) f
 
 -- ---- what an element x holds behind its start tag, read: its text and what is charged in it
-pub data Inner (bad : Bool) (d : List ℕ) (x : Element) (s : State) (alone : Bool) (n : ℕ) : Text → List Charge → ℕ → Type 0 where
+pub data Inner (bad : Bool) (d : List ℕ) (x : Element) (s : State) (alone : Bool) (n : ℕ) : KeptText → List Charge → ℕ → Type 0 where
   empty : {l : List Charge} {m : ℕ} → ruleOf x .holds ≡ nothing → Voided bad d (ruleOf x .word) alone n l m
       → Inner bad d x s alone n noText l m
   text : {r : Holds} {mode m : ℕ} {b : Body} → ruleOf x .holds ≡ r → Texts (s .manner .languages) r mode
@@ -93,7 +93,7 @@ pub data Blamed (first last : List Charge) : Fault → Type 0 where
   at-last : {f : Fault} → Clean first → Lowest last f → Blamed first last f
 
 -- what may be charged by attributes and text, with the first attribute that isn't known, and what was charged in the text
-abbrev pub judgedBy : List ℕ → Element → State → Held → Text → List Charge → List Charge
+abbrev pub judgedBy : List ℕ → Element → State → Held → KeptText → List Charge → List Charge
 judgedBy d x s h t l = meaningOf d x .charges s h t ++ unknownAt (h .unknown) ∷ (meaningOf d x .also s h t ++ l)
 
 -- a start tag alone is a statement
@@ -108,7 +108,7 @@ pub data Stops (bad : Bool) (d : List ℕ) : Thing → State → ℕ → Fault �
   in-content : {x : Element} {s : State} {p q n : ℕ} {h : Held} {alone : Bool} {f : Fault}
       → AnyTag d (s .manner .old) (ruleOf x .attributes) (ruleOf x .word) p h alone q n → InnerStops bad d x s h alone n f
       → Stops bad d (the x) s p f
-  charged : {x : Element} {s : State} {p q n m : ℕ} {h : Held} {alone : Bool} {t : Text} {l : List Charge} {f : Fault}
+  charged : {x : Element} {s : State} {p q n m : ℕ} {h : Held} {alone : Bool} {t : KeptText} {l : List Charge} {f : Fault}
       → AnyTag d (s .manner .old) (ruleOf x .attributes) (ruleOf x .word) p h alone q n → Inner bad d x s alone n t l m
       → Blamed (judgedBy d x s h t l) (behindOf d x s t) f → Stops bad d (the x) s p f
   -- one that holds others: its start tag is charged; it ends with its start tag, "2 .. a tag's end"; in its parts; behind its end tag

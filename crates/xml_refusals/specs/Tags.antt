@@ -14,8 +14,8 @@ use Rattle.attributes.specs.rule.Attribute.{attributeOf}
 use Rattle.attributes.specs.declared.Attribute.{Attribute}
 use Rattle.attributes.specs.declared.Attribute.the-variants.{One, Shut, Faulty}
 use Rattle.attributes.proofs.Exactly.{Attributed, attribute-exactly, Ended, shut-exactly}
-use Rattle.tags.specs.rule.Tag.{isNamed, slotOf, formOf, stretchFits, placedOf, putOf, missesOf, shutOf, turned, turnOf, turnsOf}
-use Rattle.tags.specs.rule.Tag.{nothing, tagOf}
+use Rattle.tags.specs.rule.Tag.{isNamed, slotOf, formOf, stretchFits, placedOf, putOf, missesOf, shutTag, turned, turnOf, turnsOf}
+use Rattle.tags.specs.rule.Tag.{nothingHeld, tagOf}
 use Rattle.tags.specs.declared.Held.{Held}
 use Rattle.tags.specs.declared.Tag.{Tag}
 use Rattle.tags.specs.declared.Tag.the-variants as tag
@@ -119,7 +119,7 @@ module _ (bad : Bool) (d : List ℕ) (opened : ℕ) (x y z : List ℕ) (f g k re
 
   -- a turn that is over with a fault
   over-fault : (h : Held) {c : Fault} → turnOf bad d opened x y z f g k required h ≡ Over (tag.Fault (c .number) (c .place)) → TagFaults h c
-  unfolding turnOf shutOf
+  unfolding turnOf shutTag
   over-fault h {c} q = by (attributeOf bad d opened (h .next)) refl q where
     here : (b em : Bool) (p m : ℕ) → attributeOf bad d opened (h .next) ≡ Shut em p m → missesOf required h ≡ b
         → Over (cond b (tag.Fault 2 p) (tag.Read h em p m)) ≡ Over (tag.Fault (c .number) (c .place)) → TagFaults h c
@@ -169,7 +169,7 @@ module _ (bad : Bool) (d : List ℕ) (opened : ℕ) (x y z : List ℕ) (f g k re
       turns-next bad d opened x y z f g k required h i (rw (attribute-exactly bad d opened (h .next) .1 a) q) ∙ placed-over r o
 
   complete : {h : Held} {c : Fault} → TagFaults h c → turnsOf bad d opened x y z f g k required h ≡ tag.Fault (c .number) (c .place)
-  unfolding turnOf shutOf
+  unfolding turnOf shutTag
   complete (broken r o) = placed-over r (rw o)
   complete (ill {j = j} {n = n} {e = e} {v = v} {w = w} {m = m} r a i l) =
       let s = slotOf d n e x y z in
@@ -181,6 +181,6 @@ module _ (bad : Bool) (d : List ℕ) (opened : ℕ) (x y z : List ℕ) (f g k re
 -- TAG: it is refused with c exactly so
 pub tag-refused-exactly : (bad : Bool) (d : List ℕ) (opened at : ℕ) (x y z : List ℕ) (f g k required : ℕ) (c : Fault)
     → (tagOf bad d opened at x y z f g k required ≡ tag.Fault (c .number) (c .place))
-    ↔ TagFaults bad d opened x y z f g k required (nothing at) c
+    ↔ TagFaults bad d opened x y z f g k required (nothingHeld at) c
 tag-refused-exactly bad d opened at x y z f g k required c =
-    (sound bad d opened x y z f g k required (length d) (nothing at) c (omega arith), complete bad d opened x y z f g k required)
+    (sound bad d opened x y z f g k required (length d) (nothingHeld at) c (omega arith), complete bad d opened x y z f g k required)

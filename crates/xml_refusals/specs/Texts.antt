@@ -13,7 +13,7 @@ use borrow.Author.Tests.{ne-eqb, eqb-true, eqb-false, le-leb, lt-leb, leb-true, 
 use Rattle.signs.specs.declared.Sign.{Sign}
 use Rattle.markup.specs.rule.Bytes.{stands}
 use Rattle.markup.specs.rule.Reference.{referenceOf}
-use Rattle.markup.specs.rule.Gap.{commentOf}
+use Rattle.markup.specs.rule.Gap.{xmlComment}
 use Rattle.markup.specs.declared.Char.{Char}
 use Rattle.markup.specs.declared.Char.the-variants as char
 use Rattle.markup.specs.declared.Skip.{Skip}
@@ -31,10 +31,10 @@ use Rattle.pairs.specs.rule.Grammar.{Name, firstOf}
 use Rattle.pairs.specs.rule.Stand.{shutOf, bareOf}
 use Rattle.pairs.specs.rule.Pair.{pairOf}
 use Rattle.contents.specs.rule.Grammar.{br, text, lang}
-use Rattle.contents.specs.rule.Step.{modeIn, kindOf, knowing, stepOf, markAt, noteAt, startAt, breakAt, pairAt, languageAt, otherAt}
+use Rattle.contents.specs.rule.Step.{modeIn, stepKind, knowing, stepOf, markAt, noteAt, startAt, breakAt, pairAt, languageAt, otherAt}
 use Rattle.contents.specs.rule.Step.{closeAt}
-use Rattle.contents.specs.rule.Step.{bracketAt, returnAt, referAt, onChar, onNote, onPair, onBreak, onLanguage, onOther, onOut, onEnd}
-use Rattle.contents.specs.rule.Step.{onAngle, goOn, brokenAt}
+use Rattle.contents.specs.rule.Step.{bracketAt, returnAt, referAt, onChar, onNote, contentPair, onBreak, onLanguage, onOther, onOut, onEnd}
+use Rattle.contents.specs.rule.Step.{onAngle, goOnSaying, brokenAt}
 use Rattle.contents.specs.rule.Content.{begun, contentOf}
 use Rattle.contents.specs.declared.Going.{Going}
 use Rattle.contents.specs.declared.Said.the-variants as said
@@ -68,7 +68,7 @@ module _ (bad : Bool) (d : List ℕ) (m : ℕ) (w : List ℕ) where
 
   -- the start tag there is that of br (1), of text (2), where they may stand, or of neither
   abbrev pub kindAt : Going → ℕ → ℕ
-  kindAt g e = kindOf d (modeIn m (g .inside)) (g .next + 1) e
+  kindAt g e = stepKind d (modeIn m (g .inside)) (g .next + 1) e
 
   -- a br that is no pair yet
   pub record Breaks (g : Going) (e : ℕ) : Type 0 where
@@ -95,7 +95,7 @@ module _ (bad : Bool) (d : List ℕ) (m : ℕ) (w : List ℕ) where
     reference : g .next < length d → getD d (g .next) 0 ≡ 38 → referenceOf (g .next) (drop (g .next + 1) d) ≡ char.Bad
         → Halts g (content.Fault 50 (g .next))
     comment : {q : ℕ} → g .next < length d → getD d (g .next) 0 ≡ 60 → stands note (drop (g .next) d) ≡ true
-        → commentOf bad (g .next) (g .next + 4) (drop (g .next + 4) d) ≡ skip.Broken q → Halts g (content.Fault 50 q)
+        → xmlComment bad (g .next) (g .next + 4) (drop (g .next + 4) d) ≡ skip.Broken q → Halts g (content.Fault 50 q)
     broken : {q : ℕ} → Marked g (angle.Broken q) → Halts g (content.Fault 50 q)
     -- a start tag that is broken: of br, of text, of another; what follows that of br; an end tag, of text or of w, broken or another
     break-tag : {e : ℕ} {f : Fault} → Marked g (angle.Start e) → kindAt g e ≡ 1 → Broken bad d (g .next) e f
@@ -103,7 +103,7 @@ module _ (bad : Bool) (d : List ℕ) (m : ℕ) (w : List ℕ) where
     break-end : {e : ℕ} {f : Fault} (y : Breaks g e) → VoidStops bad d br false (y .tag .behind) f
         → Halts g (content.Fault (f .number) (f .place))
     language-tag : {e : ℕ} {f : Fault} → Marked g (angle.Start e) → kindAt g e ≡ 2
-        → TagFaults bad d (g .next) lang [] [] 0 0 0 1 (tags.nothing e) f → Halts g (content.Fault (f .number) (f .place))
+        → TagFaults bad d (g .next) lang [] [] 0 0 0 1 (tags.nothingHeld e) f → Halts g (content.Fault (f .number) (f .place))
     other-tag : {e : ℕ} {f : Fault} → Marked g (angle.Start e) → (kindAt g e ≡ 1 → ⊥) → (kindAt g e ≡ 2 → ⊥)
         → Broken bad d (g .next) e f → Halts g (content.Fault (f .number) (f .place))
     end-of-text : {e q : ℕ} → Marked g (angle.Close e) → g .inside ≡ true → shutOf bad d (g .next) e text ≡ skip.Broken q
@@ -126,7 +126,7 @@ module _ (bad : Bool) (d : List ℕ) (m : ℕ) (w : List ℕ) where
       whole : Whole d e
       whole = read-whole bad d (g .next) e r
 
-      pairs : em ≡ false → (v : Pair) → pairOf bad d n br ≡ v → onPair (knowing g (h .unknown)) v ≡ Over c → Halts g c
+      pairs : em ≡ false → (v : Pair) → pairOf bad d n br ≡ v → contentPair (knowing g (h .unknown)) v ≡ Over c → Halts g c
       pairs a (pair.Past j) v z = never cc
       pairs a (pair.Cut p) v z =
           let i : content.Cut p (firstOf (g .unknown) (h .unknown)) ≡ c = cc in
@@ -137,7 +137,8 @@ module _ (bad : Bool) (d : List ℕ) (m : ℕ) (w : List ℕ) where
           (void-refused-exactly bad d br false n (fault x y) .0 (rw v)))
 
       by : (b : Bool) → em ≡ b
-          → cond b (goOn (knowing g (h .unknown)) n said.Break) (onPair (knowing g (h .unknown)) (pairOf bad d n br)) ≡ Over c → Halts g c
+          → cond b (goOnSaying (knowing g (h .unknown)) n said.Break) (contentPair (knowing g (h .unknown)) (pairOf bad d n br)) ≡ Over c
+          → Halts g c
       by true a z = never cc
       by false a z = pairs a (pairOf bad d n br) refl z
 
@@ -189,7 +190,7 @@ module _ (bad : Bool) (d : List ℕ) (m : ℕ) (w : List ℕ) where
     unfolding markAt noteAt
     mark-seen h l z = by (stands note (drop (g .next) d)) refl z where
       notes : stands note (drop (g .next) d) ≡ true → (r : Skip)
-          → commentOf bad (g .next) (g .next + 4) (drop (g .next + 4) d) ≡ r → onNote g r ≡ Over c → Halts g c
+          → xmlComment bad (g .next) (g .next + 4) (drop (g .next + 4) d) ≡ r → onNote g r ≡ Over c → Halts g c
       notes i (skip.Past n) r z = never cc
       notes i (skip.Broken q) r z = let j : content.Fault 50 q ≡ c = cc in moved j (comment h l i r)
 
@@ -204,9 +205,9 @@ module _ (bad : Bool) (d : List ℕ) (m : ℕ) (w : List ℕ) where
           let j : content.Fault 50 q ≡ c = cc in moved j (broken (record { inside = h; less = l; no-note = i; opens = a }))
 
       by : (b : Bool) → stands note (drop (g .next) d) ≡ b
-          → cond b (onNote g (commentOf bad (g .next) (g .next + 4) (drop (g .next + 4) d)))
+          → cond b (onNote g (xmlComment bad (g .next) (g .next + 4) (drop (g .next + 4) d)))
           (onAngle bad d m w g (angleOf bad d (g .next))) ≡ Over c → Halts g c
-      by true i z = notes i (commentOf bad (g .next) (g .next + 4) (drop (g .next + 4) d)) refl z
+      by true i z = notes i (xmlComment bad (g .next) (g .next + 4) (drop (g .next + 4) d)) refl z
       by false i z = opened i (angleOf bad d (g .next)) refl z
 
     step-seen : stepOf bad d m w g ≡ Over c → Halts g c
@@ -222,7 +223,7 @@ module _ (bad : Bool) (d : List ℕ) (m : ℕ) (w : List ℕ) where
           refers h i char.Bad r z = let j : content.Fault 50 (g .next) ≡ c = cc in moved j (reference h i r)
 
           bracket : g .next < length d → b ≡ 93 → (q : Bool) → stands (93 ∷ 93 ∷ 62 ∷ []) (drop (g .next) d) ≡ q
-              → cond q (brokenAt (g .next)) (goOn g (g .next + 1) (said.Byte 93)) ≡ Over c → Halts g c
+              → cond q (brokenAt (g .next)) (goOnSaying g (g .next + 1) (said.Byte 93)) ≡ Over c → Halts g c
           bracket h i true r z = let j : content.Fault 50 (g .next) ≡ c = cc in moved j (brackets h i r)
           bracket h i false r z = never cc
 
@@ -230,9 +231,10 @@ module _ (bad : Bool) (d : List ℕ) (m : ℕ) (w : List ℕ) where
               → cond o (brokenAt (g .next))
               (cond p (markAt bad d m w g)
               (cond q (onChar g (referenceOf (g .next) (drop (g .next + 1) d)))
-              (cond r (cond (stands (93 ∷ 93 ∷ 62 ∷ []) (drop (g .next) d)) (brokenAt (g .next)) (goOn g (g .next + 1) (said.Byte 93)))
-              (cond s (goOn g (g .next + 1) (cond (stands (10 ∷ []) (drop (g .next + 1) d)) said.Nothing (said.Byte 10)))
-              (goOn g (g .next + 1) (said.Byte b)))))) ≡ Over c → Halts g c
+              (cond r (cond (stands (93 ∷ 93 ∷ 62 ∷ []) (drop (g .next) d)) (brokenAt (g .next))
+              (goOnSaying g (g .next + 1) (said.Byte 93)))
+              (cond s (goOnSaying g (g .next + 1) (cond (stands (10 ∷ []) (drop (g .next + 1) d)) said.Nothing (said.Byte 10)))
+              (goOnSaying g (g .next + 1) (said.Byte b)))))) ≡ Over c → Halts g c
           by true p q r s h i j k z =
               let v : content.Fault 50 (g .next) ≡ c = cc in moved v (over (leb-true (length d) (g .next) h))
           by false true q r s h i j k z = mark-seen (leb-false (length d) (g .next) h) (eqb-true b 60 i) z
@@ -249,7 +251,7 @@ module _ (bad : Bool) (d : List ℕ) (m : ℕ) (w : List ℕ) where
   marked-step {g} {a} o = rw (lt-leb (length d) (g .next) (o .inside), o .less, o .no-note, o .opens)
 
   break-step : {g : Going} {e : ℕ} (y : Breaks g e) → stepOf bad d m w g
-      ≡ onPair (knowing g (y .tag .held .unknown)) (pairOf bad d (y .tag .behind) br)
+      ≡ contentPair (knowing g (y .tag .held .unknown)) (pairOf bad d (y .tag .behind) br)
   unfolding startAt breakAt pairAt
   break-step {g} {e} y =
       marked-step (y .marked) ∙ rw (y .kind, whole-read bad d (g .next) (y .tag), y .unshut)

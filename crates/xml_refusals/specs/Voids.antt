@@ -25,15 +25,15 @@ use Rattle.tags.specs.declared.Tag.the-variants as tag
 use Rattle.pairs.specs.declared.Stand.{Stand}
 use Rattle.pairs.specs.declared.Stand.the-variants as stand
 use Rattle.pairs.specs.rule.Grammar.{Name}
-use Rattle.pairs.specs.rule.Stand.{onChar, textOf, onAngle, standAt, onGap, standOf, shutOf, bareOf}
-use Rattle.pairs.specs.rule.Pair.{onBare, missedOf, onShut, closedOf, onStand, pairOf}
+use Rattle.pairs.specs.rule.Stand.{onTextChar, textStand, standAngle, standAt, onGap, standOf, shutOf, bareOf}
+use Rattle.pairs.specs.rule.Pair.{pairBare, missedOf, pairShut, closedOf, onStand, pairOf}
 use Rattle.pairs.proofs.Ends.{PairAt, pair-exactly}
 use Rattle.tokens.specs.declared.Fault.{Fault}
 use Rattle.tokens.specs.rule.Gap.{fault}
 use Rattle.reading.specs.rule.Result.{Is, Not}
 use Rattle.reading.specs.rule.Least.{Charge}
 use Rattle.bridge.specs.Lowest.{never}
-use Rattle.xml_reading.specs.rule.Open.{unknownAt, onPair, within, opened}
+use Rattle.xml_reading.specs.rule.Open.{unknownAt, onPair, withinElement, opened}
 use Rattle.xml_reading.specs.rule.Open as stands
 use Rattle.xml_refusals.specs.Tags.{tag-refused-exactly}
 use Rattle.xml_refusals.specs.Opens.{Opens, Whole, Broken, opens-stands, stands-opens, whole-read, read-whole}
@@ -66,7 +66,7 @@ module _ (bad : Bool) (d w : List ℕ) where
 
   -- what is refused as no tag is refused so
   standing : (n : ℕ) (s : Stand) {f : Fault} → standOf bad d n ≡ s → opened bad d w s ≡ Not f → NoTag bad d w n f
-  unfolding within
+  unfolding withinElement
   standing n s {f} g e = no-tag-exactly bad d w n f .0 (rw g e)
 
   record ForeignAt (n p : ℕ) : Type 0 where
@@ -74,9 +74,9 @@ module _ (bad : Bool) (d w : List ℕ) where
     pub opens : angleOf bad d p ≡ angle.Foreign
 
   stands-foreign : (n : ℕ) {p : ℕ} → standOf bad d n ≡ stand.Foreign p → ForeignAt n p
-  unfolding standOf standAt textOf
+  unfolding standOf standAt textStand
   stands-foreign n {p} f = on (gapOf bad d n) refl f where
-    text-no : (q : ℕ) (b : Bool) (c : Char) → cond b (onChar q c) (stand.Text q) ≡ stand.Foreign p → ForeignAt n p
+    text-no : (q : ℕ) (b : Bool) (c : Char) → cond b (onTextChar q c) (stand.Text q) ≡ stand.Foreign p → ForeignAt n p
     text-no q true (char.Is c m) e = never cc
     text-no q true char.Bad e = never cc
     text-no q false c e = never cc
@@ -84,7 +84,7 @@ module _ (bad : Bool) (d w : List ℕ) where
     on : (r : Skip) → gapOf bad d n ≡ r → onGap bad d r ≡ stand.Foreign p → ForeignAt n p
     on (skip.Broken q) g e = never cc
     on (skip.Past q) g e = by (leb (length d) q) (eqb (getD d q 0) 60) refl refl e where
-      angles : leb (length d) q ≡ false → eqb (getD d q 0) 60 ≡ true → (a : Angle) → angleOf bad d q ≡ a → onAngle q a ≡ stand.Foreign p
+      angles : leb (length d) q ≡ false → eqb (getD d q 0) 60 ≡ true → (a : Angle) → angleOf bad d q ≡ a → standAngle q a ≡ stand.Foreign p
           → ForeignAt n p
       angles h i (angle.Start m) a e = never cc
       angles h i (angle.Close m) a e = never cc
@@ -101,7 +101,7 @@ module _ (bad : Bool) (d w : List ℕ) where
       angles h i (angle.Broken m) a e = never cc
 
       by : (x y : Bool) → leb (length d) q ≡ x → eqb (getD d q 0) 60 ≡ y
-          → cond x (stand.Broken q) (cond y (onAngle q (angleOf bad d q)) (textOf d q)) ≡ stand.Foreign p → ForeignAt n p
+          → cond x (stand.Broken q) (cond y (standAngle q (angleOf bad d q)) (textStand d q)) ≡ stand.Foreign p → ForeignAt n p
       by true y h i e = never cc
       by false true h i e = angles h i (angleOf bad d q) refl e
       by false false h i e = text-no q (eqb (getD d q 0) 38) (referenceOf q (drop (q + 1) d)) e
@@ -110,7 +110,7 @@ module _ (bad : Bool) (d w : List ℕ) where
   pair-read : (n : ℕ) {l : List Charge} {m : ℕ} → Name w → onPair bad d (pairOf bad d n w) ≡ Is l m → Voided false n l m
   unfolding pairOf missedOf closedOf
   pair-read n {l} {m} a e = on (standOf bad d n) refl e where
-    bare : (p k : ℕ) → standOf bad d n ≡ stand.Start p k → (t : Tag) → bareOf bad d p k ≡ t → onPair bad d (onBare p t) ≡ Is l m
+    bare : (p k : ℕ) → standOf bad d n ≡ stand.Start p k → (t : Tag) → bareOf bad d p k ≡ t → onPair bad d (pairBare p t) ≡ Is l m
         → Voided false n l m
     bare p k g (tag.Read h em q j) r e =
         let o = stands-opens bad d n g in
@@ -119,7 +119,7 @@ module _ (bad : Bool) (d w : List ℕ) where
         moved i v (cut (o .0) (o .1) (read-whole bad d p k r))
     bare p k g (tag.Fault x y) r e = never cc
 
-    shut : (p k : ℕ) → standOf bad d n ≡ stand.Close p k → (r : Skip) → shutOf bad d p k w ≡ r → onPair bad d (onShut r) ≡ Is l m
+    shut : (p k : ℕ) → standOf bad d n ≡ stand.Close p k → (r : Skip) → shutOf bad d p k w ≡ r → onPair bad d (pairShut r) ≡ Is l m
         → Voided false n l m
     shut p k g (skip.Past j) r e =
         let i : [] ≡ l = cc in
@@ -162,7 +162,7 @@ module _ (bad : Bool) (d w : List ℕ) where
   unfolding stands.nothing pairOf missedOf closedOf
   void-seen true n e = never cc
   void-seen false n {f} e = on (standOf bad d n) refl e where
-    bare : (p k : ℕ) → standOf bad d n ≡ stand.Start p k → (t : Tag) → bareOf bad d p k ≡ t → onPair bad d (onBare p t) ≡ Not f
+    bare : (p k : ℕ) → standOf bad d n ≡ stand.Start p k → (t : Tag) → bareOf bad d p k ≡ t → onPair bad d (pairBare p t) ≡ Not f
         → VoidStops false n f
     bare p k g (tag.Read h em q j) r e = never cc
     bare p k g (tag.Fault x y) r e =
@@ -170,7 +170,7 @@ module _ (bad : Bool) (d w : List ℕ) where
         let i : fault x y ≡ f = cc in
         stopped i (in-start (o .0) (o .1) (tag-refused-exactly bad d p k [] [] [] 0 0 0 0 (fault x y) .0 r))
 
-    shut : (p k : ℕ) → standOf bad d n ≡ stand.Close p k → (r : Skip) → shutOf bad d p k w ≡ r → onPair bad d (onShut r) ≡ Not f
+    shut : (p k : ℕ) → standOf bad d n ≡ stand.Close p k → (r : Skip) → shutOf bad d p k w ≡ r → onPair bad d (pairShut r) ≡ Not f
         → VoidStops false n f
     shut p k g (skip.Past j) r e = never cc
     shut p k g (skip.Broken q) r e =
@@ -186,11 +186,11 @@ module _ (bad : Bool) (d w : List ℕ) where
         let i : fault 50 p ≡ f = cc in stopped i (no-tag (standing n (stand.Broken p) g refl) (λ z. omega arith))
 
   void-halted : {em : Bool} {n : ℕ} {f : Fault} → VoidStops em n f → stands.nothing bad d w em n ≡ Not f
-  unfolding stands.nothing pairOf missedOf closedOf within
+  unfolding stands.nothing pairOf missedOf closedOf withinElement
   void-halted {f = f} (in-start {p = p} {e = e} g o y) =
       rw (opens-stands bad d g o, tag-refused-exactly bad d p e [] [] [] 0 0 0 0 f .1 y)
   void-halted {n = n} {f = f} (no-tag y z) = on (standOf bad d n) (no-tag-exactly bad d w n f .1 y) where
-    shut : (p : ℕ) (r : Skip) → stands.onShut p r ≡ Not f → onPair bad d (onShut r) ≡ Not f
+    shut : (p : ℕ) (r : Skip) → stands.onShut p r ≡ Not f → onPair bad d (pairShut r) ≡ Not f
     shut p (skip.Past j) e = never cc
     shut p (skip.Broken q) e = let i : fault 50 q ≡ f = cc in rw i
 

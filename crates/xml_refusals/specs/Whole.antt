@@ -17,7 +17,7 @@ use Rattle.prologs.specs.declared.Prolog.{Prolog}
 use Rattle.prologs.specs.declared.Prolog.the-variants as prolog
 use Rattle.prologs.specs.declared.Tail.{Tail}
 use Rattle.prologs.specs.declared.Tail.the-variants as tail
-use Rattle.prologs.specs.rule.Told.{declarationOf, headOf, tailOf}
+use Rattle.prologs.specs.rule.Told.{declarationOf, headOf, tailFrom}
 use Rattle.prologs.proofs.Whole.{Declared, declaration-exactly, Headed, head-exactly, Tailed, tail-exactly}
 use Rattle.tokens.specs.declared.Fault.{Fault}
 use Rattle.tokens.specs.rule.Gap.{fault}
@@ -27,9 +27,9 @@ use Rattle.bridge.specs.Lowest.{never}
 use Rattle.grammar.specs.Faults.{Clean}
 use Rattle.names.specs.rule.Standard.{nameFault}
 use Rattle.xml_reading.specs.rule.Word.{SSS}
-use Rattle.xml_reading.specs.rule.Sheet.{Survey, headed, root, cleared, sheet}
-use Rattle.xml_reading.specs.rule.Whole.{Built, Refusal, tableOf, fitting, namesOf, placeOf, judgeNames, settled, sheetOf}
-use Rattle.xml_reading.specs.rule.Whole.{declared, outcomeOf}
+use Rattle.xml_reading.specs.rule.Sheet.{XmlSurvey, headed, root, cleared, sheet}
+use Rattle.xml_reading.specs.rule.Whole.{Built, Refusal, xmlTable, xmlFitting, xmlNames, entryPlace, judgeXmlNames, xmlSettled, sheetOf}
+use Rattle.xml_reading.specs.rule.Whole.{declared, xmlOutcome}
 use Rattle.xml_grammar.specs.Grammar.{Sss}
 use Rattle.xml_grammar.specs.Reader.{element}
 use Rattle.xml_grammar.specs.Meaning.{State, meanings}
@@ -82,13 +82,13 @@ module _ (bad latin : Bool) (d : List ℕ) where
 
   tail-seen : (n m : ℕ) (t : State) {l : Bool} {k : ℕ} {f : Fault} → Headed bad latin d n (prolog.Read l k)
       → Told d (the Sss) (unsaid latin) k t m → last bad d t m ≡ Not f → SheetStops bad latin d n f
-  tail-seen n m t {f = f} h y e = on (tailOf bad d m) refl e where
-    on : (z : Tail) → tailOf bad d m ≡ z → bind (cleared bad d z m) (λ u n. Is (surveyOf t) n) ≡ Not f → SheetStops bad latin d n f
+  tail-seen n m t {f = f} h y e = on (tailFrom bad d m) refl e where
+    on : (z : Tail) → tailFrom bad d m ≡ z → bind (cleared bad d z m) (λ u n. Is (surveyOf t) n) ≡ Not f → SheetStops bad latin d n f
     on tail.Clean g e = never cc
     on (tail.Foul a b) g e =
         let i : fault a b ≡ f = cc in moved i (behind-root h y (tail-exactly bad d m (tail.Foul a b) .0 g))
 
-  abbrev behind-name : ℕ → Reader Survey
+  abbrev behind-name : ℕ → Reader XmlSurvey
   behind-name p n = bind (element bad d (meanings d) (depth bad d) Sss (unsaid latin) p n) (last bad d)
 
   sheet-seen : (n : ℕ) {f : Fault} → sheet bad d latin n ≡ Not f → SheetStops bad latin d n f
@@ -135,11 +135,11 @@ pub data Refused (d : List ℕ) (n : ℕ) : ℕ → ℕ → Type 0 where
   undeclared : {k q : ℕ} → length d ≤ 1048576 → Declared d (prolog.Fault k q) → Refused d n k q
   stopped : {latin : Bool} {p q : ℕ} {f : Fault} → length d ≤ 1048576 → Declared d (prolog.Read latin p) → firstBad latin d p ≡ q
       → SheetStops (ltb q (length d)) latin (take q d) p f → Refused d n (f .number) (f .place)
-  ill-named : {latin : Bool} {c : List Charge} {s : Survey} → Definition d latin c s → Clean c → s .manner .standard ≡ true
-      → nameFault (namesOf latin d (s .entries)) < length (s .entries)
-      → Refused d n 9 (placeOf (s .entries) (nameFault (namesOf latin d (s .entries))))
-  too-short : {latin : Bool} {c : List Charge} {s : Survey} → Definition d latin c s → Clean c → Named d latin s
-      → n < length (tableOf (s .entries)) → Refused d n 10 0
+  ill-named : {latin : Bool} {c : List Charge} {s : XmlSurvey} → Definition d latin c s → Clean c → s .manner .standard ≡ true
+      → nameFault (xmlNames latin d (s .entries)) < length (s .entries)
+      → Refused d n 9 (entryPlace (s .entries) (nameFault (xmlNames latin d (s .entries))))
+  too-short : {latin : Bool} {c : List Charge} {s : XmlSurvey} → Definition d latin c s → Clean c → Named d latin s
+      → n < length (xmlTable (s .entries)) → Refused d n 10 0
 
 module _ (d : List ℕ) (n : ℕ) where
   renumbered : {a b k q : ℕ} → Refusal a b ≡ Refusal k q → Refused d n a b → Refused d n k q
@@ -149,30 +149,31 @@ module _ (d : List ℕ) (n : ℕ) where
       rw (← i, ← j) y
 
   -- ---- what was derived with nothing charged: its names, and the lent table
-  module _ (latin : Bool) {c : List Charge} {s : Survey} (y : Definition d latin c s) (o : Clean c) {k q : ℕ} where
-    short-seen : Named d latin s → fitting n (s .entries) ≡ Refusal k q → Refused d n k q
-    unfolding fitting
-    short-seen m e = by (ltb n (length (tableOf (s .entries)))) refl e where
-      by : (b : Bool) → ltb n (length (tableOf (s .entries))) ≡ b → cond b (Refusal 10 0) (Built (s .entries)) ≡ Refusal k q
+  module _ (latin : Bool) {c : List Charge} {s : XmlSurvey} (y : Definition d latin c s) (o : Clean c) {k q : ℕ} where
+    short-seen : Named d latin s → xmlFitting n (s .entries) ≡ Refusal k q → Refused d n k q
+    unfolding xmlFitting
+    short-seen m e = by (ltb n (length (xmlTable (s .entries)))) refl e where
+      by : (b : Bool) → ltb n (length (xmlTable (s .entries))) ≡ b → cond b (Refusal 10 0) (Built (s .entries)) ≡ Refusal k q
           → Refused d n k q
-      by true h e = renumbered e (too-short y o m (ltb-true n (length (tableOf (s .entries))) h))
+      by true h e = renumbered e (too-short y o m (ltb-true n (length (xmlTable (s .entries))) h))
       by false h e = never cc
 
-    names-seen : (b : Bool) → s .manner .standard ≡ b → judgeNames latin d n b (s .entries) ≡ Refusal k q → Refused d n k q
-    unfolding judgeNames
+    names-seen : (b : Bool) → s .manner .standard ≡ b → judgeXmlNames latin d n b (s .entries) ≡ Refusal k q → Refused d n k q
+    unfolding judgeXmlNames
     names-seen false z e = short-seen (λ h. let i : true ≡ false = sym h ∙ z in never cc) e
     names-seen true z e = by (ltb i (length (s .entries))) refl e where
       i : ℕ
-      i = nameFault (namesOf latin d (s .entries))
+      i = nameFault (xmlNames latin d (s .entries))
 
-      by : (b : Bool) → ltb i (length (s .entries)) ≡ b → cond b (Refusal 9 (placeOf (s .entries) i)) (fitting n (s .entries)) ≡ Refusal k q
+      by : (b : Bool) → ltb i (length (s .entries)) ≡ b → cond b (Refusal 9 (entryPlace (s .entries) i)) (xmlFitting n (s .entries))
+          ≡ Refusal k q
           → Refused d n k q
       by true h e = renumbered e (ill-named y o z (ltb-true i (length (s .entries)) h))
       by false h e = short-seen (λ v. ltb-false i (length (s .entries)) h) e
 
-  settles : (latin : Bool) {c : List Charge} {s : Survey} → Definition d latin c s → Clean c
-      → outcomeOf d n ≡ judgeNames latin d n (s .manner .standard) (s .entries)
-  unfolding outcomeOf sheetOf
+  settles : (latin : Bool) {c : List Charge} {s : XmlSurvey} → Definition d latin c s → Clean c
+      → xmlOutcome d n ≡ judgeXmlNames latin d n (s .manner .standard) (s .entries)
+  unfolding xmlOutcome sheetOf
   settles latin (definition {n = p} h g c x) o =
       let q = legal-all latin d p c in
       let w : take (firstBad latin d p) d ≡ d = take-all (firstBad latin d p) d q in
@@ -191,7 +192,7 @@ module _ (d : List ℕ) (n : ℕ) where
     z : ℕ
     z = firstBad latin d p
 
-    on : (r : Result Survey) → sheet (ltb z (length d)) (take z d) latin p ≡ r → settled latin (take z d) n r ≡ Refusal k q
+    on : (r : Result XmlSurvey) → sheet (ltb z (length d)) (take z d) latin p ≡ r → xmlSettled latin (take z d) n r ≡ Refusal k q
         → Refused d n k q
     on (Is s m) f e =
         let y = sheet-derived (ltb z (length d)) latin (take z d) p s m f in
@@ -203,8 +204,8 @@ module _ (d : List ℕ) (n : ℕ) where
     on (Not v) f e =
         renumbered e (stopped h g refl (sheet-refused-exactly (ltb z (length d)) latin (take z d) p v .0 f))
 
-  refused-of : {k q : ℕ} → outcomeOf d n ≡ Refusal k q → Refused d n k q
-  unfolding outcomeOf
+  refused-of : {k q : ℕ} → xmlOutcome d n ≡ Refusal k q → Refused d n k q
+  unfolding xmlOutcome
   refused-of {k} {q} e = by (ltb 1048576 (length d)) refl e where
     on : (y : Prolog) → declarationOf d ≡ y → length d ≤ 1048576 → declared d n y ≡ Refusal k q → Refused d n k q
     on (prolog.Read latin p) g h e = sheet-of latin p h (declaration-exactly d (prolog.Read latin p) .0 g) e
@@ -214,8 +215,8 @@ module _ (d : List ℕ) (n : ℕ) where
     by true h e = renumbered e (too-long (ltb-true 1048576 (length d) h))
     by false h e = on (declarationOf d) refl (ltb-false 1048576 (length d) h) e
 
-  of-refused : {k q : ℕ} → Refused d n k q → outcomeOf d n ≡ Refusal k q
-  unfolding outcomeOf sheetOf judgeNames fitting
+  of-refused : {k q : ℕ} → Refused d n k q → xmlOutcome d n ≡ Refusal k q
+  unfolding xmlOutcome sheetOf judgeXmlNames xmlFitting
   of-refused (too-long h) = rw (lt-ltb 1048576 (length d) h)
   of-refused (undeclared {k} {q} h g) = rw (le-ltb 1048576 (length d) h, declaration-exactly d (prolog.Fault k q) .1 g)
   of-refused (stopped {latin} {p} {q} {f} h g z y) =
@@ -226,15 +227,15 @@ module _ (d : List ℕ) (n : ℕ) where
         sheet-refused-exactly (ltb q (length d)) latin (take q d) p f .1 y,
       )
   of-refused (ill-named {latin} {s = s} y o z h) =
-      settles latin y o ∙ rw (z, lt-ltb (nameFault (namesOf latin d (s .entries))) (length (s .entries)) h)
+      settles latin y o ∙ rw (z, lt-ltb (nameFault (xmlNames latin d (s .entries))) (length (s .entries)) h)
   of-refused (too-short {latin} {s = s} y o m h) = settles latin y o ∙ by (s .manner .standard) refl where
     i : ℕ
-    i = nameFault (namesOf latin d (s .entries))
+    i = nameFault (xmlNames latin d (s .entries))
 
-    by : (b : Bool) → s .manner .standard ≡ b → judgeNames latin d n b (s .entries) ≡ Refusal 10 0
-    by false z = rw (lt-ltb n (length (tableOf (s .entries))) h)
-    by true z = rw (le-ltb i (length (s .entries)) (m z), lt-ltb n (length (tableOf (s .entries))) h)
+    by : (b : Bool) → s .manner .standard ≡ b → judgeXmlNames latin d n b (s .entries) ≡ Refusal 10 0
+    by false z = rw (lt-ltb n (length (xmlTable (s .entries))) h)
+    by true z = rw (le-ltb i (length (s .entries)) (m z), lt-ltb n (length (xmlTable (s .entries))) h)
 
   -- THE FILE: a definition in XML is refused with number k at place q exactly so
-  pub refused-exactly : (k q : ℕ) → (outcomeOf d n ≡ Refusal k q) ↔ Refused d n k q
+  pub refused-exactly : (k q : ℕ) → (xmlOutcome d n ≡ Refusal k q) ↔ Refused d n k q
   refused-exactly k q = (refused-of, of-refused)

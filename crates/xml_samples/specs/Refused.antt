@@ -7,18 +7,18 @@ use Prim.Native.Nat.{ℕ, _<_}
 use Prim.Native.String.{String}
 use lib.ListN.{length}
 use borrow.Author.Tests.{lt-ltb}
-use Rattle.xml_reading.specs.rule.Whole.{Refusal, outcomeOf}
+use Rattle.xml_reading.specs.rule.Whole.{Refusal, xmlOutcome}
 use Rattle.xml_samples.specs.Bytes.{bytes}
 use Rattle.xml_samples.specs.Definitions.{definitions}
 
 -- 1: every text that is too long, whatever it says
-pub too-long : (d : List ℕ) (n : ℕ) → 1048576 < length d → outcomeOf d n ≡ Refusal 1 0
-unfolding outcomeOf
+pub too-long : (d : List ℕ) (n : ℕ) → 1048576 < length d → xmlOutcome d n ≡ Refusal 1 0
+unfolding xmlOutcome
 too-long d n h = rw (lt-ltb 1048576 (length d) h)
 
 -- the text that begins so and goes on with `fault` is refused with that number at the place of `fault`
 abbrev pub RefusedAt : ℕ → List ℕ → String → Type 0
-RefusedAt number begins fault = (n : ℕ) → outcomeOf (begins ++ bytes fault) n ≡ Refusal number (length begins)
+RefusedAt number begins fault = (n : ℕ) → xmlOutcome (begins ++ bytes fault) n ≡ Refusal number (length begins)
 
 -- behind the root's tag, of version 1.2 and of 1.1; behind the record's tag; behind `type="` of a first variable
 abbrev pub root : String → List ℕ

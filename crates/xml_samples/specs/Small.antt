@@ -3,7 +3,7 @@ use mathlib.Core.Path.{_≡_, refl}
 use mathlib.Core.List.{List, [], _∷_, _++_, map}
 use Prim.Native.Nat.{ℕ}
 use lib.IntN.{ℤ, pos}
-use Rattle.xml_reading.specs.rule.Whole.{Outcome, Built, Refusal, outcomeOf, tableOf}
+use Rattle.xml_reading.specs.rule.Whole.{XmlOutcome, Built, Refusal, xmlOutcome, xmlTable}
 use Rattle.xml_samples.specs.Bytes.{bytes}
 use Rattle.xml_samples.specs.Definitions.{definitions}
 
@@ -31,16 +31,16 @@ numbers =
     ++ (1 ∷ 0 ∷ 437 ∷ 1 ∷ [])
     ++ (2 ∷ 0 ∷ 462 ∷ 1 ∷ [])
 
-abbrev tableIn : Outcome → List ℤ
-tableIn (Built l) = tableOf l
+abbrev tableIn : XmlOutcome → List ℤ
+tableIn (Built l) = xmlTable l
 tableIn (Refusal n p) = []
 
 -- the serial, the logical that is the filter of the third, and the weight
-pub read-small : tableIn (outcomeOf small 94) ≡ map pos numbers
+pub read-small : tableIn (xmlOutcome small 94) ≡ map pos numbers
 unfolding definitions
 read-small = refl
 
 -- 10: one number less
-pub too-short : outcomeOf small 93 ≡ Refusal 10 0
+pub too-short : xmlOutcome small 93 ≡ Refusal 10 0
 unfolding definitions
 too-short = refl

@@ -6,7 +6,7 @@ use Prim.Native.Nat.{ℕ, suc, _+_, _-_, _<_, _≤_}
 use native.Mathlib.Omega.{arith}
 use lib.ListN.{length, take, drop, getD, length-drop}
 use lib.Seq.{split-at, getD-drop, drop-drop}
-use Rattle.utf.specs.rule.Chars.{legal, Spelt, Chars, none, more}
+use Rattle.utf.specs.rule.Chars.{legalCharacter, Spelt, Chars, none, more}
 use Rattle.utf.specs.rule.Chars as chars
 use Rattle.bridge.specs.Lowest.{never}
 
@@ -24,7 +24,7 @@ module _ (b : ℕ) (small : b < 128) where
   Splits l t = (u v : List ℕ) → t ≡ u ++ b ∷ v → Split l u v
 
   -- a character of one byte, and those behind it
-  one-byte : {l : Bool} {c : ℕ} (t : List ℕ) {cs : List ℕ} → legal c ≡ true → Spelt l c (c ∷ []) → Chars l cs t → Splits l t
+  one-byte : {l : Bool} {c : ℕ} (t : List ℕ) {cs : List ℕ} → legalCharacter c ≡ true → Spelt l c (c ∷ []) → Chars l cs t → Splits l t
       → Splits l (c ∷ t)
   one-byte t {cs} g w r ih [] v e =
       let f : t ≡ v = cc in record { before = []; after = cs; left = none; right = recast f r }
@@ -39,7 +39,7 @@ module _ (b : ℕ) (small : b < 128) where
         right = s .right;
       }
 
-  step : {l : Bool} {c : ℕ} {w : List ℕ} (t : List ℕ) {cs : List ℕ} → legal c ≡ true → Spelt l c w → Chars l cs t → Splits l t
+  step : {l : Bool} {c : ℕ} {w : List ℕ} (t : List ℕ) {cs : List ℕ} → legalCharacter c ≡ true → Spelt l c w → Chars l cs t → Splits l t
       → Splits l (w ++ t)
   step t g (chars.latin h) r ih u v e = one-byte t g (chars.latin h) r ih u v e
   step t g (chars.one h) r ih u v e = one-byte t g (chars.one h) r ih u v e

@@ -11,7 +11,7 @@ use lib.Seq.{length-take-le}
 use borrow.Author.Tests.{le-leb}
 use Rattle.contents.proofs.Exactly.{text-exactly, text-says}
 use Rattle.texts.specs.declared.Decoded.{Decoded}
-use Rattle.texts.specs.rule.Decode.{said, fitting}
+use Rattle.texts.specs.rule.Decode.{decodeSaid, decodeFitting}
 use Rattle.stretches.specs.rule.Stretch.{stretchText, stretchSigns, stretchAs}
 use Rattle.prologs.specs.declared.Prolog.the-variants as prolog
 use Rattle.prologs.specs.rule.Told.{isXml}
@@ -24,21 +24,21 @@ use Rattle.prologs.proofs.Whole as prologs
 use Rattle.scripts.specs.rule.Script.{latinOf}
 use Rattle.decoding.specs.rule.Both.{BothDecoded}
 use Rattle.decoding.specs.Both.{xml-both}
-use Rattle.survey.specs.rule.Survey.{Text, Line}
+use Rattle.survey.specs.rule.Survey.{KeptText, Line}
 use Rattle.survey.specs.rule.Table.{linesOf}
-use Rattle.xml_reading.specs.rule.Role.{Entry}
-use Rattle.xml_reading.specs.rule.Whole.{Built, outcomeOf}
+use Rattle.xml_reading.specs.rule.Role.{XmlEntry}
+use Rattle.xml_reading.specs.rule.Whole.{Built, xmlOutcome}
 use Rattle.xml_derivations.specs.Document.{document, definition, Taken, taken}
 use Rattle.xml_derivation_laws.specs.Whole.{taken-exactly}
 use Rattle.xml_text_laws.specs.Texts.{Stands, EntryStands, no-text, derived-good}
 
 -- the call decodes the text q of the definition d: whatever the list, its answer is that of the text's signs, and 3 is none
-pub record Decodes (d : List ℕ) (q : Text) : Type 0 where
+pub record Decodes (d : List ℕ) (q : KeptText) : Type 0 where
   pub stands : Stands (latinOf d) d q
   pub answers : {list list′ : List ℤ} {r : Decoded} → BothDecoded d (q .place) (q .length) list list′ r
-      → said r ≡ fitting (length list) (stands .text .signs)
+      → decodeSaid r ≡ decodeFitting (length list) (stands .text .signs)
 
-decodes-of : (d : List ℕ) (q : Text) → isXml d ≡ true → Stands (latinOf d) d q → Decodes d q
+decodes-of : (d : List ℕ) (q : KeptText) → isXml d ≡ true → Stands (latinOf d) d q → Decodes d q
 unfolding stretchAs stretchText stretchSigns
 decodes-of d q x s = record { stands = s; answers = λ {list} p. xml-both d (q .place) (q .length) x p .says ∙ decoded (length list) } where
   long : length (take (q .place + q .length) d) ≡ q .place + q .length
@@ -47,7 +47,7 @@ decodes-of d q x s = record { stands = s; answers = λ {list} p. xml-both d (q .
   there : q .place ≤ length (take (q .place + q .length) d)
   there = omega (arith, long)
 
-  decoded : (n : ℕ) → stretchAs (latinOf d) d (q .place) (q .length) n ≡ fitting n (s .text .signs)
+  decoded : (n : ℕ) → stretchAs (latinOf d) d (q .place) (q .length) n ≡ decodeFitting n (s .text .signs)
   decoded n =
       rw (
         le-leb (q .place + q .length) (length d) (s .within),
@@ -56,12 +56,12 @@ decodes-of d q x s = record { stands = s; answers = λ {list} p. xml-both d (q .
       )
 
 -- name, label and the texts of its lines
-pub record EntryDecodes (d : List ℕ) (v : Entry) : Type 0 where
+pub record EntryDecodes (d : List ℕ) (v : XmlEntry) : Type 0 where
   pub name : Decodes d (v .variable .name)
   pub label : Decodes d (v .variable .label)
   pub lines : (y : Line) → List·Memᴰ y (linesOf (v .variable)) → Decodes d (y .text)
 
-entry-decodes : (d : List ℕ) (v : Entry) → isXml d ≡ true → EntryStands (latinOf d) d v → EntryDecodes d v
+entry-decodes : (d : List ℕ) (v : XmlEntry) → isXml d ≡ true → EntryStands (latinOf d) d v → EntryDecodes d v
 entry-decodes d v x s = record {
   name = decodes-of d (v .variable .name) x (s .name);
   label = decodes-of d (v .variable .label) x (s .label);
@@ -93,7 +93,7 @@ root-behind (prologs.typed g b t h) =
     omega (arith, ahead t)
 
 -- a definition that is taken
-taken-stands : {d : List ℕ} {n : ℕ} {l : List Entry} → Taken d n l → (v : Entry) → List·Memᴰ v l → EntryStands (latinOf d) d v
+taken-stands : {d : List ℕ} {n : ℕ} {l : List XmlEntry} → Taken d n l → (v : XmlEntry) → List·Memᴰ v l → EntryStands (latinOf d) d v
 unfolding latinOf
 taken-stands {d} (taken {latin = latin} (definition {n = p} h g c (document {k = k} a y z)) o names long) v m =
     let e = declaration-exactly d (prolog.Read latin p) .1 g in
@@ -106,6 +106,6 @@ taken-stands {d} (taken {latin = latin} (definition {n = p} h g c (document {k =
     }) .0 .entries v m)
 
 -- every text of every variable that was read
-pub texts-decode : (d : List ℕ) (n : ℕ) (l : List Entry) → isXml d ≡ true → outcomeOf d n ≡ Built l → (v : Entry) → List·Memᴰ v l
+pub texts-decode : (d : List ℕ) (n : ℕ) (l : List XmlEntry) → isXml d ≡ true → xmlOutcome d n ≡ Built l → (v : XmlEntry) → List·Memᴰ v l
     → EntryDecodes d v
 texts-decode d n l x e v m = entry-decodes d v x (taken-stands (taken-exactly d n l .0 e) v m)

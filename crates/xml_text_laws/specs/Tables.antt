@@ -17,20 +17,20 @@ use Rattle.survey.specs.rule.Table as survey
 use Rattle.built.specs.Standing.{Stands, inside, columns-there, line-there}
 use Rattle.text_laws.specs.Tables.{nameOf, labelOf, textOf}
 use Rattle.prologs.specs.rule.Told.{isXml}
-use Rattle.xml_reading.specs.rule.Role.{Entry, variablesOf}
-use Rattle.xml_reading.specs.rule.Whole.{columnsFor, headerFor, rowsFrom, tableOf, Built, outcomeOf}
+use Rattle.xml_reading.specs.rule.Role.{XmlEntry, variablesOf}
+use Rattle.xml_reading.specs.rule.Whole.{columnsFor, xmlHeader, xmlRows, xmlTable, Built, xmlOutcome}
 use Rattle.xml_bridge.specs.Table.{rows-count}
 use Rattle.xml_text_laws.specs.Decoded.{Decodes, texts-decode}
 
 -- ---- variable i of those that were read
-pub record Entered (l : List Entry) (i : ℕ) : Type 0 where
-  pub before : List Entry
-  pub entry : Entry
-  pub behind : List Entry
+pub record Entered (l : List XmlEntry) (i : ℕ) : Type 0 where
+  pub before : List XmlEntry
+  pub entry : XmlEntry
+  pub behind : List XmlEntry
   pub is : l ≡ before ++ entry ∷ behind
   pub here : length before ≡ i
 
-entered : (l : List Entry) (i : ℕ) → i < length l → Entered l i
+entered : (l : List XmlEntry) (i : ℕ) → i < length l → Entered l i
 entered [] i h = absurd (omega arith)
 entered (v ∷ l) zero h = record { before = []; entry = v; behind = l; is = refl; here = refl }
 entered (v ∷ l) (suc i) h =
@@ -40,29 +40,29 @@ entered (v ∷ l) (suc i) h =
       before = v ∷ r .before;
       entry = r .entry;
       behind = r .behind;
-      is = ap (λ (m : List Entry). v ∷ m) (r .is);
+      is = ap (λ (m : List XmlEntry). v ∷ m) (r .is);
       here = omega arith;
     }
 
-among : (p : List Entry) (v : Entry) (q : List Entry) → List·Memᴰ v (p ++ v ∷ q)
+among : (p : List XmlEntry) (v : XmlEntry) (q : List XmlEntry) → List·Memᴰ v (p ++ v ∷ q)
 among [] v q = List·Memᴰ·head refl
 among (w ∷ p) v q = List·Memᴰ·tail (among p v q)
 
-inside-them : {l : List Entry} {i : ℕ} (r : Entered l i) → List·Memᴰ (r .entry) l
+inside-them : {l : List XmlEntry} {i : ℕ} (r : Entered l i) → List·Memᴰ (r .entry) l
 inside-them r =
-    subst (λ (m : List Entry). List·Memᴰ (r .entry) m) (sym (r .is)) (among (r .before) (r .entry) (r .behind))
+    subst (λ (m : List XmlEntry). List·Memᴰ (r .entry) m) (sym (r .is)) (among (r .before) (r .entry) (r .behind))
 
 -- ---- rows and lines of some variables, then of others
-rows-join : (b : ℕ) (p q : List Entry) → rowsFrom b (p ++ q) ≡ rowsFrom b p ++ rowsFrom (b + linesAll (variablesOf p)) q
-unfolding rowsFrom linesAll
+rows-join : (b : ℕ) (p q : List XmlEntry) → xmlRows b (p ++ q) ≡ xmlRows b p ++ xmlRows (b + linesAll (variablesOf p)) q
+unfolding xmlRows linesAll
 rows-join b [] q = let e : b + 0 ≡ b = omega arith in rw e
 rows-join b (v ∷ p) q =
     let n = length (linesOf (v .variable)) in
     let e : b + n + linesAll (variablesOf p) ≡ b + (n + linesAll (variablesOf p)) = omega arith in
-    rw (rows-join (b + n) p q, e) (sym (append-assoc (rowCells (columnsFor b v)) (rowsFrom (b + n) p)
-    (rowsFrom (b + (n + linesAll (variablesOf p))) q)))
+    rw (rows-join (b + n) p q, e) (sym (append-assoc (rowCells (columnsFor b v)) (xmlRows (b + n) p)
+    (xmlRows (b + (n + linesAll (variablesOf p))) q)))
 
-lines-join : (p q : List Entry) → allLines (variablesOf (p ++ q)) ≡ allLines (variablesOf p) ++ allLines (variablesOf q)
+lines-join : (p q : List XmlEntry) → allLines (variablesOf (p ++ q)) ≡ allLines (variablesOf p) ++ allLines (variablesOf q)
 unfolding allLines
 lines-join [] q = refl
 lines-join (v ∷ p) q =
@@ -110,13 +110,13 @@ lined (x ∷ l) (suc k) h =
     }
 
 -- ---- the table of these variables, laid over t
-module _ (t : List ℤ) (l : List Entry) where
+module _ (t : List ℤ) (l : List XmlEntry) where
   abbrev laid : List ℤ
-  laid = pasted t 0 (tableOf l)
+  laid = pasted t 0 (xmlTable l)
 
-  table-stands : Stands laid 0 (tableOf l)
+  table-stands : Stands laid 0 (xmlTable l)
   unfolding pasted
-  table-stands = record { front = []; rest = drop (0 + length (tableOf l)) t; is = refl; here = refl }
+  table-stands = record { front = []; rest = drop (0 + length (xmlTable l)) t; is = refl; here = refl }
 
   module _ {i : ℕ} (r : Entered l i) where
     abbrev own : Variable
@@ -126,26 +126,26 @@ module _ (t : List ℤ) (l : List Entry) where
     earlier = linesAll (variablesOf (r .before))
 
     row-stands : Stands laid (rowBase i) (rowCells (columnsFor earlier (r .entry)))
-    unfolding tableOf rowsFrom headerCells
+    unfolding xmlTable xmlRows headerCells
     row-stands =
-        let front = headerCells (headerFor l) in
-        let rows : Stands laid headerSize (rowsFrom 0 l) =
-        inside table-stands front (rowsFrom 0 l) (allLines (variablesOf l)) headerSize
-        (append-assoc front (rowsFrom 0 l) (allLines (variablesOf l))) refl in
+        let front = headerCells (xmlHeader l) in
+        let rows : Stands laid headerSize (xmlRows 0 l) =
+        inside table-stands front (xmlRows 0 l) (allLines (variablesOf l)) headerSize
+        (append-assoc front (xmlRows 0 l) (allLines (variablesOf l))) refl in
         let z : 0 + earlier ≡ earlier = omega arith in
-        inside rows (rowsFrom 0 (r .before)) (rowCells (columnsFor earlier (r .entry)))
-        (rowsFrom (earlier + length (linesOf own)) (r .behind)) (rowBase i)
-        (ap (rowsFrom 0) (r .is) ∙ rows-join 0 (r .before) (r .entry ∷ r .behind) ∙ rw z)
+        inside rows (xmlRows 0 (r .before)) (rowCells (columnsFor earlier (r .entry)))
+        (xmlRows (earlier + length (linesOf own)) (r .behind)) (rowBase i)
+        (ap (xmlRows 0) (r .is) ∙ rows-join 0 (r .before) (r .entry ∷ r .behind) ∙ rw z)
         (rw (rows-count 0 (r .before), r .here))
 
     lines-stand : Stands laid (lineBase (length l) earlier) (cellsOf (linesOf own))
-    unfolding tableOf allLines headerCells
+    unfolding xmlTable allLines headerCells
     lines-stand =
-        let front = headerCells (headerFor l) ++ rowsFrom 0 l in
+        let front = headerCells (xmlHeader l) ++ xmlRows 0 l in
         let own-lines = cellsOf (linesOf own) in
         let e : allLines (variablesOf l)
         ≡ allLines (variablesOf (r .before)) ++ (own-lines ++ allLines (variablesOf (r .behind))) =
-        ap (λ (m : List Entry). allLines (variablesOf m)) (r .is) ∙ lines-join (r .before) (r .entry ∷ r .behind) in
+        ap (λ (m : List XmlEntry). allLines (variablesOf m)) (r .is) ∙ lines-join (r .before) (r .entry ∷ r .behind) in
         inside table-stands (front ++ allLines (variablesOf (r .before))) own-lines (allLines (variablesOf (r .behind))) _
         (ap (λ (s : List ℤ). front ++ s) e
         ∙ sym (append-assoc front (allLines (variablesOf (r .before))) (own-lines ++ allLines (variablesOf (r .behind)))))
@@ -168,9 +168,9 @@ pub record RowTells (t : List ℤ) (v i : ℕ) (x : Variable) : Type 0 where
   pub lines : (k : ℕ) → k < length (linesOf x)
       → (y : Line) × List·Memᴰ y (linesOf x) × (textOf (lineAt t (lineBase v (columnsOf t i .before + k))) ≡ y .text)
 
-pub numbers-tell : (t : List ℤ) (l : List Entry) {i : ℕ} (r : Entered l i)
-    → RowTells (pasted t 0 (tableOf l)) (length l) i (r .entry .variable)
-unfolding columnsFor survey.columnsOf
+pub numbers-tell : (t : List ℤ) (l : List XmlEntry) {i : ℕ} (r : Entered l i)
+    → RowTells (pasted t 0 (xmlTable l)) (length l) i (r .entry .variable)
+unfolding columnsFor survey.variableColumns
 numbers-tell t l r =
     let c = columns-are t l r in
     record {
@@ -189,8 +189,9 @@ pub record RowDecodes (d : List ℕ) (t : List ℤ) (v i : ℕ) : Type 0 where
   pub lines : (k : ℕ) → k < columnsOf t i .lines → Decodes d (textOf (lineAt t (lineBase v (columnsOf t i .before + k))))
 
 -- TABLE: every text of a table that was read from XML, by its numbers
-pub rows-decode : (d : List ℕ) (t : List ℤ) (l : List Entry) → isXml d ≡ true → outcomeOf d (length t) ≡ Built l → (i : ℕ) → i < length l
-    → RowDecodes d (pasted t 0 (tableOf l)) (length l) i
+pub rows-decode : (d : List ℕ) (t : List ℤ) (l : List XmlEntry) → isXml d ≡ true → xmlOutcome d (length t) ≡ Built l → (i : ℕ) → i
+    < length l
+    → RowDecodes d (pasted t 0 (xmlTable l)) (length l) i
 rows-decode d t l x e i h =
     let r = entered l i h in
     let n = numbers-tell t l r in

@@ -18,12 +18,12 @@ use Rattle.pairs.proofs.Lies.{Lies, lies-within}
 use Rattle.contents.specs.rule.Grammar as contents
 use Rattle.contents.proofs.Exactly.{ContentAt, wider}
 use Rattle.contents.proofs.Exactly as stretches
-use Rattle.survey.specs.rule.Survey.{Text, Line}
+use Rattle.survey.specs.rule.Survey.{KeptText, Line}
 use Rattle.survey.specs.rule.Table.{linesOf}
 use Rattle.reading.specs.rule.Least.{Charge}
 use Rattle.reading.specs.rule.Variable.{Sort, Single, Multiple, Quantity, Character, Logical}
 use Rattle.elements.proofs.Bounds.{tag-within}
-use Rattle.xml_reading.specs.rule.Role.{Entry}
+use Rattle.xml_reading.specs.rule.Role.{XmlEntry}
 use Rattle.xml_grammar.specs.Grammar.{Element, Holds, typed, ruleOf}
 use Rattle.xml_grammar.specs.Grammar.{Sss, Date, Time, Origin, User, Survey, SurveyName, SurveyVersion, Title, Record}
 use Rattle.xml_grammar.specs.Grammar.{Variable, Name, Label, Position, Filter, Spread, Size, Values, Range, Value}
@@ -38,7 +38,7 @@ use Rattle.xml_derivation_laws.specs.Whole.{legal-end}
 use Rattle.xml_text_laws.specs.Boundaries.{chars-split, chars-behind}
 
 -- ---- a stretch of the file that is content as of a label
-pub record Stands (latin : Bool) (d : List ℕ) (q : Text) : Type 0 where
+pub record Stands (latin : Bool) (d : List ℕ) (q : KeptText) : Type 0 where
   pub within : q .place + q .length ≤ length d
   pub text : stretches.TextAt latin (take (q .place + q .length) d) (q .place)
 
@@ -53,7 +53,7 @@ module _ (latin : Bool) (d : List ℕ) where
 
   -- legal characters that are pieces of a text
   stands-of : (n k : ℕ) {u cs : List ℕ} {ss : List Sign} → Lies d n (n + k) u → n + k ≤ length d → Chars latin cs u
-      → contents.Text latin 2 n u ss 0 → Stands latin d (record { place = n; length = k })
+      → contents.ContentText latin 2 n u ss 0 → Stands latin d (record { place = n; length = k })
   stands-of n k {u} {cs} {ss} l h c t =
       let e = cut-bytes n k u l h in
       let f = length-take-le (n + k) d h in
@@ -113,20 +113,20 @@ module _ (latin : Bool) (d : List ℕ) where
       let o = lies-within l h in
       (stands-of n (e - n) (rw i l) (omega arith) (s .left) (wider (c .text)), omega arith)
 
-  text-stands : {mode : ℕ} {w : List ℕ} {em : Bool} {n m : ℕ} {t : Text} {cs : List ℕ} → TextAt latin d mode w em n t m → n ≤ length d
+  text-stands : {mode : ℕ} {w : List ℕ} {em : Bool} {n m : ℕ} {t : KeptText} {cs : List ℕ} → TextAt latin d mode w em n t m → n ≤ length d
       → Chars latin cs (drop n d) → Stands latin d t × (n ≤ m)
   text-stands {n = n} tags.TextAt.alone h k = (none-stands n (n - n) (omega arith) h, omega arith)
   text-stands (tags.ended c) h k = content-stands c h k
 
   -- ---- what is known
-  pub record EntryStands (v : Entry) : Type 0 where
+  pub record EntryStands (v : XmlEntry) : Type 0 where
     pub name : Stands latin d (v .variable .name)
     pub label : Stands latin d (v .variable .label)
     pub lines : (y : Line) → List·Memᴰ y (linesOf (v .variable)) → Stands latin d (y .text)
 
   pub record Good (s : State) : Type 0 where
     pub script : s .manner .latin ≡ latin
-    pub entries : (v : Entry) → List·Memᴰ v (s .entries) → EntryStands v
+    pub entries : (v : XmlEntry) → List·Memᴰ v (s .entries) → EntryStands v
     pub name : Stands latin d (s .name)
     pub label : Stands latin d (s .label)
     pub lines : (y : Line) → List·Memᴰ y (s .block .lines) → Stands latin d (y .text)
@@ -135,7 +135,7 @@ module _ (latin : Bool) (d : List ℕ) where
       → (y : A) → List·Memᴰ y (l ++ x ∷ []) → P y
   one-more l g o y m = ⊎-elim (g y) (λ i. let e = List·Memᴰ·eq-of-singleton i in rw e o) (List·Memᴰ·append-cases l m)
 
-  says-good : (x : Element) (s : State) (h : Held) (t : Text) → Good s → Stands latin d noText → Stands latin d t
+  says-good : (x : Element) (s : State) (h : Held) (t : KeptText) → Good s → Stands latin d noText → Stands latin d t
       → Good (saysOf d x s h t)
   says-good Sss s h t g e o = record {
     script = g .script;

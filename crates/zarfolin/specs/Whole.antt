@@ -13,11 +13,11 @@ use Rattle.sound.specs.rule.Rows.{rowsOf}
 use Rattle.record_values.specs.declared.Whole.{Whole}
 use Rattle.record_values.specs.declared.Whole.the-variants as whole
 use Rattle.record_values.specs.rule.Record as rows
-use Rattle.record_values.specs.rule.Record.{membersOf, fourOf, RecordRead}
+use Rattle.record_values.specs.rule.Record.{membersOf, fourOf, RecordRead, cellOf, flagOf}
 use Rattle.record_values.specs.Room.{list-room}
 use Rattle.record_values.specs.Record.{startOf, row-numbers, row-members, usable}
 use Rattle.zarfolin.specs.declared.Told.{Told}
-use Rattle.zarfolin.specs.rule.Face.{cellOf, flagOf, outcomeCells, Telling, ValueTold}
+use Rattle.zarfolin.specs.rule.Face.{outcomeCells, Telling, ValueTold}
 use Rattle.zarfolin.specs.rule.Whole.{wholeCells, WholeTold}
 
 -- "just those that read_value answers for it, but for a set: kind, count, and in the fourth where its members start in the list"

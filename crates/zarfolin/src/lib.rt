@@ -7,12 +7,12 @@ ghost use lib.IntN.{pos};
 ghost use Rattle.fields.specs.rule.Field as field;
 ghost use Rattle.fields.specs.rule.Field.{missing, members};
 ghost use Rattle.faults.specs.rule.Fault.{faultNumber};
-ghost use Rattle.record_values.specs.rule.Record.{faultCell};
+ghost use Rattle.record_values.specs.rule.Record.{faultCell, cellOf, flagOf};
 ghost use Rattle.records.specs.rule.Verdict.{judgedAs};
 ghost use Rattle.records.specs.rule.Value.{said};
 ghost use Rattle.files.specs.rule.File.{fileSaid};
 ghost use Rattle.writes.specs.rule.Public.{Written};
-ghost use Rattle.zarfolin.specs.rule.Face.{cellOf, flagOf, Telling};
+ghost use Rattle.zarfolin.specs.rule.Face.{Telling};
 ghost use Rattle.zarfolin.specs.rule.Face.{RecordTold, ValueTold, FileTold, DefinitionTold, NextTold};
 ghost use Rattle.zarfolin.specs.rule.Face.{verdictCells, outcomeCells, faultCells, fileCells, nextCells, definitionCells};
 ghost use Rattle.zarfolin.specs.rule.Face as face;
@@ -103,7 +103,7 @@ fn tell_five(answer: &mut [i64; 5], c: Told, last: i64) -> u64
 
 // A number with nothing beside it.
 fn bare(number: u64) -> Told
-    ensures { λ r. ⌜ r ≡ face.bare number ⌝ }
+    ensures { λ r. ⌜ r ≡ face.toldAlone number ⌝ }
 {
     Told {
         number,
@@ -343,7 +343,7 @@ fn next_cells(n: Next) -> Told
 }
 
 fn text_cells(a: Decoded) -> Told
-    ensures { λ r. ⌜ r ≡ textCells (texts.said a) ⌝ }
+    ensures { λ r. ⌜ r ≡ textCells (texts.decodeSaid a) ⌝ }
 {
     match a {
         Decoded::Signs(n) => with_one(0, cell(n)),
@@ -674,7 +674,7 @@ pub extern "C" fn zarfolin_normal(table: &[i64], bytes: &mut [u8], answer: &mut 
 }
 
 fn mend_cells(m: Mended) -> Told
-    ensures { λ r. ⌜ r ≡ mendCells (mends.said m) ⌝ }
+    ensures { λ r. ⌜ r ≡ mendCells (mends.mendSaid m) ⌝ }
 {
     match m {
         Mended::Done { bytes, entries } => Told {

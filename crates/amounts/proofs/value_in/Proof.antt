@@ -10,7 +10,7 @@ use lib.Dec.{ltb}
 use mathlib.Core.List.{_++_}
 use Rattle.scan.specs.rule.Number.{decimalOf}
 use Rattle.scan.specs.Number.{capped}
-use Rattle.reading.specs.rule.Token.{amountOf, leading, behind, without}
+use Rattle.reading.specs.rule.Token.{amountRead, leading, afterPoint, without}
 use Rattle.amounts.proofs.Hears.{size-both, some-both}
 use Rattle.amounts.proofs.value_in.Statement.{statement}
 use Rattle.amounts.proofs.value_in.Tie as tie
@@ -31,16 +31,16 @@ is-over-requires : tie.Need-is-over-requires
 is-over-requires c κs = c .read-digits2 .ensures .0
 
 returns : tie.Need-returns
-unfolding amountOf
+unfolding amountRead
 returns c =
     λ cs h.
     let a = c .before .before .before .before .before .before .find-mark .ensures .1 cs h in
     let u : List ℕ = without 45 cs in
     let b = c .before .before .before .before .before .read-digits .ensures .2 u (a .1) in
-    let e = c .before .before .before .before .find-mark2 .ensures .1 (behind u) (b .2) in
-    let t : List ℕ = without 46 (behind u) in
+    let e = c .before .before .before .before .find-mark2 .ensures .1 (afterPoint u) (b .2) in
+    let t : List ℕ = without 46 (afterPoint u) in
     let f = c .before .before .before .read-digits2 .ensures .2 t (e .1) in
-    let g = c .before .before .is-over .ensures (behind t) (f .2) in
+    let g = c .before .before .is-over .ensures (afterPoint t) (f .2) in
     let z = f .0 ∙ ap (λ (x : ℕ). capped (decimalOf x (leading t))) (b .0) ∙ size-both (leading u) (leading t) in
     rw (a .0, b .1, e .0, f .1, g, z) (rw (some-both (leading u) (leading t)))
 

@@ -4,14 +4,14 @@ use mathlib.Core.Path.{_≡_}
 use mathlib.Core.Bool.{cond}
 use mathlib.Core.List.{List}
 use lib.Dec.{ltb}
-use Rattle.below.specs.rule.Table.{tableOf}
+use Rattle.below.specs.rule.Table.{tabulated}
 
 abbrev pub tenTo : ℕ → ℕ
 tenTo k = 10 ^ k
 
 -- the table of the powers of ten from 0 to 15
 abbrev pub Tens : List ℕ → Type 0
-Tens l = l ≡ tableOf tenTo 16
+Tens l = l ≡ tabulated tenTo 16
 
 -- the least j from k on, within f tries, with n < 10 ^ j
 unfoldable pub countFrom : ℕ → ℕ → ℕ → ℕ

@@ -8,7 +8,7 @@ use lib.ListN.{length, drop, getD}
 use Rattle.scan.specs.rule.Loop.{Next, Again, Done, loopOf}
 use Rattle.markup.specs.rule.Bytes.{ofKind, runOf, startsName, endFault}
 use Rattle.markup.specs.rule.Reference.{referenceOf}
-use Rattle.markup.specs.rule.Gap.{nextOf}
+use Rattle.markup.specs.rule.Gap.{nextMove}
 use Rattle.markup.specs.rule.Grammar.{Ref}
 use Rattle.markup.specs.declared.Char.{Char}
 use Rattle.markup.specs.declared.Char.the-variants.{Is, Bad}
@@ -20,9 +20,9 @@ use Rattle.attributes.specs.declared.Attribute.{Attribute}
 use Rattle.attributes.specs.declared.Attribute.the-variants.{One, Shut, Faulty}
 
 -- a reference at p: past it, or 50 at its &
-abbrev pub onChar : ℕ → Char → Move
-onChar p (Is c n) = Go n
-onChar p Bad = Stop (Broken p)
+abbrev pub onValueChar : ℕ → Char → Move
+onValueChar p (Is c n) = Go n
+onValueChar p Bad = Stop (Broken p)
 
 -- one step of a value: the quote that ends it, <, a reference, or any other byte
 unfoldable pub valueMove : Bool → ℕ → ℕ → List ℕ → ℕ → Move
@@ -30,11 +30,11 @@ valueMove bad opened quote d p =
     cond (leb (length d) p) (Stop (Broken (endFault bad p opened)))
     (cond (eqb (getD d p 0) quote) (Stop (Past p))
     (cond (eqb (getD d p 0) 60) (Stop (Broken p))
-    (cond (eqb (getD d p 0) 38) (onChar p (referenceOf p (drop (p + 1) d))) (Go (p + 1)))))
+    (cond (eqb (getD d p 0) 38) (onValueChar p (referenceOf p (drop (p + 1) d))) (Go (p + 1)))))
 
 -- the place of the quote that ends a value
 unfoldable pub quotedOf : Bool → ℕ → ℕ → List ℕ → ℕ → Skip
-quotedOf bad opened quote d p = loopOf (λ p. nextOf (valueMove bad opened quote d p)) (Past 0) (suc (length d - p)) p
+quotedOf bad opened quote d p = loopOf (λ p. nextMove (valueMove bad opened quote d p)) (Past 0) (suc (length d - p)) p
 
 abbrev pub runAt : ℕ → List ℕ → ℕ → ℕ
 runAt kind d p = runOf (ofKind kind) p (drop p d)
@@ -76,7 +76,7 @@ unfoldable pub attributeOf : Bool → List ℕ → ℕ → ℕ → Attribute
 attributeOf bad d opened at = behindOf bad d opened at (runAt 0 d at)
 
 -- ---- a value's bytes as XML has them: references, and bytes other than its quote, < and &
-pub data Value (quote : ℕ) : List ℕ → Type 0 where
-  empty : Value quote []
-  plain : {b : ℕ} {s : List ℕ} → (b ≡ quote → ⊥) → (b ≡ 60 → ⊥) → (b ≡ 38 → ⊥) → Value quote s → Value quote (b ∷ s)
-  refer : {c : ℕ} {u s : List ℕ} → Ref u c → Value quote s → Value quote (38 ∷ u ++ s)
+pub data AttributeValue (quote : ℕ) : List ℕ → Type 0 where
+  empty : AttributeValue quote []
+  plain : {b : ℕ} {s : List ℕ} → (b ≡ quote → ⊥) → (b ≡ 60 → ⊥) → (b ≡ 38 → ⊥) → AttributeValue quote s → AttributeValue quote (b ∷ s)
+  refer : {c : ℕ} {u s : List ℕ} → Ref u c → AttributeValue quote s → AttributeValue quote (38 ∷ u ++ s)

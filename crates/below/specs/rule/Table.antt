@@ -8,5 +8,5 @@ unfoldable pub tableFrom : (ℕ → ℕ) → ℕ → ℕ → List ℕ
 tableFrom f i zero = []
 tableFrom f i (suc n) = f i ∷ tableFrom f (suc i) n
 
-abbrev pub tableOf : (ℕ → ℕ) → ℕ → List ℕ
-tableOf f n = tableFrom f 0 n
+abbrev pub tabulated : (ℕ → ℕ) → ℕ → List ℕ
+tabulated f n = tableFrom f 0 n

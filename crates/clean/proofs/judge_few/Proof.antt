@@ -9,7 +9,7 @@ use Rattle.layout.specs.rule.Layout.{lineBase, mostRows, mostLines}
 use Rattle.values.specs.Room.{holds}
 use Rattle.values.proofs.Rooms.{unless-on, unless-told}
 use Rattle.laying.specs.Code.{zeros}
-use Rattle.definition.specs.rule.Against.{againstOf}
+use Rattle.definition.specs.rule.Against.{sssAgainst}
 use Rattle.definition.specs.Books.{Outcome, outcomeIn}
 use Rattle.definition.proofs.Bridge.{heldIn, against-same}
 use Rattle.definition.proofs.Wholes.{rooms-fit, held-says}
@@ -38,7 +38,7 @@ compare-requires c κs =
     (omega arith, (s .few, rooms-fit _ _ _ _ s))
 
 returns : tie.Need-returns
-unfolding againstOf outcomeIn
+unfolding sssAgainst outcomeIn
 returns c =
     let start = c .before .before .before .before .before .before .before .before .before .before .before .before .before .before .before
     .before .before .before .before .before in
@@ -52,7 +52,7 @@ returns c =
     (rw e (c .compare .ensures ∙ held-says _ _ _ _ (w .stands g) t)))
 
 returns-2 : tie.Need-returns-2
-unfolding againstOf outcomeIn heldIn
+unfolding sssAgainst outcomeIn heldIn
 returns-2 c =
     let start = c .before .before .before .before .before .before .before .before .before .before .before .before .before .before .before
     .before .before in

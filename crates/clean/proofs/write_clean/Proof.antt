@@ -4,7 +4,7 @@ use borrow.Author.Needs.{needs}
 use lib.ListN.{length}
 use Rattle.fronts.specs.Front.{wholeText}
 use Rattle.clean.specs.declared.Written.the-variants as written
-use Rattle.clean.specs.rule.Written.{fitted, writtenOf, outAfter}
+use Rattle.clean.specs.rule.Written.{cleanFitted, cleanWritten, outAfter}
 use Rattle.clean.specs.Law.{too-large, too-short, fits, stored}
 use Rattle.clean.proofs.write_clean.Statement.{statement}
 use Rattle.clean.proofs.write_clean.Tie as tie
@@ -13,14 +13,14 @@ measure-requires : tie.Need-measure-requires
 measure-requires c κs = (c .before .before .before .classes .ensures, c .before .before .powers .ensures)
 
 returns : tie.Need-returns
-unfolding writtenOf outAfter
+unfolding cleanWritten outAfter
 returns c =
     let e = too-large _ (length (c .before .before .before .before .before .before .before .before .args .out .now)) _
     (c .before .measure .ensures) (c .if1 .taken) in
     (rw e, rw e)
 
 returns-2 : tie.Need-returns-2
-unfolding writtenOf outAfter
+unfolding cleanWritten outAfter
 returns-2 c =
     let e = too-short _ (length (c .before .before .before .before .before .before .before .before .before .args .out .now)) _
     (c .before .before .measure .ensures) (c .before .if1 .left) (c .if2 .taken) in
@@ -39,7 +39,7 @@ same-length : tie.Need-same-length
 same-length c = c .before .before .send-clean .ensures .room
 
 returns-3 : tie.Need-returns-3
-unfolding writtenOf outAfter
+unfolding cleanWritten outAfter
 returns-3 c =
     let e = fits _
     (length (c .before .before .before .before .before .before .before .before .before .before .before .before .before .before .before .args

@@ -3,8 +3,8 @@ use native.Mathlib.Omega.{arith}
 use borrow.Author.Needs.{needs}
 use lib.ListN.{length}
 use Rattle.definition.specs.declared.Against.the-variants.{Same}
-use Rattle.definition.specs.rule.Against.{againstOf}
-use Rattle.clean.specs.rule.Written.{writingOf, writtenOf, outAfter}
+use Rattle.definition.specs.rule.Against.{sssAgainst}
+use Rattle.clean.specs.rule.Written.{writingOf, cleanWritten, outAfter}
 use Rattle.clean.specs.Law.{same-clean, same-most}
 use Rattle.clean.proofs.write_definition.Statement.{statement}
 use Rattle.clean.proofs.write_definition.Tie as tie
@@ -18,7 +18,7 @@ returns : tie.Need-returns
 unfolding writingOf
 returns c =
     let a = c .before .before .before .before .before .before .before .before .before .args in
-    let e : againstOf (a .d .now) (a .t .now) ≡ Same = sym (c .before .before .before .before .before .before .judge .ensures)
+    let e : sssAgainst (a .d .now) (a .t .now) ≡ Same = sym (c .before .before .before .before .before .before .judge .ensures)
     ∙ c .before .before .before .before .enum-told .given .1 in
     let f = same-clean (a .d .now) (a .t .now) (length (a .out .now)) e in
     record {
@@ -28,13 +28,13 @@ returns c =
     }
 
 returns-2 : tie.Need-returns-2
-unfolding writingOf writtenOf outAfter
+unfolding writingOf cleanWritten outAfter
 returns-2 c =
     let e = sym (c .before .before .judge .ensures) ∙ c .enum-told2 .given .1 in
     record { says = rw e; leaves = rw e }
 
 returns-3 : tie.Need-returns-3
-unfolding writingOf writtenOf outAfter
+unfolding writingOf cleanWritten outAfter
 returns-3 c =
     let e = sym (c .before .before .before .judge .ensures) ∙ c .before .number .given .1 in
     record { says = rw e; leaves = rw e }

@@ -4,13 +4,13 @@ use borrow.Author.Needs.{needs}
 use lib.ListN.{length}
 use Rattle.fronts.specs.Front.{wholeText}
 use Rattle.clean.specs.declared.Written.the-variants as written
-use Rattle.clean.specs.rule.Written.{writtenOf, outAfter}
+use Rattle.clean.specs.rule.Written.{cleanWritten, outAfter}
 use Rattle.clean.specs.Law.{ample-stored}
 use Rattle.clean.proofs.write_once.Statement.{statement}
 use Rattle.clean.proofs.write_once.Tie as tie
 
 returns : tie.Need-returns
-unfolding writtenOf outAfter
+unfolding cleanWritten outAfter
 returns c =
     let start = c .before .before .before .before .before .before .before .before .before .before in
     let d = start .args .d .now in

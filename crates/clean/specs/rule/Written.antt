@@ -13,7 +13,7 @@ use Rattle.reading.specs.rule.Result.{Result, Is, Not}
 use Rattle.reading.specs.rule.Whole.{surveyOf}
 use Rattle.definition.specs.declared.Against.{Against}
 use Rattle.definition.specs.declared.Against.the-variants.{Same, Other, Refused}
-use Rattle.definition.specs.rule.Against.{againstOf}
+use Rattle.definition.specs.rule.Against.{sssAgainst}
 use Rattle.clean_text.specs.rule.Clean.{cleanOf}
 use Rattle.clean.specs.declared.Written.{Written}
 use Rattle.clean.specs.declared.Written.the-variants as written
@@ -23,27 +23,27 @@ pub data Writing : Type 0 where
   Refusal : ℕ → ℕ → Writing
 
 -- a text for an output of n bytes: "Exactly 1,048,576 bytes is no 41; 41 before 42; an exact fit is enough."
-unfoldable pub fitted : ℕ → List ℕ → Writing
-fitted n s = cond (ltb 1048576 (length s)) (Refusal 41 0) (cond (ltb n (length s)) (Refusal 42 0) (Text s))
+unfoldable pub cleanFitted : ℕ → List ℕ → Writing
+cleanFitted n s = cond (ltb 1048576 (length s)) (Refusal 41 0) (cond (ltb n (length s)) (Refusal 42 0) (Text s))
 
 -- the clean text of what the definition says
 abbrev pub cleaned : List ℕ → ℕ → Result Survey → Writing
-cleaned d n (Is s m) = fitted n (cleanOf d s)
+cleaned d n (Is s m) = cleanFitted n (cleanOf d s)
 cleaned d n (Not f) = Refusal (f .number) (f .place)
 
 -- "1 to 9 come first, with their place; 40, 41, 42 with 0"
-abbrev pub judgedAs : List ℕ → ℕ → Against → Writing
-judgedAs d n Same = cleaned d n (surveyOf d)
-judgedAs d n Other = Refusal 40 0
-judgedAs d n (Refused number place) = Refusal number place
+abbrev pub judgedAgainst : List ℕ → ℕ → Against → Writing
+judgedAgainst d n Same = cleaned d n (surveyOf d)
+judgedAgainst d n Other = Refusal 40 0
+judgedAgainst d n (Refused number place) = Refusal number place
 
 unfoldable pub writingOf : List ℕ → List ℤ → ℕ → Writing
-writingOf d t n = judgedAs d n (againstOf d t)
+writingOf d t n = judgedAgainst d n (sssAgainst d t)
 
 -- ---- what the call answers, and what the output then holds
-unfoldable pub writtenOf : Writing → Written
-writtenOf (Text s) = written.Done (length s)
-writtenOf (Refusal number place) = written.Refused number place
+unfoldable pub cleanWritten : Writing → Written
+cleanWritten (Text s) = written.Done (length s)
+cleanWritten (Refusal number place) = written.Refused number place
 
 unfoldable pub outAfter : Writing → List ℕ → List ℕ
 outAfter (Text s) out = s ++ drop (length s) out
@@ -51,5 +51,5 @@ outAfter (Refusal number place) out = out
 
 -- THE PROMISE of the call: the answer, and the output afterwards
 pub record DefinitionWritten (d : List ℕ) (t : List ℤ) (out out′ : List ℕ) (a : Written) : Type 0 where
-  pub says : a ≡ writtenOf (writingOf d t (length out))
+  pub says : a ≡ cleanWritten (writingOf d t (length out))
   pub leaves : out′ ≡ outAfter (writingOf d t (length out)) out

@@ -8,19 +8,19 @@ use Rattle.signs.specs.declared.Sign.{Sign}
 use Rattle.scan.specs.rule.Text.{text}
 use Rattle.marks.specs.declared.Inside.the-variants.{Plain}
 use Rattle.marks.specs.rule.Spelling.{decodeOf}
-use Rattle.survey.specs.rule.Survey.{Text, Heading, Survey}
+use Rattle.survey.specs.rule.Survey.{KeptText, Heading, Survey}
 use Rattle.survey.specs.rule.Table.{tableOf}
 use Rattle.reading.specs.rule.Result.{Is}
 use Rattle.reading.specs.rule.Whole.{surveyOf}
-use Rattle.definition.specs.rule.Definition.{Built, Refusal, outcomeOf}
+use Rattle.definition.specs.rule.Definition.{Built, Refusal, sssOutcome}
 
 -- ---- the heading's texts, decoded. A sign is a byte or a break
-abbrev pub signsOf : List ℕ → Text → List Sign
-signsOf d t = decodeOf Plain 0 (text d (t .place))
+abbrev pub textSigns : List ℕ → KeptText → List Sign
+textSigns d t = decodeOf Plain 0 (text d (t .place))
 
-abbrev pub perhapsSigns : List ℕ → Option Text → Option (List Sign)
+abbrev pub perhapsSigns : List ℕ → Option KeptText → Option (List Sign)
 perhapsSigns d none = none
-perhapsSigns d (some t) = some (signsOf d t)
+perhapsSigns d (some t) = some (textSigns d t)
 
 -- DATE, TIME, ORIGIN, USER, TITLE
 unfoldable pub headTexts : List ℕ → Heading → List (Option (List Sign))
@@ -32,5 +32,5 @@ headTexts d h =
 pub record Reads (d : List ℕ) (s : Survey) : Type 0 where
   pub end : ℕ
   pub says : surveyOf d ≡ Is s end
-  pub built : (n : ℕ) → length (tableOf (s .variables)) ≤ n → outcomeOf d n ≡ Built (s .variables)
-  pub no-room : (n : ℕ) → n < length (tableOf (s .variables)) → outcomeOf d n ≡ Refusal 10 0
+  pub built : (n : ℕ) → length (tableOf (s .variables)) ≤ n → sssOutcome d n ≡ Built (s .variables)
+  pub no-room : (n : ℕ) → n < length (tableOf (s .variables)) → sssOutcome d n ≡ Refusal 10 0

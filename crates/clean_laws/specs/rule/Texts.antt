@@ -8,7 +8,7 @@ use lib.Dec.{leb, ltb}
 use Rattle.ascii.specs.rule.Class.{within}
 use Rattle.layout.specs.rule.Layout.{headerSize, rowSize, lineSize}
 use Rattle.signs.specs.declared.Sign.{Sign}
-use Rattle.survey.specs.rule.Survey.{Text, Variable}
+use Rattle.survey.specs.rule.Survey.{KeptText, Variable}
 use Rattle.survey.specs.rule.Table.{linesOf}
 use Rattle.texts.specs.rule.Decode.{signsAt}
 
@@ -20,7 +20,7 @@ unfoldable pub textAt : ℕ → ℕ → Bool
 textAt v k = cond (ltb k headerSize) false (ofText v (k - headerSize))
 
 -- ---- the texts of a row and its lines, as `zarfolin_decode_text` gives them (crate `texts`)
-abbrev pub decodedText : List ℕ → Text → List Sign
+abbrev pub decodedText : List ℕ → KeptText → List Sign
 decodedText d t = signsAt d (t .place) (t .length)
 
 unfoldable pub decodedTexts : List ℕ → Variable → List (List Sign)

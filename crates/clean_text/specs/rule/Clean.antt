@@ -10,7 +10,7 @@ use Rattle.fields.specs.rule.Number.{padded}
 use Rattle.statements.specs.rule.Words.{SSS, VERSION, ONE-ONE, DATE, TIME, ORIGIN, USER, STANDARD, NAMES, SURVEY, TITLE, RECORD, VARIABLE}
 use Rattle.statements.specs.rule.Words.{NAME, LABEL, TYPE, SINGLE, MULTIPLE, QUANTITY, CHARACTER, LOGICAL, POSITION, TO, SPREAD, OF, SIZE}
 use Rattle.statements.specs.rule.Words.{VALUES, WITH, SPECIAL, END}
-use Rattle.survey.specs.rule.Survey.{Figure, Amount, Text, Range, Line, Block, Spread, Content, single, multiple, quantity, character}
+use Rattle.survey.specs.rule.Survey.{Figure, Amount, KeptText, Range, Line, Block, Spread, Content, single, multiple, quantity, character}
 use Rattle.survey.specs.rule.Survey.{logical}
 use Rattle.survey.specs.rule.Survey.{Variable, Heading, Survey}
 use Rattle.clean_text.specs.rule.Span.{spanOf}
@@ -24,9 +24,9 @@ lineOf [] = 13 ∷ 10 ∷ []
 lineOf (w ∷ []) = w ++ (13 ∷ 10 ∷ [])
 lineOf (w ∷ v ∷ ws) = w ++ (32 ∷ lineOf (v ∷ ws))
 
-unfoldable pub textOf : List (List Token) → List ℕ
-textOf [] = []
-textOf (l ∷ ls) = lineOf l ++ textOf ls
+unfoldable pub cleanText : List (List Token) → List ℕ
+cleanText [] = []
+cleanText (l ∷ ls) = lineOf l ++ cleanText ls
 
 -- a count "in plain digits"
 unfoldable pub plainDigits : ℕ → Token
@@ -34,20 +34,20 @@ plainDigits n = padded (digitsOf n) n
 
 module _ (d : List ℕ) where
   -- ---- tokens as they stand in d
-  abbrev pub figure : Figure → Token
-  figure x = spanOf d (x .place) (x .end)
+  abbrev pub figureToken : Figure → Token
+  figureToken x = spanOf d (x .place) (x .end)
 
-  abbrev pub amount : Amount → Token
-  amount a = spanOf d (a .place) (a .end)
+  abbrev pub amountToken : Amount → Token
+  amountToken a = spanOf d (a .place) (a .end)
 
   -- "the kept bytes between the quotes, every brace form as read"
-  abbrev pub quoted : Text → Token
-  quoted t = 34 ∷ spanOf d (t .place) (t .place + t .length) ++ 34 ∷ []
+  abbrev pub quotedToken : KeptText → Token
+  quotedToken t = 34 ∷ spanOf d (t .place) (t .place + t .length) ++ 34 ∷ []
 
   -- a statement that may be absent: its word and its text
-  abbrev pub perhaps : Token → Option Text → List (List Token)
+  abbrev pub perhaps : Token → Option KeptText → List (List Token)
   perhaps w none = []
-  perhaps w (some t) = (w ∷ quoted t ∷ []) ∷ []
+  perhaps w (some t) = (w ∷ quotedToken t ∷ []) ∷ []
 
   -- ---- VALUES: "the range with its WITH; each value line with its SPECIAL"
   abbrev pub marked : Bool → Token → List Token
@@ -55,7 +55,7 @@ module _ (d : List ℕ) where
   marked false w = []
 
   abbrev pub valueLine : Line → List Token
-  valueLine l = amount (l .value) ∷ quoted (l .text) ∷ marked (l .special) SPECIAL
+  valueLine l = amountToken (l .value) ∷ quotedToken (l .text) ∷ marked (l .special) SPECIAL
 
   abbrev pub someLine : List Line → Bool
   someLine [] = false
@@ -63,7 +63,7 @@ module _ (d : List ℕ) where
 
   abbrev pub rangeLine : Option Range → List Line → List (List Token)
   rangeLine none ls = []
-  rangeLine (some r) ls = (amount (r .from) ∷ TO ∷ amount (r .to) ∷ marked (someLine ls) WITH) ∷ []
+  rangeLine (some r) ls = (amountToken (r .from) ∷ TO ∷ amountToken (r .to) ∷ marked (someLine ls) WITH) ∷ []
 
   unfoldable pub valuesLines : Block → List (List Token)
   valuesLines b = (VALUES ∷ []) ∷ rangeLine (b .range) (b .lines) ++ map valueLine (b .lines) ++ (END ∷ VALUES ∷ []) ∷ []
@@ -76,11 +76,11 @@ module _ (d : List ℕ) where
   -- "OF for every spread (an added one in plain digits)": the positions of each
   abbrev pub spreadWidth : ℕ → Option Figure → Token
   spreadWidth each none = plainDigits each
-  spreadWidth each (some w) = figure w
+  spreadWidth each (some w) = figureToken w
 
   abbrev pub spreadLine : ℕ → Option Spread → List (List Token)
   spreadLine n none = []
-  spreadLine n (some s) = (SPREAD ∷ figure (s .count) ∷ OF ∷ spreadWidth (n / s .count .value) (s .width) ∷ []) ∷ []
+  spreadLine n (some s) = (SPREAD ∷ figureToken (s .count) ∷ OF ∷ spreadWidth (n / s .count .value) (s .width) ∷ []) ∷ []
 
   abbrev pub typeWord : Content → Token
   typeWord (single b) = SINGLE
@@ -93,17 +93,17 @@ module _ (d : List ℕ) where
   contentLines n (single b) = valuesLines b
   contentLines n (multiple s b) = spreadLine n s ++ valuesLines b
   contentLines n (quantity b) = valuesLines b
-  contentLines n (character x) = (SIZE ∷ figure x ∷ []) ∷ []
+  contentLines n (character x) = (SIZE ∷ figureToken x ∷ []) ∷ []
   contentLines n logical = []
 
   -- "TO for every POSITION (an added one repeats the start as it stands: `05 TO 05`)"
   unfoldable pub variableLines : Variable → List (List Token)
   variableLines v =
-      (VARIABLE ∷ figure (v .ident) ∷ [])
-      ∷ (NAME ∷ quoted (v .name) ∷ [])
-      ∷ (LABEL ∷ quoted (v .label) ∷ [])
+      (VARIABLE ∷ figureToken (v .ident) ∷ [])
+      ∷ (NAME ∷ quotedToken (v .name) ∷ [])
+      ∷ (LABEL ∷ quotedToken (v .label) ∷ [])
       ∷ (TYPE ∷ typeWord (v .content) ∷ [])
-      ∷ (POSITION ∷ figure (v .start) ∷ TO ∷ figure (Option·getD (v .finish) (v .start)) ∷ [])
+      ∷ (POSITION ∷ figureToken (v .start) ∷ TO ∷ figureToken (Option·getD (v .finish) (v .start)) ∷ [])
       ∷ contentLines (positions v) (v .content)
       ++ (END ∷ VARIABLE ∷ []) ∷ []
 
@@ -135,4 +135,4 @@ module _ (d : List ℕ) where
       headLines (s .heading) ++ eachVariable (s .variables) ++ (END ∷ RECORD ∷ []) ∷ (END ∷ SURVEY ∷ []) ∷ (END ∷ SSS ∷ []) ∷ []
 
   unfoldable pub cleanOf : Survey → List ℕ
-  cleanOf s = textOf (cleanLines s)
+  cleanOf s = cleanText (cleanLines s)

@@ -12,6 +12,7 @@ use Rattle.fields.specs.rule.Field.{missing, number, members, text, truth, Fiel
 use Rattle.fields.specs.rule.Row.{defined, readingOf}
 use Rattle.matrix.specs.declared.Entry.{Entry}
 use Rattle.matrix.specs.declared.Entry.the-variants.{Absent, Scaled}
+use Rattle.widths.specs.rule.Width.{decimalsOf}
 
 -- a column of a table: a row's, or that of a category of a row
 pub data Column : Type 0 where
@@ -39,13 +40,6 @@ columnsFrom t v i zero = []
 columnsFrom t v i (suc n) = rowColumns t v i ++ columnsFrom t v (suc i) n
 
 -- ---- what a column holds of a record
-unfoldable pub decimalsBy : Kind → ℕ
-decimalsBy Single = 0
-decimalsBy (Multiple s) = 0
-decimalsBy (Quantity f) = f .decimals
-decimalsBy Character = 0
-decimalsBy Logical = 0
-
 -- a number is over the row's power of ten, a truth is 0 or 1
 unfoldable pub numberEntry : ℕ → Field → Entry
 numberEntry p (holds missing) = Absent
@@ -66,7 +60,7 @@ memberEntry c illegal = Absent
 
 -- THE ENTRY of a column in a record
 unfoldable pub entryOf : List ℤ → ℕ → List ℕ → Column → Entry
-entryOf t v bytes (ofRow i) = numberEntry (10 ^ decimalsBy (rowAt t i .kind)) (readingOf t v (rowAt t i) bytes)
+entryOf t v bytes (ofRow i) = numberEntry (10 ^ decimalsOf (rowAt t i .kind)) (readingOf t v (rowAt t i) bytes)
 entryOf t v bytes (ofCategory i c) = memberEntry c (readingOf t v (rowAt t i) bytes)
 
 -- a record's entries, in column order

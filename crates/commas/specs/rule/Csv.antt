@@ -35,9 +35,9 @@ lineBytes [] = 13 ∷ 10 ∷ []
 lineBytes (f ∷ fs) = fieldBytes f ++ behindFirst fs
 
 -- a text of lines
-unfoldable pub textBytes : List (List (List ℕ)) → List ℕ
-textBytes [] = []
-textBytes (l ∷ ls) = lineBytes l ++ textBytes ls
+unfoldable pub csvBytes : List (List (List ℕ)) → List ℕ
+csvBytes [] = []
+csvBytes (l ∷ ls) = lineBytes l ++ csvBytes ls
 
 -- the fields of a line: what f says at i and at the n - 1 numbers behind it
 unfoldable pub each : (ℕ → List ℕ) → ℕ → ℕ → List (List ℕ)

@@ -9,7 +9,7 @@ use Rattle.signs.specs.declared.Sign.{Sign}
 use Rattle.signs.specs.declared.Sign.the-variants as sign
 use Rattle.utf.specs.rule.Chars.{encode}
 use Rattle.utf.specs.rule.Cut.{firstBad}
-use Rattle.contents.specs.rule.Grammar.{bytesOf, byteOf}
+use Rattle.contents.specs.rule.Grammar.{byteSigns, byteOf}
 use Rattle.contents.specs.rule.Step.{stepOf}
 use Rattle.contents.specs.declared.Going.{Going}
 use Rattle.contents.specs.declared.Cursor.{Cursor}
@@ -40,7 +40,7 @@ unfoldable pub signsOf : Bool → Said → List Sign
 signsOf l Nothing = []
 signsOf l Break = sign.Break ∷ []
 signsOf l (Byte b) = byteOf l b
-signsOf l (Code c) = bytesOf (encode c)
+signsOf l (Code c) = byteSigns (encode c)
 
 abbrev pub saidBy : Bool → Step → (Going → List Sign) → List Sign
 saidBy l (More g s) k = signsOf l s ++ k g
@@ -67,16 +67,16 @@ unfoldable pub textFrom : List ℕ → Going → Bool
 textFrom d g = loopOf (textStep d) false (suc (length d - g .next)) g
 
 -- the stretch from a place to the end of d, whose characters are legal
-unfoldable pub textOf : Bool → List ℕ → ℕ → Bool
-textOf latin d at = eqb (firstBad latin d at) (length d) && textFrom d (begun at)
+unfoldable pub isText : Bool → List ℕ → ℕ → Bool
+isText latin d at = eqb (firstBad latin d at) (length d) && textFrom d (begun at)
 
 -- ---- the decoder, sign by sign: what it holds is where it stands, and a character of whose bytes some were said
 abbrev pub goingOf : Cursor → Going
 goingOf c = record { inside = c .inside; unknown = c .unknown; next = c .next }
 
 -- the signs still to come
-unfoldable pub signsAt : Bool → List ℕ → Cursor → List Sign
-signsAt l d c = bytesOf (drop (c .said) (encode (c .code))) ++ signsFrom l d (goingOf c)
+unfoldable pub contentSigns : Bool → List ℕ → Cursor → List Sign
+contentSigns l d c = byteSigns (drop (c .said) (encode (c .code))) ++ signsFrom l d (goingOf c)
 
 abbrev pub startOf : ℕ → Cursor
 startOf at = record { inside = false; unknown = 0; next = at; code = 0; said = 1 }

@@ -26,33 +26,34 @@ abbrev pub lang : List ℕ
 lang = 120 ∷ 109 ∷ 108 ∷ 58 ∷ 108 ∷ 97 ∷ 110 ∷ 103 ∷ []
 
 -- bytes as signs; and those of a byte of the file: a character of ISO-8859-1 is written in UTF-8
-unfoldable pub bytesOf : List ℕ → List Sign
-bytesOf [] = []
-bytesOf (b ∷ s) = Byte b ∷ bytesOf s
+unfoldable pub byteSigns : List ℕ → List Sign
+byteSigns [] = []
+byteSigns (b ∷ s) = Byte b ∷ byteSigns s
 
 abbrev pub byteOf : Bool → ℕ → List Sign
-byteOf latin b = cond latin (bytesOf (encode b)) (Byte b ∷ [])
+byteOf latin b = cond latin (byteSigns (encode b)) (Byte b ∷ [])
 
 -- a piece of a text, before the bytes s that are left of it, at place p: what it says, and the place of its first attribute that isn't
 -- known (0: none). 38 is &, 60 <, 13 10 a line's end, 93 93 62 ]]>, 60 33 45 45 <!--.
-pub data Piece (l : Bool) (m p : ℕ) : List ℕ → List ℕ → List Sign → ℕ → Type 0 where
+pub data ContentPiece (l : Bool) (m p : ℕ) : List ℕ → List ℕ → List Sign → ℕ → Type 0 where
   plain : {b : ℕ} {s : List ℕ} → (b ≡ 38 → ⊥) → (b ≡ 60 → ⊥) → (b ≡ 13 → ⊥) → stands (93 ∷ 93 ∷ 62 ∷ []) (b ∷ s) ≡ false
-      → Piece l m p (b ∷ []) s (byteOf l b) 0
-  line : {s : List ℕ} → stands (10 ∷ []) s ≡ true → Piece l m p (13 ∷ []) s [] 0
-  return : {s : List ℕ} → stands (10 ∷ []) s ≡ false → Piece l m p (13 ∷ []) s (Byte 10 ∷ []) 0
-  refer : {c : ℕ} {r s : List ℕ} → Ref r c → Piece l m p (38 ∷ r) s (bytesOf (encode c)) 0
-  note : {n s : List ℕ} → Note n → Piece l m p (60 ∷ 33 ∷ 45 ∷ 45 ∷ n) s [] 0
-  alone : {a : ℕ} {t s : List ℕ} {g : Bool} → leb 1 m ≡ true → Behind [] true (p + 3) t g a → Piece l m p (60 ∷ (br ++ t)) s (Break ∷ []) a
+      → ContentPiece l m p (b ∷ []) s (byteOf l b) 0
+  line : {s : List ℕ} → stands (10 ∷ []) s ≡ true → ContentPiece l m p (13 ∷ []) s [] 0
+  return : {s : List ℕ} → stands (10 ∷ []) s ≡ false → ContentPiece l m p (13 ∷ []) s (Byte 10 ∷ []) 0
+  refer : {c : ℕ} {r s : List ℕ} → Ref r c → ContentPiece l m p (38 ∷ r) s (byteSigns (encode c)) 0
+  note : {n s : List ℕ} → Note n → ContentPiece l m p (60 ∷ 33 ∷ 45 ∷ 45 ∷ n) s [] 0
+  alone : {a : ℕ} {t s : List ℕ} {g : Bool} → leb 1 m ≡ true → Behind [] true (p + 3) t g a
+      → ContentPiece l m p (60 ∷ (br ++ t)) s (Break ∷ []) a
   pair : {a : ℕ} {t e s : List ℕ} {g : Bool} → leb 1 m ≡ true → Behind [] false (p + 3) t g a → Empties br e
-      → Piece l m p (60 ∷ (br ++ (t ++ e))) s (Break ∷ []) a
-  unsaid : {a : ℕ} {t s : List ℕ} → eqb m 2 ≡ true → Behind lang true (p + 5) t true a → Piece l m p (60 ∷ (text ++ t)) s [] a
+      → ContentPiece l m p (60 ∷ (br ++ (t ++ e))) s (Break ∷ []) a
+  unsaid : {a : ℕ} {t s : List ℕ} → eqb m 2 ≡ true → Behind lang true (p + 5) t true a → ContentPiece l m p (60 ∷ (text ++ t)) s [] a
 
 -- a text: pieces, and whole texts in other languages, which say nothing here
-pub data Text (l : Bool) : ℕ → ℕ → List ℕ → List Sign → ℕ → Type 0 where
-  end : {m p : ℕ} → Text l m p [] [] 0
-  more : {m p a u : ℕ} {b s : List ℕ} {x cs : List Sign} → Piece l m p b s x a → Text l m (p + length b) s cs u
-      → Text l m p (b ++ s) (x ++ cs) (firstOf a u)
+pub data ContentText (l : Bool) : ℕ → ℕ → List ℕ → List Sign → ℕ → Type 0 where
+  end : {m p : ℕ} → ContentText l m p [] [] 0
+  more : {m p a u : ℕ} {b s : List ℕ} {x cs : List Sign} → ContentPiece l m p b s x a → ContentText l m (p + length b) s cs u
+      → ContentText l m p (b ++ s) (x ++ cs) (firstOf a u)
   language : {m p a b u : ℕ} {t v e s : List ℕ} {ds cs : List Sign} → eqb m 2 ≡ true → Behind lang false (p + 5) t true a
-      → Text l 1 (p + 5 + length t) v ds b → Ends text e
-      → Text l m (p + 5 + length t + length v + length e) s cs u
-      → Text l m p (60 ∷ (text ++ (t ++ (v ++ (e ++ s))))) cs (firstOf a (firstOf b u))
+      → ContentText l 1 (p + 5 + length t) v ds b → Ends text e
+      → ContentText l m (p + 5 + length t + length v + length e) s cs u
+      → ContentText l m p (60 ∷ (text ++ (t ++ (v ++ (e ++ s))))) cs (firstOf a (firstOf b u))

@@ -9,7 +9,7 @@ use lib.Dec.{leb, eqb}
 use lib.ListN.{length, drop, getD}
 use Rattle.markup.specs.rule.Bytes.{stands}
 use Rattle.markup.specs.rule.Reference.{referenceOf}
-use Rattle.markup.specs.rule.Gap.{commentOf}
+use Rattle.markup.specs.rule.Gap.{xmlComment}
 use Rattle.markup.specs.declared.Char.{Char}
 use Rattle.markup.specs.declared.Char.the-variants as char
 use Rattle.markup.specs.declared.Skip.{Skip}
@@ -39,8 +39,8 @@ abbrev pub heardOf : Bool → Said → Said
 heardOf inside s = cond inside said.Nothing s
 
 -- on to n
-abbrev pub goOn : Going → ℕ → Said → Step
-goOn g n s = More (record { inside = g .inside; unknown = g .unknown; next = n }) (heardOf (g .inside) s)
+abbrev pub goOnSaying : Going → ℕ → Said → Step
+goOnSaying g n s = More (record { inside = g .inside; unknown = g .unknown; next = n }) (heardOf (g .inside) s)
 
 abbrev pub brokenAt : ℕ → Step
 brokenAt p = Over (Fault 50 p)
@@ -50,13 +50,13 @@ cutAt g p = Over (Cut p (g .unknown))
 
 -- ---- bytes and references
 unfoldable pub bracketAt : List ℕ → Going → Step
-bracketAt d g = cond (stands (93 ∷ 93 ∷ 62 ∷ []) (drop (g .next) d)) (brokenAt (g .next)) (goOn g (g .next + 1) (said.Byte 93))
+bracketAt d g = cond (stands (93 ∷ 93 ∷ 62 ∷ []) (drop (g .next) d)) (brokenAt (g .next)) (goOnSaying g (g .next + 1) (said.Byte 93))
 
 unfoldable pub returnAt : List ℕ → Going → Step
-returnAt d g = goOn g (g .next + 1) (cond (stands (10 ∷ []) (drop (g .next + 1) d)) said.Nothing (said.Byte 10))
+returnAt d g = goOnSaying g (g .next + 1) (cond (stands (10 ∷ []) (drop (g .next + 1) d)) said.Nothing (said.Byte 10))
 
 abbrev pub onChar : Going → Char → Step
-onChar g (char.Is c n) = goOn g n (said.Code c)
+onChar g (char.Is c n) = goOnSaying g n (said.Code c)
 onChar g char.Bad = brokenAt (g .next)
 
 unfoldable pub referAt : List ℕ → Going → Step
@@ -64,26 +64,27 @@ referAt d g = onChar g (referenceOf (g .next) (drop (g .next + 1) d))
 
 -- ---- marks
 abbrev pub onNote : Going → Skip → Step
-onNote g (skip.Past n) = goOn g n said.Nothing
+onNote g (skip.Past n) = goOnSaying g n said.Nothing
 onNote g (skip.Broken p) = brokenAt p
 
 unfoldable pub noteAt : Bool → List ℕ → Going → Step
-noteAt bad d g = onNote g (commentOf bad (g .next) (g .next + 4) (drop (g .next + 4) d))
+noteAt bad d g = onNote g (xmlComment bad (g .next) (g .next + 4) (drop (g .next + 4) d))
 
 -- the state with one more attribute that isn't known
 abbrev pub knowing : Going → ℕ → Going
 knowing g a = record { inside = g .inside; unknown = firstOf (g .unknown) a; next = g .next }
 
-abbrev pub onPair : Going → Pair → Step
-onPair g (pair.Past n) = goOn g n said.Break
-onPair g (pair.Cut p) = cutAt g p
-onPair g (pair.Fault k p) = Over (Fault k p)
+abbrev pub contentPair : Going → Pair → Step
+contentPair g (pair.Past n) = goOnSaying g n said.Break
+contentPair g (pair.Cut p) = cutAt g p
+contentPair g (pair.Fault k p) = Over (Fault k p)
 
 unfoldable pub pairAt : Bool → List ℕ → Going → ℕ → Step
-pairAt bad d g n = onPair g (pairOf bad d n br)
+pairAt bad d g n = contentPair g (pairOf bad d n br)
 
 abbrev pub onBreak : Bool → List ℕ → Going → Tag → Step
-onBreak bad d g (tag.Read h empty p n) = cond empty (goOn (knowing g (h .unknown)) n said.Break) (pairAt bad d (knowing g (h .unknown)) n)
+onBreak bad d g (tag.Read h empty p n) = cond empty (goOnSaying (knowing g (h .unknown)) n said.Break)
+    (pairAt bad d (knowing g (h .unknown)) n)
 onBreak bad d g (tag.Fault k p) = Over (Fault k p)
 
 unfoldable pub breakAt : Bool → List ℕ → Going → ℕ → Step
@@ -109,12 +110,12 @@ abbrev pub modeIn : ℕ → Bool → ℕ
 modeIn m inside = cond inside 1 m
 
 -- which start tag it is: 1 br, 2 text, where they may stand; 0 any other
-unfoldable pub kindOf : List ℕ → ℕ → ℕ → ℕ → ℕ
-kindOf d m n e = cond (leb 1 m && isNamed d n e br) 1 (cond (eqb m 2 && isNamed d n e text) 2 0)
+unfoldable pub stepKind : List ℕ → ℕ → ℕ → ℕ → ℕ
+stepKind d m n e = cond (leb 1 m && isNamed d n e br) 1 (cond (eqb m 2 && isNamed d n e text) 2 0)
 
 unfoldable pub startAt : Bool → List ℕ → ℕ → Going → ℕ → Step
 startAt bad d m g e =
-    let kind = kindOf d (modeIn m (g .inside)) (g .next + 1) e in
+    let kind = stepKind d (modeIn m (g .inside)) (g .next + 1) e in
     cond (eqb kind 1) (breakAt bad d g e) (cond (eqb kind 2) (languageAt bad d g e) (otherAt bad d g e))
 
 abbrev pub onOut : Going → Skip → Step
@@ -147,4 +148,4 @@ stepOf bad d m w g =
     (cond (eqb b 60) (markAt bad d m w g)
     (cond (eqb b 38) (referAt d g)
     (cond (eqb b 93) (bracketAt d g)
-    (cond (eqb b 13) (returnAt d g) (goOn g (g .next + 1) (said.Byte b))))))
+    (cond (eqb b 13) (returnAt d g) (goOnSaying g (g .next + 1) (said.Byte b))))))

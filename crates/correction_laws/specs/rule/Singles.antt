@@ -15,7 +15,7 @@ use Rattle.writes.specs.rule.Public.{Written}
 use Rattle.corrections.specs.declared.Given.{Given}
 use Rattle.corrections.specs.declared.Correction.{Correction}
 use Rattle.corrections.specs.rule.Truth.{NoTruth}
-use Rattle.corrections.specs.rule.Correction.{asks, otherTruth, otherKind, askedOf, markOf, marked}
+use Rattle.corrections.specs.rule.Correction.{asks, otherTruth, otherKind, askedOf, markOf, markedWith}
 
 -- one single write into row i, with its number: a value is written by the promise of the calls that write one; what is no truth is refused
 -- as the call that writes a truth refuses it; another kind has no single call, and is 26 after 21
@@ -28,7 +28,7 @@ pub data Single (t : List ℤ) (i : ℕ) (g : Given) (old new : List ℕ) (m : �
 pub data Chain (t : List ℤ) : List Correction → List Correction → List ℕ → List ℕ → Type 0 where
   none : {s : List ℕ} → Chain t [] [] s s
   one : {c : Correction} {cs ds : List Correction} {s s′ s″ : List ℕ} {m : ℕ} → Single t (c .row) (c .value) s s′ m → Chain t cs ds s′ s″
-      → Chain t (c ∷ cs) (marked c m ∷ ds) s s″
+      → Chain t (c ∷ cs) (markedWith c m ∷ ds) s s″
 
 -- no accepted correction of the list touches a value place of row i, in a record of n bytes
 pub data Clear (t : List ℤ) (n i : ℕ) : List Correction → Type 0 where

@@ -1,13 +1,13 @@
 -- `corrections::truth_given` meets its contract: there is no such row, or the truth written to it.
 use borrow.Author.Needs.{needs}
-use Rattle.writes.specs.rule.Public.{numberOf}
+use Rattle.writes.specs.rule.Public.{writeNumber}
 use Rattle.writes.proofs.Whole.{no-row, row-stands, row-ready, row-written}
 use Rattle.corrections.specs.Correction.{admitted}
 use Rattle.corrections.proofs.truth_given.Statement.{statement}
 use Rattle.corrections.proofs.truth_given.Tie as tie
 
 returns : tie.Need-returns
-unfolding numberOf
+unfolding writeNumber
 returns c = no-row _ _ _ _ (admitted (c .before .before .before .pre) .formed) (rw (c .before .read .ensures) at (c .if1 .taken))
 
 read-requires-2 : tie.Need-read-requires-2

@@ -3,7 +3,7 @@ use mathlib.Core.Path.{_≡_}
 use borrow.Author.Needs.{needs}
 use mir.Syntax.{w64}
 use mir.Val.{toZ, ofZ}
-use Rattle.writes.specs.rule.Write.{valueOf}
+use Rattle.writes.specs.rule.Write.{lentValue}
 use Rattle.corrections.proofs.write_asked.Statement.{statement}
 use Rattle.corrections.proofs.write_asked.Tie as tie
 
@@ -12,7 +12,7 @@ back : (c : tie.After-known-told) → toZ w64 (ofZ w64 (c .before .value .given 
 back c = search needs
 
 pub write-asked-spec : {M : Type 1} → statement M
-unfolding valueOf
+unfolding lentValue
 write-asked-spec =
     tie.close
     (tie.spec

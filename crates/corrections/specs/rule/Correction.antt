@@ -46,31 +46,31 @@ recordBy t i otherKind old = old
 abbrev pub markOf : List ℤ → Correction → ℕ → ℕ
 markOf t c n = markBy t (c .row) n (askedOf (c .value))
 
-abbrev pub writtenBy : List ℤ → List ℕ → Correction → List ℕ
-writtenBy t old c = recordBy t (c .row) (askedOf (c .value)) old
+abbrev pub correctedBy : List ℤ → List ℕ → Correction → List ℕ
+correctedBy t old c = recordBy t (c .row) (askedOf (c .value)) old
 
 -- the correction with a mark: "only marks change"
-abbrev pub marked : Correction → ℕ → Correction
-marked c m = record { row = c .row; value = c .value; mark = m }
+abbrev pub markedWith : Correction → ℕ → Correction
+markedWith c m = record { row = c .row; value = c .value; mark = m }
 
 abbrev pub corrected : List ℤ → List ℕ → Correction → Correction
-corrected t old c = marked c (markOf t c (length old))
+corrected t old c = markedWith c (markOf t c (length old))
 
 -- ---- THE LIST, in its order: each correction is marked by its write into what those before it left, and the record after all of them
 unfoldable pub correctedAll : List ℤ → List Correction → List ℕ → List Correction
 correctedAll t [] old = []
-correctedAll t (c ∷ cs) old = corrected t old c ∷ correctedAll t cs (writtenBy t old c)
+correctedAll t (c ∷ cs) old = corrected t old c ∷ correctedAll t cs (correctedBy t old c)
 
 unfoldable pub writtenAll : List ℤ → List Correction → List ℕ → List ℕ
 writtenAll t [] old = old
-writtenAll t (c ∷ cs) old = writtenAll t cs (writtenBy t old c)
+writtenAll t (c ∷ cs) old = writtenAll t cs (correctedBy t old c)
 
 -- "20 and 22 turn away the whole call before any mark", lowest first
 unfoldable pub wholeRefusal : List ℤ → ℕ → ℕ
 wholeRefusal t n = cond (wellFormed t) (cond (ltb n (lengthOf t)) 22 0) 20
 
-unfoldable pub listAfter : List ℤ → List Correction → List ℕ → List Correction
-listAfter t list old = cond (eqb (wholeRefusal t (length old)) 0) (correctedAll t list old) list
+unfoldable pub correctionsAfter : List ℤ → List Correction → List ℕ → List Correction
+correctionsAfter t list old = cond (eqb (wholeRefusal t (length old)) 0) (correctedAll t list old) list
 
 unfoldable pub recordLeft : List ℤ → List Correction → List ℕ → List ℕ
 recordLeft t list old = cond (eqb (wholeRefusal t (length old)) 0) (writtenAll t list old) old
@@ -78,5 +78,5 @@ recordLeft t list old = cond (eqb (wholeRefusal t (length old)) 0) (writtenAll t
 -- THE PROMISE of the call: the number, the list and the record afterwards
 pub record ListCorrected (t : List ℤ) (list list′ : List Correction) (old new : List ℕ) (r : ℕ) : Type 0 where
   pub says : r ≡ wholeRefusal t (length old)
-  pub marks : list′ ≡ listAfter t list old
+  pub marks : list′ ≡ correctionsAfter t list old
   pub leaves : new ≡ recordLeft t list old

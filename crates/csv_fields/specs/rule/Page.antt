@@ -18,18 +18,18 @@ pub data Page : Type 0 where
 
 -- where the reader stands: where a line may start, where a field is due, in a field without quotes, behind a CR that ends a line, in
 -- quotes, behind a quote that may close them
-pub data Mode : Type 0 where
-  start : Mode
-  fresh : Mode
-  bare : Mode
-  ending : Mode
-  inside : Mode
-  closing : Mode
+pub data PageMode : Type 0 where
+  start : PageMode
+  fresh : PageMode
+  bare : PageMode
+  ending : PageMode
+  inside : PageMode
+  closing : PageMode
 
 -- what a byte does: it is no part of the field, it is one, it ends the field, it ends the line, it is malformed
 pub data Step : Type 0 where
-  skip : Mode → Step
-  keep : ℕ → Mode → Step
+  skip : PageMode → Step
+  keep : ℕ → PageMode → Step
   comma : Step
   ended : Step
   wrong : Step
@@ -37,13 +37,13 @@ pub data Step : Type 0 where
 unfoldable pub bareStep : ℕ → Step
 bareStep b = cond (eqb b 44) comma (cond (eqb b 13) (skip ending) (cond (eqb b 34 || eqb b 10) wrong (keep b bare)))
 
-unfoldable pub stepOf : Mode → ℕ → Step
-stepOf start b = cond (eqb b 34) (skip inside) (bareStep b)
-stepOf fresh b = cond (eqb b 34) (skip inside) (bareStep b)
-stepOf bare b = bareStep b
-stepOf ending b = cond (eqb b 10) ended wrong
-stepOf inside b = cond (eqb b 34) (skip closing) (keep b inside)
-stepOf closing b = cond (eqb b 34) (keep 34 inside) (cond (eqb b 44) comma (cond (eqb b 13) (skip ending) wrong))
+unfoldable pub pageStep : PageMode → ℕ → Step
+pageStep start b = cond (eqb b 34) (skip inside) (bareStep b)
+pageStep fresh b = cond (eqb b 34) (skip inside) (bareStep b)
+pageStep bare b = bareStep b
+pageStep ending b = cond (eqb b 10) ended wrong
+pageStep inside b = cond (eqb b 34) (skip closing) (keep b inside)
+pageStep closing b = cond (eqb b 34) (keep 34 inside) (cond (eqb b 44) comma (cond (eqb b 13) (skip ending) wrong))
 
 -- a byte in front of the first field
 unfoldable pub withByte : ℕ → Page → Page
@@ -52,7 +52,7 @@ withByte b torn = torn
 withByte b (more f p) = more (b ∷ f) p
 withByte b (last f p) = last (b ∷ f) p
 
-unfoldable pub taken : Step → (Mode → Page) → Page
+unfoldable pub taken : Step → (PageMode → Page) → Page
 taken (skip m) k = k m
 taken (keep b m) k = withByte b (k m)
 taken comma k = more [] (k fresh)
@@ -60,18 +60,18 @@ taken ended k = last [] (k start)
 taken wrong k = torn
 
 -- a text may end only where a line may start
-unfoldable pub atEnd : Mode → Page
-atEnd start = over
-atEnd fresh = torn
-atEnd bare = torn
-atEnd ending = torn
-atEnd inside = torn
-atEnd closing = torn
+unfoldable pub pageAtEnd : PageMode → Page
+pageAtEnd start = over
+pageAtEnd fresh = torn
+pageAtEnd bare = torn
+pageAtEnd ending = torn
+pageAtEnd inside = torn
+pageAtEnd closing = torn
 
 -- WHAT IS READ from a text
-unfoldable pub page : Mode → List ℕ → Page
-page m [] = atEnd m
-page m (b ∷ s) = taken (stepOf m b) (λ m′. page m′ s)
+unfoldable pub page : PageMode → List ℕ → Page
+page m [] = pageAtEnd m
+page m (b ∷ s) = taken (pageStep m b) (λ m′. page m′ s)
 
 -- the lines of a text: its lines of fields, and then its end, or the column, from 1, of a malformed field in a line
 pub data Lines : Type 0 where
@@ -84,8 +84,8 @@ withField f done = done
 withField f (broken c) = broken (c + 1)
 withField f (line fs ls) = line (f ∷ fs) ls
 
-unfoldable pub linesOf : Page → Lines
-linesOf over = done
-linesOf torn = broken 1
-linesOf (more f p) = withField f (linesOf p)
-linesOf (last f p) = line (f ∷ []) (linesOf p)
+unfoldable pub pageLines : Page → Lines
+pageLines over = done
+pageLines torn = broken 1
+pageLines (more f p) = withField f (pageLines p)
+pageLines (last f p) = line (f ∷ []) (pageLines p)

@@ -9,13 +9,13 @@ use Rattle.commas.specs.rule.Csv.{holdsSpecial, doubled}
 use Rattle.csv_fields.specs.rule.Page.{Lines, done, line}
 
 -- a field as it may be written
-pub data Spelt (f : List ℕ) (s : List ℕ) : Type 0 where
-  plainly : holdsSpecial f ≡ false → s ≡ f → Spelt f s
-  quoted : s ≡ (34 ∷ []) ++ (doubled f ++ (34 ∷ [])) → Spelt f s
+pub data FieldSpelt (f : List ℕ) (s : List ℕ) : Type 0 where
+  plainly : holdsSpecial f ≡ false → s ≡ f → FieldSpelt f s
+  quoted : s ≡ (34 ∷ []) ++ (doubled f ++ (34 ∷ [])) → FieldSpelt f s
 
 pub data IsLine : List (List ℕ) → List ℕ → Type 0 where
-  alone : {f u s : List ℕ} → Spelt f u → s ≡ u ++ (13 ∷ 10 ∷ []) → IsLine (f ∷ []) s
-  and-more : {f u w s : List ℕ} {fs : List (List ℕ)} → Spelt f u → IsLine fs w → s ≡ u ++ (44 ∷ w) → IsLine (f ∷ fs) s
+  alone : {f u s : List ℕ} → FieldSpelt f u → s ≡ u ++ (13 ∷ 10 ∷ []) → IsLine (f ∷ []) s
+  and-more : {f u w s : List ℕ} {fs : List (List ℕ)} → FieldSpelt f u → IsLine fs w → s ≡ u ++ (44 ∷ w) → IsLine (f ∷ fs) s
 
 pub data IsText : List (List (List ℕ)) → List ℕ → Type 0 where
   no-line : {s : List ℕ} → s ≡ [] → IsText [] s

@@ -10,14 +10,14 @@ use Rattle.cuts.specs.declared.Terminator.{Terminator}
 use Rattle.cuts.specs.declared.Next.{Next}
 use Rattle.cuts.specs.declared.Next.the-variants.{Ended, Unended, Nothing}
 
-abbrev pub single : ℕ → ℕ → Terminator
-single a b = record { first = a; second = b; size = 1 }
+abbrev pub oneByte : ℕ → ℕ → Terminator
+oneByte a b = record { first = a; second = b; size = 1 }
 
-abbrev pub pair : ℕ → ℕ → Terminator
-pair a b = record { first = a; second = b; size = 2 }
+abbrev pub twoBytes : ℕ → ℕ → Terminator
+twoBytes a b = record { first = a; second = b; size = 2 }
 
-abbrev pub none : Terminator
-none = record { first = 0; second = 0; size = 0 }
+abbrev pub noEnding : Terminator
+noEnding = record { first = 0; second = 0; size = 0 }
 
 -- s begins with the byte b
 unfoldable pub beginsWith : ℕ → List ℕ → Bool
@@ -26,11 +26,11 @@ beginsWith b (c ∷ s) = eqb c b
 
 -- the terminator that begins with a, before s: a pair if b adjoins
 unfoldable pub terminatorAt : ℕ → ℕ → List ℕ → Terminator
-terminatorAt a b s = cond (beginsWith b s) (pair a b) (single a b)
+terminatorAt a b s = cond (beginsWith b s) (twoBytes a b) (oneByte a b)
 
 -- the first terminator met
 unfoldable pub terminatorOf : List ℕ → Terminator
-terminatorOf [] = none
+terminatorOf [] = noEnding
 terminatorOf (b ∷ s) = cond (eqb b 13) (terminatorAt 13 10 s) (cond (eqb b 10) (terminatorAt 10 13 s) (terminatorOf s))
 
 -- the rest s of the data, after a terminator's first byte, goes on with the rest of it

@@ -4,6 +4,7 @@ use mathlib.Core.Bool.{cond}
 use mathlib.Core.List.{List, [], _∷_, _++_}
 use Prim.Native.Nat.{ℕ, zero, suc, _+_, _-_}
 use lib.Dec.{eqb}
+use lib.ListN.{length}
 use Rattle.cuts.specs.declared.Terminator.{Terminator}
 use Rattle.cuts.specs.rule.Cut.{beginsAt, terminatorOf}
 
@@ -30,6 +31,12 @@ recordsFrom w s = cut w 0 [] s
 -- THE RECORDS of a file
 unfoldable pub recordsOf : List ℕ → Records
 recordsOf d = recordsFrom (terminatorOf d) d
+
+-- the first record's length
+unfoldable pub lengthOfFirst : Records → ℕ
+lengthOfFirst over = 0
+lengthOfFirst (unended r) = 0
+lengthOfFirst (record-and r rs) = length r
 
 -- the bytes of a terminator, and records laid end to end with it
 unfoldable pub terminatorBytes : Terminator → List ℕ

@@ -9,13 +9,13 @@ use lib.IntN.{ℤ}
 use lib.ListN.{length}
 use Rattle.signs.specs.declared.Sign.{Sign}
 use Rattle.texts.specs.declared.Decoded.{Decoded}
-use Rattle.texts.specs.rule.Decode.{Outcome, said, decodedAs, signsAt, listAfter}
+use Rattle.texts.specs.rule.Decode.{DecodeOutcome, decodeSaid, decodedAs, signsAt, signsAfter}
 use Rattle.stretches.specs.rule.Stretch.{stretchAs, stretchSigns}
 use Rattle.prologs.specs.rule.Told.{isXml}
 use Rattle.scripts.specs.rule.Script.{latinOf}
 
 -- the outcome for a list with room for n: 3 before 25
-unfoldable pub bothAs : List ℕ → ℕ → ℕ → ℕ → Outcome
+unfoldable pub bothAs : List ℕ → ℕ → ℕ → ℕ → DecodeOutcome
 bothAs d place long n = cond (isXml d) (stretchAs (latinOf d) d place long n) (decodedAs d place long n)
 
 -- the signs that it says
@@ -24,5 +24,5 @@ bothSigns d place long = cond (isXml d) (stretchSigns (latinOf d) d place long) 
 
 -- THE PROMISE of the call
 pub record BothDecoded (d : List ℕ) (place long : ℕ) (list list′ : List ℤ) (r : Decoded) : Type 0 where
-  pub says : said r ≡ bothAs d place long (length list)
-  pub leaves : list′ ≡ listAfter (bothAs d place long (length list)) (bothSigns d place long) list
+  pub says : decodeSaid r ≡ bothAs d place long (length list)
+  pub leaves : list′ ≡ signsAfter (bothAs d place long (length list)) (bothSigns d place long) list

@@ -6,8 +6,8 @@ use lib.ListN.{length}
 use borrow.Author.Needs.{needs}
 use borrow.Author.Tests.{lt-ltb, le-ltb}
 use Rattle.layout.specs.rule.Layout.{lineBase, mostRows, mostLines}
-use Rattle.definition.specs.rule.Definition.{outcomeOf}
-use Rattle.definition.specs.rule.Against.{againstOf}
+use Rattle.definition.specs.rule.Definition.{sssOutcome}
+use Rattle.definition.specs.rule.Against.{sssAgainst}
 use Rattle.definition.specs.Books.{Outcome, judged, surveyOf, outcomeIn}
 use Rattle.laying.specs.Code.{zeros}
 use Rattle.definition.proofs.Bridge.{heldIn, against-same}
@@ -17,7 +17,7 @@ use Rattle.definition.proofs.judge_against.Statement.{statement}
 use Rattle.definition.proofs.judge_against.Tie as tie
 
 returns : tie.Need-returns
-unfolding againstOf outcomeOf
+unfolding sssAgainst sssOutcome
 returns c =
     let e : ltb 1048576 (length (c .before .before .args .d .now)) ≡ true = lt-ltb _ _ (c .if1 .taken) in
     rw e
@@ -41,7 +41,7 @@ compare-requires c κs =
     (omega arith, (s .few, rooms-fit _ _ _ _ s))
 
 returns-2 : tie.Need-returns-2
-unfolding againstOf outcomeIn
+unfolding sssAgainst outcomeIn
 returns-2 c =
     let at-if1 = c .before .before .before .before .before .before .before .before .before .before .before .before .before .before .before
     .before .before .before .before in
@@ -54,7 +54,7 @@ returns-2 c =
     rw (← against-same (args .d .now) (lineBase mostRows mostLines) t) (rw e (c .compare .ensures ∙ held-says _ _ _ _ s t))
 
 returns-3 : tie.Need-returns-3
-unfolding againstOf outcomeIn heldIn
+unfolding sssAgainst outcomeIn heldIn
 returns-3 c =
     let at-if1 = c .before .before .before .before .before .before .before .before .before .before .before .before .before .before .before
     .before in

@@ -5,7 +5,7 @@ use lib.Dec.{ltb}
 use lib.ListN.{length}
 use borrow.Author.Needs.{needs}
 use borrow.Author.Tests.{lt-ltb, le-ltb}
-use Rattle.definition.specs.rule.Definition.{outcomeOf, answerOf, tableAfter}
+use Rattle.definition.specs.rule.Definition.{sssOutcome, sssAnswer, sssTableAfter}
 use Rattle.definition.specs.Books.{Outcome, judged, surveyOf, outcomeIn, answerIn, tableIn}
 use Rattle.definition.proofs.Bridge.{answer-same, table-same}
 use Rattle.laying.specs.Code.{zeros}
@@ -15,7 +15,7 @@ use Rattle.definition.proofs.read_definition.Statement.{statement}
 use Rattle.definition.proofs.read_definition.Tie as tie
 
 returns : tie.Need-returns
-unfolding outcomeOf answerOf tableAfter
+unfolding sssOutcome sssAnswer sssTableAfter
 returns c =
     let e : ltb 1048576 (length (c .before .before .args .d .now)) ≡ true = lt-ltb _ _ (c .if1 .taken) in
     record { says = rw e; leaves = rw e }

@@ -7,17 +7,17 @@ use Prim.Native.Nat.{ℕ}
 use lib.IntN.{ℤ}
 use Rattle.layout.specs.rule.Layout.{lineBase, mostRows, mostLines}
 use Rattle.survey.specs.rule.Table.{tableOf}
-use Rattle.laying.specs.rule.Begins.{begins}
+use Rattle.laying.specs.rule.Begins.{beginsTable}
 use Rattle.definition.specs.declared.Against.{Against}
 use Rattle.definition.specs.declared.Against.the-variants.{Same, Other, Refused}
-use Rattle.definition.specs.rule.Definition.{Outcome, Built, Refusal, outcomeOf}
+use Rattle.definition.specs.rule.Definition.{SssOutcome, Built, Refusal, sssOutcome}
 
-abbrev pub held : Outcome → List ℤ → Against
-held (Built l) t = cond (begins (tableOf l) t) Same Other
-held (Refusal number place) t = Refused number place
+abbrev pub sssHeld : SssOutcome → List ℤ → Against
+sssHeld (Built l) t = cond (beginsTable (tableOf l) t) Same Other
+sssHeld (Refusal number place) t = Refused number place
 
-unfoldable pub againstOf : List ℕ → List ℤ → Against
-againstOf d t = held (outcomeOf d (lineBase mostRows mostLines)) t
+unfoldable pub sssAgainst : List ℕ → List ℤ → Against
+sssAgainst d t = sssHeld (sssOutcome d (lineBase mostRows mostLines)) t
 
 -- the table is the one that the definition yields
 abbrev pub isSame : Against → Bool
@@ -25,5 +25,5 @@ isSame Same = true
 isSame Other = false
 isSame (Refused number place) = false
 
-unfoldable pub yields : List ℕ → List ℤ → Bool
-yields d t = isSame (againstOf d t)
+unfoldable pub sssYields : List ℕ → List ℤ → Bool
+sssYields d t = isSame (sssAgainst d t)

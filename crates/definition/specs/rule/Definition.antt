@@ -21,13 +21,13 @@ use Rattle.reading.specs.rule.Whole.{surveyOf}
 use Rattle.definition.specs.declared.Answer.{Answer}
 use Rattle.definition.specs.declared.Answer.the-variants as answer
 
-pub data Outcome : Type 0 where
-  Built : List Variable → Outcome
-  Refusal : ℕ → ℕ → Outcome
+pub data SssOutcome : Type 0 where
+  Built : List Variable → SssOutcome
+  Refusal : ℕ → ℕ → SssOutcome
 
 -- "10 lent table too short": of n numbers
-unfoldable pub fitting : ℕ → List Variable → Outcome
-fitting n l = cond (ltb n (length (tableOf l))) (Refusal 10 0) (Built l)
+unfoldable pub sssFitting : ℕ → List Variable → SssOutcome
+sssFitting n l = cond (ltb n (length (tableOf l))) (Refusal 10 0) (Built l)
 
 -- "With STANDARD NAMES, each decoded name ..", in the order of the file
 unfoldable pub namesOf : List ℕ → List Variable → List (List Sign)
@@ -39,28 +39,28 @@ quoteAt [] i = 0
 quoteAt (v ∷ l) zero = v .name .place - 1
 quoteAt (v ∷ l) (suc i) = quoteAt l i
 
-unfoldable pub judgeNames : List ℕ → ℕ → Bool → List Variable → Outcome
+unfoldable pub judgeNames : List ℕ → ℕ → Bool → List Variable → SssOutcome
 judgeNames d n standard l =
     let i = nameFault (namesOf d l) in
-    cond standard (cond (ltb i (length l)) (Refusal 9 (quoteAt l i)) (fitting n l)) (fitting n l)
+    cond standard (cond (ltb i (length l)) (Refusal 9 (quoteAt l i)) (sssFitting n l)) (sssFitting n l)
 
-abbrev pub settled : List ℕ → ℕ → Result Survey → Outcome
-settled d n (Is s m) = judgeNames d n (s .heading .standard) (s .variables)
-settled d n (Not f) = Refusal (f .number) (f .place)
+abbrev pub sssSettled : List ℕ → ℕ → Result Survey → SssOutcome
+sssSettled d n (Is s m) = judgeNames d n (s .heading .standard) (s .variables)
+sssSettled d n (Not f) = Refusal (f .number) (f .place)
 
-unfoldable pub outcomeOf : List ℕ → ℕ → Outcome
-outcomeOf d n = cond (ltb 1048576 (length d)) (Refusal 1 0) (settled d n (surveyOf d))
+unfoldable pub sssOutcome : List ℕ → ℕ → SssOutcome
+sssOutcome d n = cond (ltb 1048576 (length d)) (Refusal 1 0) (sssSettled d n (surveyOf d))
 
 -- ---- what the call answers, and what the table then holds
-unfoldable pub answerOf : Outcome → Answer
-answerOf (Built l) = answer.Read (length l) (linesAll l)
-answerOf (Refusal number place) = answer.Refused number place
+unfoldable pub sssAnswer : SssOutcome → Answer
+sssAnswer (Built l) = answer.Read (length l) (linesAll l)
+sssAnswer (Refusal number place) = answer.Refused number place
 
-unfoldable pub tableAfter : Outcome → List ℤ → List ℤ
-tableAfter (Built l) t = pasted t 0 (tableOf l)
-tableAfter (Refusal number place) t = t
+unfoldable pub sssTableAfter : SssOutcome → List ℤ → List ℤ
+sssTableAfter (Built l) t = pasted t 0 (tableOf l)
+sssTableAfter (Refusal number place) t = t
 
 -- THE PROMISE of the call, whose answer holds document 01's number and place: the answer, and the table afterwards
-pub record DefinitionRead (d : List ℕ) (t t′ : List ℤ) (a : Answer) : Type 0 where
-  pub says : a ≡ answerOf (outcomeOf d (length t))
-  pub leaves : t′ ≡ tableAfter (outcomeOf d (length t)) t
+pub record SssRead (d : List ℕ) (t t′ : List ℤ) (a : Answer) : Type 0 where
+  pub says : a ≡ sssAnswer (sssOutcome d (length t))
+  pub leaves : t′ ≡ sssTableAfter (sssOutcome d (length t)) t

@@ -8,11 +8,11 @@ pub data Special : ℕ → Type 0 where
   cr : Special 13
   lf : Special 10
 
-pub data Among (b : ℕ) : List ℕ → Type 0 where
-  here : {s : List ℕ} → Among b (b ∷ s)
-  there : {c : ℕ} {s : List ℕ} → Among b s → Among b (c ∷ s)
+pub data AmongBytes (b : ℕ) : List ℕ → Type 0 where
+  here : {s : List ℕ} → AmongBytes b (b ∷ s)
+  there : {c : ℕ} {s : List ℕ} → AmongBytes b s → AmongBytes b (c ∷ s)
 
 pub record HoldsOne (f : List ℕ) : Type 0 where
   pub byte : ℕ
   pub special : Special byte
-  pub among : Among byte f
+  pub among : AmongBytes byte f

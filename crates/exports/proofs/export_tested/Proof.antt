@@ -6,7 +6,7 @@ use borrow.Author.Tests.{not-true, not-false, leb-true}
 use lib.Dec.{leb}
 use lib.ListN.{length}
 use Rattle.files.specs.rule.Tested.{Tested}
-use Rattle.record_lines.specs.rule.Lines.{before}
+use Rattle.record_lines.specs.rule.Lines.{soundBefore}
 use Rattle.exports.specs.rule.Text.{exportSaid}
 use Rattle.exports.specs.Sizes.{told-sound, told-text, too-long, all-there}
 use Rattle.exports.proofs.export_tested.Statement.{statement}

@@ -2,19 +2,19 @@
 use mathlib.Core.Path.{_≡_, refl, sym, ap, _∙_}
 use borrow.Author.Needs.{needs}
 use borrow.Author.Tests.{not-true, not-false}
-use Rattle.exports.specs.rule.Text.{exportSaid, outputAfter}
+use Rattle.exports.specs.rule.Text.{exportSaid, exportAfter}
 use Rattle.exports.specs.rule.Export.{exportVerdict}
 use Rattle.exports.proofs.write_export.Statement.{statement}
 use Rattle.exports.proofs.write_export.Tie as tie
 
 returns : tie.Need-returns
-unfolding exportSaid exportVerdict outputAfter
+unfolding exportSaid exportVerdict exportAfter
 returns c =
     let e = sym (c .before .well-formed .ensures .says) ∙ not-true _ (c .if1 .taken) in
     record { says = rw e; leaves = rw e }
 
 returns-2 : tie.Need-returns-2
-unfolding exportSaid exportVerdict outputAfter
+unfolding exportSaid exportVerdict exportAfter
 returns-2 c =
     let e = sym (c .before .before .before .well-formed .ensures .says) ∙ not-false _ (c .before .before .if1 .left) in
     let f = sym (c .before .yields .ensures) ∙ not-true _ (c .if2 .taken) in

@@ -10,7 +10,7 @@ use lib.ListN.{length}
 use Rattle.sound.specs.rule.Sound.{wellFormed}
 use Rattle.files.specs.rule.File.{fileVerdict}
 use Rattle.kinds.specs.rule.Against.{yields}
-use Rattle.exports.specs.rule.Text.{exportText, ExportVerdict, refused, fitted, outputAfter}
+use Rattle.exports.specs.rule.Text.{exportText, ExportVerdict, refused, fitted, exportAfter}
 
 -- THE VERDICT, with so much room
 unfoldable pub exportVerdict : List ℕ → List ℤ → List ℕ → ℕ → ExportVerdict
@@ -20,4 +20,4 @@ exportVerdict def t d room =
 -- THE PROMISE of the call
 pub record Exported (def : List ℕ) (t : List ℤ) (d out out′ : List ℕ) (v : ExportVerdict) : Type 0 where
   pub says : v ≡ exportVerdict def t d (length out)
-  pub leaves : out′ ≡ outputAfter (exportVerdict def t d (length out)) (exportText def t d) out
+  pub leaves : out′ ≡ exportAfter (exportVerdict def t d (length out)) (exportText def t d) out

@@ -11,23 +11,23 @@ use lib.ListN.{length, drop}
 use Rattle.cuts.specs.rule.Records.{Records, recordsOf}
 use Rattle.sound.specs.rule.Rows.{rowsOf}
 use Rattle.files.specs.rule.File.{FileVerdict, fileSaid, fileVerdict}
-use Rattle.commas.specs.rule.Csv.{textBytes}
+use Rattle.commas.specs.rule.Csv.{csvBytes}
 use Rattle.name_line.specs.rule.Names.{nameLine}
-use Rattle.record_lines.specs.rule.Lines.{before, linesOf}
+use Rattle.record_lines.specs.rule.Lines.{soundBefore, recordsLines}
 use Rattle.exports.specs.declared.Export.{Export}
 use Rattle.exports.specs.declared.Export.the-variants as E
 
 -- the names, and the lines of the first n records
 unfoldable pub linesWith : List ℕ → List ℤ → ℕ → Records → List (List (List ℕ))
-linesWith def t n rs = nameLine def t (rowsOf t) ∷ linesOf t n rs
+linesWith def t n rs = nameLine def t (rowsOf t) ∷ recordsLines t n rs
 
 -- the lines of an export: its records are those before the first fault
 unfoldable pub exportLines : List ℕ → List ℤ → List ℕ → List (List (List ℕ))
-exportLines def t d = linesWith def t (before (fileVerdict t d)) (recordsOf d)
+exportLines def t d = linesWith def t (soundBefore (fileVerdict t d)) (recordsOf d)
 
 -- THE TEXT
 unfoldable pub exportText : List ℕ → List ℤ → List ℕ → List ℕ
-exportText def t d = textBytes (exportLines def t d)
+exportText def t d = csvBytes (exportLines def t d)
 
 -- ---- the answer
 -- a number alone; or what judge_file says of the data, and the length of the text
@@ -47,6 +47,6 @@ unfoldable pub fitted : FileVerdict → List ℕ → ℕ → ExportVerdict
 fitted v s room = cond (leb (length s) room) (written v (length s)) (refused 60)
 
 -- the output afterwards: the text and what stood behind it, or as it was
-unfoldable pub outputAfter : ExportVerdict → List ℕ → List ℕ → List ℕ
-outputAfter (refused k) s out = out
-outputAfter (written v n) s out = s ++ drop (length s) out
+unfoldable pub exportAfter : ExportVerdict → List ℕ → List ℕ → List ℕ
+exportAfter (refused k) s out = out
+exportAfter (written v n) s out = s ++ drop (length s) out

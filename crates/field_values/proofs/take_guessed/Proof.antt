@@ -9,14 +9,14 @@ use mir.Val.{toZ, ofZ}
 use Prim.Native.Nat.{ℕ, _+_, _≤_, _<_}
 use lib.ListN.{length, take}
 use lib.Seq.{length-take-le}
-use Rattle.writes.specs.rule.Write.{valueOf}
+use Rattle.writes.specs.rule.Write.{lentValue}
 use Rattle.fields.specs.rule.Field.{number, members, text, truth}
 use Rattle.field_values.specs.Steps.{wrote, guess-none, left-empty, single-number, quantity-number, text-is, text-left-is}
 use Rattle.field_values.proofs.take_guessed.Statement.{statement}
 use Rattle.field_values.proofs.take_guessed.Tie as tie
 
 returns : tie.Need-returns
-unfolding valueOf
+unfolding lentValue
 returns c =
     let at-if1 = c .before .before .before .before .before in
     let args = at-if1 .before .before .before .before .args in
@@ -73,7 +73,7 @@ take-truth-requires c κs =
     )
 
 returns-5 : tie.Need-returns-5
-unfolding valueOf
+unfolding lentValue
 returns-5 c =
     let at-enum-told3 = c .before .before .before .before .before in
     let at-if1 = at-enum-told3 .before .before in

@@ -10,7 +10,7 @@ use mir.Val.{toZ, ofZ}
 use Prim.Native.Nat.{ℕ, _+_, _≤_, _<_}
 use lib.ListN.{length, take}
 use lib.Seq.{length-take-le}
-use Rattle.writes.specs.rule.Write.{valueOf}
+use Rattle.writes.specs.rule.Write.{lentValue}
 use Rattle.fields.specs.rule.Field.{number, members, text, truth}
 use Rattle.field_values.specs.Steps.{number-sendable, number-stands, number-inside, none-taken, left-none, number-left-is, number-is}
 use Rattle.field_values.specs.Steps.{wrote}
@@ -58,7 +58,7 @@ returns c =
     ∙ (at-guess-number .guess-number) .ensures) (s .1) (sym (not-true _ ((c .if1) .taken)) ∙ (c .before .left-of) .ensures)))
 
 returns-2 : tie.Need-returns-2
-unfolding valueOf
+unfolding lentValue
 returns-2 c =
     let at-if1 = c .before .before .before .before .before in
     let at-left-of = at-if1 .before in

@@ -9,7 +9,7 @@ use mir.Val.{toZ, ofZ}
 use Prim.Native.Nat.{ℕ, _+_, _≤_, _<_}
 use lib.ListN.{length, take}
 use lib.Seq.{length-take-le}
-use Rattle.writes.specs.rule.Write.{valueOf}
+use Rattle.writes.specs.rule.Write.{lentValue}
 use Rattle.fields.specs.rule.Field.{number, members, text, truth}
 use mathlib.Core.Logic.{⊎-elim}
 use Rattle.below.specs.Below.{lt-or-le}
@@ -108,7 +108,7 @@ slice-aggregate-write-row c =
     )))
 
 returns-5 : tie.Need-returns-5
-unfolding valueOf
+unfolding lentValue
 returns-5 c =
     let at-write-row = c .before .before .before in
     let at-left-of = at-write-row .before .before .before .before in

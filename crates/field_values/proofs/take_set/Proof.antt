@@ -3,7 +3,7 @@ use mathlib.Core.Path.{_≡_, refl, sym, ap, _∙_}
 use native.Mathlib.Omega.{arith}
 use borrow.Author.Needs.{needs}
 use lib.Seq.{length-take-le}
-use Rattle.writes.specs.rule.Write.{valueOf}
+use Rattle.writes.specs.rule.Write.{lentValue}
 use Rattle.field_values.specs.Coded.{coded-guess, coded-left}
 use Rattle.field_values.specs.Steps.{set-is, set-left-is, wrote}
 use Rattle.field_values.proofs.take_set.Statement.{statement}
@@ -38,7 +38,7 @@ slice-aggregate-write-row c = sym (length-take-le _ _
     )))
 
 returns-2 : tie.Need-returns-2
-unfolding valueOf
+unfolding lentValue
 returns-2 c =
     let at-write-row = c .before .before .before in
     let at-take-codes = at-write-row .before .before .before .before .before in

@@ -9,7 +9,7 @@ use mir.Val.{toZ, ofZ}
 use Prim.Native.Nat.{ℕ, _+_, _≤_, _<_}
 use lib.ListN.{length, take}
 use lib.Seq.{length-take-le}
-use Rattle.writes.specs.rule.Write.{valueOf}
+use Rattle.writes.specs.rule.Write.{lentValue}
 use Rattle.fields.specs.rule.Field.{number, members, text, truth}
 use Rattle.field_values.specs.Steps.{none-taken, left-none, truth-is, truth-left-is, wrote}
 use Rattle.field_values.proofs.take_truth.Statement.{statement}
@@ -26,7 +26,7 @@ returns c =
     ((start .pre) .1 .1 .1) refl (rw ((at-bit-of .bit-of) .ensures)) (sym (not-true _ ((c .if1) .taken)) ∙ (c .before .left-of) .ensures)))
 
 returns-2 : tie.Need-returns-2
-unfolding valueOf
+unfolding lentValue
 returns-2 c =
     let at-write-truth = c .before .before .before in
     let at-bit-of = at-write-truth .before .before .before .before .before in

@@ -13,7 +13,8 @@ use Rattle.layout.specs.declared.Kind.{Kind}
 use Rattle.layout.specs.declared.Kind.the-variants.{Single, Multiple, Quantity, Character, Logical}
 use Rattle.fields.specs.rule.Field.{Value, missing, number, members, text, truth, Field, holds, illegal}
 use Rattle.fields.specs.rule.Row.{Fit, fits, otherType, notLegal, tooMany, fitOf}
-use Rattle.value_fields.specs.rule.Values.{valueText, decimalsOf}
+use Rattle.value_fields.specs.rule.Values.{exportValue}
+use Rattle.widths.specs.rule.Width.{decimalsOf}
 use Rattle.field_values.specs.rule.Value.{zeros}
 
 -- the number that digits say after n, and no more than 10 ^ 15, which no row allows
@@ -97,6 +98,6 @@ triedAs left accepted x = cond left (cond accepted (holds x) illegal) illegal
 -- THE VALUE of a field: `holds` it, or `illegal`
 unfoldable pub valueFrom : List ℤ → ℕ → Row → List ℕ → Field
 valueFrom t v r f =
-    triedAs (leftOf (decimalsOf (r .kind)) (valueText (decimalsOf (r .kind)) (guessOf (r .kind) f)) f)
+    triedAs (leftOf (decimalsOf (r .kind)) (exportValue (decimalsOf (r .kind)) (guessOf (r .kind) f)) f)
     (isFits (fitOf t v r (guessOf (r .kind) f)))
     (guessOf (r .kind) f)

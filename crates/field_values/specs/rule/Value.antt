@@ -9,7 +9,8 @@ use lib.IntN.{ℤ}
 use Rattle.layout.specs.declared.Row.{Row}
 use Rattle.fields.specs.rule.Field.{Value}
 use Rattle.fields.specs.rule.Row.{fits, fitOf}
-use Rattle.value_fields.specs.rule.Values.{valueText, decimalsOf}
+use Rattle.value_fields.specs.rule.Values.{exportValue}
+use Rattle.widths.specs.rule.Width.{decimalsOf}
 
 unfoldable pub zeros : ℕ → List ℕ
 zeros zero = []
@@ -25,4 +26,4 @@ pub data Left (k : ℕ) (s f : List ℕ) : Type 0 where
 -- THE FIELD f IS THE VALUE x of the row r of a table of v rows
 pub record IsValue (t : List ℤ) (v : ℕ) (r : Row) (f : List ℕ) (x : Value) : Type 0 where
   pub accepted : fitOf t v r x ≡ fits
-  pub written : Left (decimalsOf (r .kind)) (valueText (decimalsOf (r .kind)) x) f
+  pub written : Left (decimalsOf (r .kind)) (exportValue (decimalsOf (r .kind)) x) f

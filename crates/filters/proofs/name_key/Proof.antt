@@ -7,7 +7,7 @@ use borrow.Author.Tests.{not-true, not-false}
 use Rattle.signs.specs.declared.Sign.{Sign}
 use Rattle.names.specs.Name.{keyOf}
 use Rattle.names.proofs.Keys.{key-bad, key-long, key-next, key-break, key-done, key-room}
-use Rattle.contents.specs.rule.Content.{begun, signsFrom, signsAt}
+use Rattle.contents.specs.rule.Content.{begun, signsFrom, contentSigns}
 use Rattle.stretches.proofs.Outcomes.{begins, told-one, told-over}
 use Rattle.filters.specs.Code.{Ready}
 use Rattle.filters.proofs.name_key.Statement.{statement}
@@ -15,7 +15,7 @@ use Rattle.filters.proofs.name_key.Tie as tie
 
 abbrev Inv-loop : tie.InvT-loop
 Inv-loop classes latin d at c₀ count₀ key₀ c count key =
-    (keyOf 0 0 (signsFrom latin d (begun at)) ≡ keyOf count key (signsAt latin d c))
+    (keyOf 0 0 (signsFrom latin d (begun at)) ≡ keyOf count key (contentSigns latin d c))
     × (count ≤ 8)
     × (key < 256 ^ count)
     × Ready d c

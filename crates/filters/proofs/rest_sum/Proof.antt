@@ -2,7 +2,7 @@ use mathlib.Core.Path.{_≡_, sym, ap, _∙_}
 use native.Mathlib.Omega.{arith}
 use lib.ListN.{length}
 use borrow.Author.Needs.{needs}
-use Rattle.contents.specs.rule.Content.{begun, signsFrom, signsAt}
+use Rattle.contents.specs.rule.Content.{begun, signsFrom, contentSigns}
 use Rattle.stretches.proofs.Outcomes.{begins, told-one, told-over}
 use Rattle.filters.specs.Code.{Ready}
 use Rattle.filters.specs.Sums.{sumFrom}
@@ -12,10 +12,10 @@ use Rattle.filters.proofs.rest_sum.Tie as tie
 
 abbrev Inv-loop : tie.InvT-loop
 Inv-loop latin d at before c₀ sum₀ c sum =
-    (sumFrom before (signsFrom latin d (begun at)) ≡ sumFrom sum (signsAt latin d c)) × Ready d c
+    (sumFrom before (signsFrom latin d (begun at)) ≡ sumFrom sum (contentSigns latin d c)) × Ready d c
 
 abbrev μ-loop : tie.MeasureT-loop
-μ-loop latin d at before c₀ sum₀ c sum = length (signsAt latin d c)
+μ-loop latin d at before c₀ sum₀ c sum = length (contentSigns latin d c)
 
 returns : tie.Need-returns Inv-loop μ-loop
 returns c = let a = c .before .before .args in sum-end (a .latin) (a .d .now) (a .at) (a .before) (c .if1 .taken)

@@ -1,7 +1,7 @@
 use mathlib.Core.Path.{_≡_, sym, _∙_}
 use lib.ListN.{length}
 use borrow.Author.Needs.{needs}
-use Rattle.contents.specs.rule.Content.{begun, signsFrom, signsAt}
+use Rattle.contents.specs.rule.Content.{begun, signsFrom, contentSigns}
 use Rattle.stretches.proofs.Outcomes.{begins}
 use Rattle.xml_reading.specs.rule.Role.{alike}
 use Rattle.filters.specs.Code.{Ready}
@@ -11,12 +11,13 @@ use Rattle.filters.proofs.same_rest.Tie as tie
 
 abbrev Inv-loop : tie.InvT-loop
 Inv-loop latin standard s t p q a₀ b₀ a b =
-    (alike standard (signsFrom latin s (begun p)) (signsFrom latin t (begun q)) ≡ alike standard (signsAt latin s a) (signsAt latin t b))
+    (alike standard (signsFrom latin s (begun p)) (signsFrom latin t (begun q))
+    ≡ alike standard (contentSigns latin s a) (contentSigns latin t b))
     × Ready s a
     × Ready t b
 
 abbrev μ-loop : tie.MeasureT-loop
-μ-loop latin standard s t p q a₀ b₀ a b = length (signsAt latin s a)
+μ-loop latin standard s t p q a₀ b₀ a b = length (contentSigns latin s a)
 
 loop-holds : tie.Need-loop-holds Inv-loop μ-loop
 loop-holds c =

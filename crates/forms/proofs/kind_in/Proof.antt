@@ -1,16 +1,16 @@
 use mathlib.Core.Path.{_∙_, sym}
 use borrow.Author.Needs.{needs}
-use Rattle.forms.specs.rule.Form.{kindOf}
+use Rattle.forms.specs.rule.Form.{formKind}
 use Rattle.forms.proofs.kind_in.Statement.{statement}
 use Rattle.forms.proofs.kind_in.Tie as tie
 
 returns : tie.Need-returns
-unfolding kindOf
+unfolding formKind
 returns c =
     rw (sym (c .before .is-word .ensures) ∙ c .if1 .taken)
 
 returns-2 : tie.Need-returns-2
-unfolding kindOf
+unfolding formKind
 returns-2 c =
     rw (
       sym (c .before .before .before .before .is-word .ensures) ∙ c .before .before .before .if1 .left,
@@ -18,7 +18,7 @@ returns-2 c =
     )
 
 returns-3 : tie.Need-returns-3
-unfolding kindOf
+unfolding formKind
 returns-3 c =
     let at-if2 = c .before .before .before in
     rw (
@@ -28,7 +28,7 @@ returns-3 c =
     )
 
 returns-4 : tie.Need-returns-4
-unfolding kindOf
+unfolding formKind
 returns-4 c =
     let at-is-word3 = c .before .before .before .before in
     let at-if2 = at-is-word3 .before .before in
@@ -40,7 +40,7 @@ returns-4 c =
     )
 
 returns-5 : tie.Need-returns-5
-unfolding kindOf
+unfolding formKind
 returns-5 c =
     let at-is-word4 = c .before .before .before .before in
     let at-if2 = at-is-word4 .before .before .before .before .before in
@@ -53,7 +53,7 @@ returns-5 c =
     )
 
 returns-6 : tie.Need-returns-6
-unfolding kindOf
+unfolding formKind
 returns-6 c =
     let at-is-word4 = c .before .before .before .before in
     let at-if2 = at-is-word4 .before .before .before .before .before in

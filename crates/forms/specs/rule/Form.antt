@@ -5,7 +5,7 @@ use mathlib.Core.List.{List, [], _∷_}
 use Prim.Native.Nat.{ℕ}
 use lib.Dec.{ltb, eqb}
 use Rattle.spans.specs.rule.Heard.{Heard}
-use Rattle.spans.specs.rule.Says.{countOf, wordOf}
+use Rattle.spans.specs.rule.Says.{heardCount, heardWord}
 
 -- single
 abbrev pub single : List ℕ
@@ -40,23 +40,23 @@ abbrev pub standardnames : List ℕ
 standardnames = 115 ∷ 116 ∷ 97 ∷ 110 ∷ 100 ∷ 97 ∷ 114 ∷ 100 ∷ 110 ∷ 97 ∷ 109 ∷ 101 ∷ 115 ∷ []
 
 -- the types, by the numbers that the table has
-unfoldable pub kindOf : Heard → ℕ
-kindOf h =
-    cond (wordOf single h) 1
-    (cond (wordOf multiple h) 2
-    (cond (wordOf quantity h) 3
-    (cond (wordOf character h) 4
-    (cond (wordOf logical h) 5 0))))
+unfoldable pub formKind : Heard → ℕ
+formKind h =
+    cond (heardWord single h) 1
+    (cond (heardWord multiple h) 2
+    (cond (heardWord quantity h) 3
+    (cond (heardWord character h) 4
+    (cond (heardWord logical h) 5 0))))
 
 unfoldable pub useOf : Heard → ℕ
-useOf h = cond (wordOf serial h) 1 (cond (wordOf weight h) 2 0)
+useOf h = cond (heardWord serial h) 1 (cond (heardWord weight h) 2 0)
 
 -- the forms: 0 any, 1 digits, 2 digits, points, + and -, 3 one letter, 4 a type, 5 a use, 6 the option
 unfoldable pub fitsOf : ℕ → Heard → Bool
 fitsOf form h =
     cond (eqb form 0) true
-    (cond (eqb form 1) (ltb 0 (countOf 1 h))
-    (cond (eqb form 2) (ltb 0 (countOf 2 h))
-    (cond (eqb form 3) (eqb (countOf 3 h) 1)
-    (cond (eqb form 4) (ltb 0 (kindOf h))
-    (cond (eqb form 5) (ltb 0 (useOf h)) (wordOf standardnames h))))))
+    (cond (eqb form 1) (ltb 0 (heardCount 1 h))
+    (cond (eqb form 2) (ltb 0 (heardCount 2 h))
+    (cond (eqb form 3) (eqb (heardCount 3 h) 1)
+    (cond (eqb form 4) (ltb 0 (formKind h))
+    (cond (eqb form 5) (ltb 0 (useOf h)) (heardWord standardnames h))))))

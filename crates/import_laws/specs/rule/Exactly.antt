@@ -20,17 +20,17 @@ use Rattle.import_rule.specs.rule.Text.{TextSays, accepts, refuses, fileBytes}
 use Rattle.imports.specs.rule.Import.{ImportVerdict, refused, written, importSays}
 
 -- the fields of the rows from i on are values, written to the record s in row order, which gives u; or one is none, at a column
-pub data Written (t : List ℤ) : ℕ → List (List ℕ) → List ℕ → LineSays → Type 0 where
-  all-written : {i : ℕ} {s : List ℕ} → Written t i [] s (builds s)
+pub data LineWritten (t : List ℤ) : ℕ → List (List ℕ) → List ℕ → LineSays → Type 0 where
+  all-written : {i : ℕ} {s : List ℕ} → LineWritten t i [] s (builds s)
   one-written : {i : ℕ} {f s : List ℕ} {fs : List (List ℕ)} {u : LineSays} (x : Value) → IsValue t (rowsOf t) (rowAt t i) f x
-      → Written t (i + 1) fs (writtenOf t (rowsOf t) (rowAt t i) x s) u → Written t i (f ∷ fs) s u
+      → LineWritten t (i + 1) fs (writtenOf t (rowsOf t) (rowAt t i) x s) u → LineWritten t i (f ∷ fs) s u
   no-value : {i : ℕ} {f s : List ℕ} {fs : List (List ℕ)} → ((x : Value) → IsValue t (rowsOf t) (rowAt t i) f x → ⊥)
-      → Written t i (f ∷ fs) s (faulty 64 (i + 1))
+      → LineWritten t i (f ∷ fs) s (faulty 64 (i + 1))
 
 -- A LINE: 63 before 64; else the record that ordinary writes in row order into L spaces give
 pub data LineOutcome (t : List ℤ) (fs : List (List ℕ)) : LineSays → Type 0 where
   other-count : (length fs ≡ rowsOf t → ⊥) → LineOutcome t fs (faulty 63 (min (length fs) (rowsOf t) + 1))
-  its-fields : {u : LineSays} → length fs ≡ rowsOf t → Written t 0 fs (spaces (lengthOf t)) u → LineOutcome t fs u
+  its-fields : {u : LineSays} → length fs ≡ rowsOf t → LineWritten t 0 fs (spaces (lengthOf t)) u → LineOutcome t fs u
 
 -- THE LINES from line n on: the first that is refused refuses the text
 pub data LinesOutcome (t : List ℤ) : ℕ → Lines → TextSays → Type 0 where

@@ -7,8 +7,8 @@ use Rattle.layout.specs.rule.Row.{rowAt}
 use Rattle.sound.specs.rule.Rows.{lengthOf}
 use Rattle.cuts.specs.rule.Records.{over, recordsOf}
 use Rattle.files.specs.rule.File.{soundWith, fileVerdict}
-use Rattle.file_laws.specs.rule.Files.{before, AllSound}
-use Rattle.value_fields.specs.rule.Values.{decimalsOf}
+use Rattle.file_laws.specs.rule.Files.{recordsBefore, AllSound}
+use Rattle.widths.specs.rule.Width.{decimalsOf}
 use Rattle.field_values.specs.rule.Value.{Left}
 use Rattle.csv_laws.specs.rule.Grammar.{IsText}
 use Rattle.exports.specs.rule.Text.{exportLines}
@@ -43,7 +43,7 @@ pub record Original (def : List ℕ) (t : List ℤ) (s : List ℕ) : Type 0 wher
   pub count : ℕ
   pub judged : fileVerdict t file ≡ soundWith count
   pub records : List (List ℕ)
-  pub are : recordsOf file ≡ before records over
+  pub are : recordsOf file ≡ recordsBefore records over
   pub sized : AllSound t (lengthOf t) records
   pub exported : IsExport def t file s
 

@@ -11,7 +11,7 @@ use Rattle.sound.specs.rule.Sound.{wellFormed}
 use Rattle.sound.specs.rule.Rows.{rowsOf, lengthOf}
 use Rattle.sharing.specs.rule.Sharing.{sharesNone}
 use Rattle.records.specs.rule.Value.{readingAt}
-use Rattle.file_laws.specs.rule.Files.{before}
+use Rattle.file_laws.specs.rule.Files.{recordsBefore}
 use Rattle.exports.specs.rule.Text.{exportText}
 use Rattle.import_rule.specs.rule.Text.{TextSays, accepts, fileBytes}
 use Rattle.imports.specs.rule.Import.{importSays}
@@ -36,14 +36,14 @@ pub record ReadBack (t : List ℤ) (rs : List (List ℕ)) (says : TextSays) : Ty
 -- THE ROUND TRIP of a file: its records, and what the import of its export says
 pub record Returned (def : List ℕ) (t : List ℤ) (d : List ℕ) : Type 0 where
   pub originals : List (List ℕ)
-  pub are : recordsOf d ≡ before originals over
+  pub are : recordsOf d ≡ recordsBefore originals over
   pub imported : ReadBack t originals (importSays def t (exportText def t d))
 
 -- and by two calls, the one's buffer lent to the other: so many records, in so many bytes at the second buffer's start, that read as those
 -- of the file
 pub record CameBack (t : List ℤ) (d back : List ℕ) (count long : ℕ) : Type 0 where
   pub originals : List (List ℕ)
-  pub are : recordsOf d ≡ before originals over
+  pub are : recordsOf d ≡ recordsBefore originals over
   pub records : List (List ℕ)
   pub reads : ReadAs t originals records
   pub counted : count ≡ length records

@@ -5,7 +5,7 @@ use Prim.Native.Nat.{_≤_, _<_}
 use native.Mathlib.Omega.{arith}
 use borrow.Author.Needs.{needs}
 use lib.ListN.{length, drop}
-use Rattle.contents.specs.rule.Content.{signsAt}
+use Rattle.contents.specs.rule.Content.{contentSigns}
 use Rattle.stretches.proofs.Outcomes.{begins, told-one, told-over}
 use Rattle.name_line.specs.Names.{bytesOf, restText, shorter}
 use Rattle.import_rule.specs.rule.Text.{sameBytes}
@@ -16,11 +16,11 @@ use Rattle.import_names.proofs.same_rest.Tie as tie
 
 abbrev Inv-loop : tie.InvT-loop
 Inv-loop latin d name raw c₀ i₀ c i =
-    (sameBytes (restText latin d name) (undoubled false raw) ≡ sameBytes (bytesOf (signsAt latin d c)) (undoubled false (drop i raw)))
+    (sameBytes (restText latin d name) (undoubled false raw) ≡ sameBytes (bytesOf (contentSigns latin d c)) (undoubled false (drop i raw)))
     × (c .next ≤ length d) × (c .code < 2097152)
 
 abbrev μ-loop : tie.MeasureT-loop
-μ-loop latin d name raw c₀ i₀ c i = length (signsAt latin d c)
+μ-loop latin d name raw c₀ i₀ c i = length (contentSigns latin d c)
 
 loop-holds : tie.Need-loop-holds Inv-loop μ-loop
 loop-holds c =

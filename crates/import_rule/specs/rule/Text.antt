@@ -8,7 +8,7 @@ use mathlib.Core.List.{List, [], _∷_, _++_}
 use Prim.Native.Nat.{ℕ, _+_}
 use lib.Dec.{eqb}
 use lib.IntN.{ℤ}
-use Rattle.csv_fields.specs.rule.Page.{fresh, page, Lines, done, broken, line, linesOf}
+use Rattle.csv_fields.specs.rule.Page.{fresh, page, Lines, done, broken, line, pageLines}
 use Rattle.import_rule.specs.rule.Line.{LineSays, builds, faulty, lineSays}
 
 -- records, or a refusal's number, line and column
@@ -22,15 +22,15 @@ andRecord r (accepts rs) = accepts (r ∷ rs)
 andRecord r (refuses k n c) = refuses k n c
 
 -- line n, and what the lines behind it say
-unfoldable pub onLine : ℕ → LineSays → TextSays → TextSays
-onLine n (builds r) rest = andRecord r rest
-onLine n (faulty k c) rest = refuses k n c
+unfoldable pub afterLine : ℕ → LineSays → TextSays → TextSays
+afterLine n (builds r) rest = andRecord r rest
+afterLine n (faulty k c) rest = refuses k n c
 
 -- the lines from line n on
 unfoldable pub linesSay : List ℤ → ℕ → Lines → TextSays
 linesSay t n done = accepts []
 linesSay t n (broken c) = refuses 61 n c
-linesSay t n (line fs ls) = onLine n (lineSays t fs) (linesSay t (n + 1) ls)
+linesSay t n (line fs ls) = afterLine n (lineSays t fs) (linesSay t (n + 1) ls)
 
 unfoldable pub sameBytes : List ℕ → List ℕ → Bool
 sameBytes [] [] = true
@@ -56,7 +56,7 @@ namesSay t names (line fs ls) = namesThen (differAt 1 names fs) (linesSay t 2 ls
 
 -- WHAT A TEXT SAYS, where these names are due
 unfoldable pub textSays : List ℤ → List (List ℕ) → List ℕ → TextSays
-textSays t names s = namesSay t names (linesOf (page fresh s))
+textSays t names s = namesSay t names (pageLines (page fresh s))
 
 -- the data file of the records
 unfoldable pub fileBytes : List (List ℕ) → List ℕ

@@ -6,7 +6,7 @@ use borrow.Author.Needs.{needs}
 use borrow.Author.Tests.{not-true, not-false}
 use Prim.Native.Nat.{_+_, _*_, _/_, _≤_, _<_}
 use lib.ListN.{length, drop}
-use Rattle.csv_fields.specs.rule.Page.{start, page, linesOf}
+use Rattle.csv_fields.specs.rule.Page.{start, page, pageLines}
 use Rattle.imports.specs.rule.Import.{importSaid}
 use Rattle.imports.specs.Import.{accepted-sized, roomed-short, roomed-fits, roomed-written}
 use Rattle.imports.proofs.build_records.Statement.{statement}
@@ -16,7 +16,7 @@ returns : tie.Need-returns
 unfolding importSaid
 returns c = roomed-short ((c .before .before .before .before .before .before .pre) .1 .1 .1 .0)
     (accepted-sized ((c .before .before .before .before .before .before .args) .t .now)
-    (linesOf (page start (drop ((c .before .before .before .before .before .before .args) .from)
+    (pageLines (page start (drop ((c .before .before .before .before .before .before .args) .from)
     ((c .before .before .before .before .before .before .args) .d .now))))
     ((c .before .before .before .before .before .before .pre) .1 .1 .1 .0)
     ((c .before .before .before .before .before .before .pre) .1 .0 .2)) (omega arith)
@@ -34,7 +34,7 @@ build-lines-requires c κs =
           (
             (the-start .pre) .1 .1 .0 .0,
             roomed-fits ((the-start .pre) .1 .1 .1 .0) (accepted-sized ((the-start .args) .t .now)
-                (linesOf (page start (drop ((the-start .args) .from) ((the-start .args) .d .now)))) ((the-start .pre) .1 .1 .1 .0)
+                (pageLines (page start (drop ((the-start .args) .from) ((the-start .args) .d .now)))) ((the-start .pre) .1 .1 .1 .0)
                 ((the-start .pre) .1 .0 .2)) (omega arith) ((the-start .args) .out .now) ((at-if1 .if1) .left),
             (the-start .pre) .1 .1 .0 .1,
             (the-start .pre) .1 .1 .0 .2,
@@ -53,7 +53,7 @@ mul-t14 c =
     let the-start = at-if1 .before .before .before .before .before .before in
     omega (
       arith,
-      roomed-fits ((the-start .pre) .1 .1 .1 .0) (accepted-sized ((the-start .args) .t .now) (linesOf (page start
+      roomed-fits ((the-start .pre) .1 .1 .1 .0) (accepted-sized ((the-start .args) .t .now) (pageLines (page start
           (drop ((the-start .args) .from) ((the-start .args) .d .now)))) ((the-start .pre) .1 .1 .1 .0)
           ((the-start .pre) .1 .0 .2)) (omega arith) ((the-start .args) .out .now) ((at-if1 .if1) .left),
       (the-start .good) .1 .1 .1 .1 .1 .1 .1 .1 .1 .1 .1 .0,
@@ -68,7 +68,7 @@ returns-2 c = roomed-written
     (accepted-sized
     ((c .before .before .before .before .before .before .before .before .before .before .before .before .before .before .before .before
     .before
-    .before .args) .t .now) (linesOf (page start (drop
+    .before .args) .t .now) (pageLines (page start (drop
     ((c .before .before .before .before .before .before .before .before .before .before .before .before .before .before .before .before
     .before
     .before .args) .from)

@@ -3,7 +3,7 @@ use mathlib.Core.Path.{_≡_, refl, sym, ap, _∙_}
 use native.Mathlib.Omega.{arith}
 use borrow.Author.Needs.{needs}
 use lib.ListN.{length, drop}
-use Rattle.csv_fields.specs.rule.Page.{start, page, linesOf}
+use Rattle.csv_fields.specs.rule.Page.{start, page, pageLines}
 use Rattle.import_rule.specs.rule.Text.{linesSay}
 use Rattle.imports.specs.rule.Import.{importSaid}
 use Rattle.imports.specs.Import.{roomed-refused, judged-refused, judged-done}
@@ -51,7 +51,7 @@ build-records-requires c κs = (
             (linesSay
             ((c .before .before .before .before .before .before .before .before .before .before .before .before .before .before .before
             .before .before .before .before .before .before .before .before .before .before .before .args) .t .now) 2
-            (linesOf (page start
+            (pageLines (page start
             (drop ((c .before .before .before .before .before .before .before .before .before .before .before .before .before .before
             .before .before .before .before .before .before .before .before .before .before .before .before .args) .from)
             ((c .before .before .before .before .before .before .before .before .before .before .before .before .before .before .before
@@ -76,7 +76,7 @@ returns c =
     (linesSay
     ((c .before .before .before .before .before .before .before .before .before .before .before .before .before .before .before .before
     .before .before .before .before .args) .t .now) 2
-    (linesOf (page start
+    (pageLines (page start
     (drop ((c .before .before .before .before .before .before .before .before .before .before .before .before .before .before .before
     .before .before .before .before .before .args) .from)
     ((c .before .before .before .before .before .before .before .before .before .before .before .before .before .before .before .before

@@ -47,11 +47,11 @@ importVerdict def t s room =
     (refused 20 0 0)
 
 -- the output afterwards: the data and what stood behind them, or as it was
-unfoldable pub outputAfter : ImportVerdict → List ℕ → List ℕ → List ℕ
-outputAfter (refused k n c) s out = out
-outputAfter (written n m) s out = s ++ drop (length s) out
+unfoldable pub importAfter : ImportVerdict → List ℕ → List ℕ → List ℕ
+importAfter (refused k n c) s out = out
+importAfter (written n m) s out = s ++ drop (length s) out
 
 -- THE PROMISE of the call
 pub record Imported (def : List ℕ) (t : List ℤ) (s out out′ : List ℕ) (v : ImportVerdict) : Type 0 where
   pub says : v ≡ importVerdict def t s (length out)
-  pub leaves : out′ ≡ outputAfter (importVerdict def t s (length out)) (dataOf (importSays def t s)) out
+  pub leaves : out′ ≡ importAfter (importVerdict def t s (length out)) (dataOf (importSays def t s)) out

@@ -6,9 +6,9 @@ use mathlib.Core.Bool.{false}
 use mathlib.Core.List.{List, [], _∷_, map}
 use mathlib.Core.Option.{Option, none, some, Option·getD}
 use Prim.Native.Nat.{ℕ}
-use Rattle.survey.specs.rule.Survey.{Figure, Amount, Text, Range, Line, Block, Spread, Content, single, multiple, quantity, character}
+use Rattle.survey.specs.rule.Survey.{Figure, Amount, KeptText, Range, Line, Block, Spread, Content, single, multiple, quantity, character}
 use Rattle.survey.specs.rule.Survey.{logical, Variable}
-use Rattle.xml_reading.specs.rule.Role.{Entry}
+use Rattle.xml_reading.specs.rule.Role.{XmlEntry}
 
 abbrev pub figureSaid : Figure → Figure
 figureSaid x = record { place = 0; end = 0; digits = 0; value = x .value }
@@ -25,7 +25,7 @@ amountSaid a = record {
   formed = a .formed;
 }
 
-abbrev pub nowhere : Text
+abbrev pub nowhere : KeptText
 nowhere = record { place = 0; length = 0 }
 
 abbrev pub rangeSaid : Option Range → Option Range
@@ -54,8 +54,8 @@ contentSaid (character n) = character (figureSaid n)
 contentSaid logical = logical
 
 -- what a variable says, apart from texts and places
-unfoldable pub saidBy : Variable → Variable
-saidBy v = record {
+unfoldable pub saidAlike : Variable → Variable
+saidAlike v = record {
   ident = figureSaid (v .ident);
   name = nowhere;
   label = nowhere;
@@ -65,6 +65,7 @@ saidBy v = record {
 }
 
 -- the entries of a definition in XML and the variables of a 1.1 definition
-pub data Meet : List Entry → List Variable → Type 0 where
+pub data Meet : List XmlEntry → List Variable → Type 0 where
   nil : Meet [] []
-  more : {v : Entry} {u : Variable} {l : List Entry} {m : List Variable} → saidBy (v .variable) ≡ saidBy u → Meet l m → Meet (v ∷ l) (u ∷ m)
+  more : {v : XmlEntry} {u : Variable} {l : List XmlEntry} {m : List Variable} → saidAlike (v .variable) ≡ saidAlike u → Meet l m
+      → Meet (v ∷ l) (u ∷ m)

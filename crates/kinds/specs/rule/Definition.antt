@@ -18,34 +18,34 @@ use Rattle.xml_reading.specs.rule.Role.{variablesOf}
 use Rattle.xml_reading.specs.rule.Whole as xml
 
 -- V, E and the numbers of the table; or a refusal's number and place
-pub data Outcome : Type 0 where
-  Built : ℕ → ℕ → List ℤ → Outcome
-  Refusal : ℕ → ℕ → Outcome
+pub data DefinitionOutcome : Type 0 where
+  Built : ℕ → ℕ → List ℤ → DefinitionOutcome
+  Refusal : ℕ → ℕ → DefinitionOutcome
 
 -- of a 1.1 definition
-abbrev pub ofSss : sss.Outcome → Outcome
+abbrev pub ofSss : sss.SssOutcome → DefinitionOutcome
 ofSss (sss.Built l) = Built (length l) (linesAll l) (tableOf l)
 ofSss (sss.Refusal number place) = Refusal number place
 
 -- of one in XML
-abbrev pub ofXml : xml.Outcome → Outcome
-ofXml (xml.Built l) = Built (length l) (linesAll (variablesOf l)) (xml.tableOf l)
+abbrev pub ofXml : xml.XmlOutcome → DefinitionOutcome
+ofXml (xml.Built l) = Built (length l) (linesAll (variablesOf l)) (xml.xmlTable l)
 ofXml (xml.Refusal number place) = Refusal number place
 
 -- for a lent table of n numbers
-unfoldable pub outcomeOf : List ℕ → ℕ → Outcome
-outcomeOf d n = cond (isXml d) (ofXml (xml.outcomeOf d n)) (ofSss (sss.outcomeOf d n))
+unfoldable pub definitionOutcome : List ℕ → ℕ → DefinitionOutcome
+definitionOutcome d n = cond (isXml d) (ofXml (xml.xmlOutcome d n)) (ofSss (sss.sssOutcome d n))
 
 -- ---- what the call answers, and what the table then holds
-unfoldable pub answerOf : Outcome → Answer
+unfoldable pub answerOf : DefinitionOutcome → Answer
 answerOf (Built v e s) = answer.Read v e
 answerOf (Refusal number place) = answer.Refused number place
 
-unfoldable pub tableAfter : Outcome → List ℤ → List ℤ
+unfoldable pub tableAfter : DefinitionOutcome → List ℤ → List ℤ
 tableAfter (Built v e s) t = pasted t 0 s
 tableAfter (Refusal number place) t = t
 
 -- THE PROMISE of the call, whose answer holds document 01's number and place: the answer, and the table afterwards
 pub record DefinitionRead (d : List ℕ) (t t′ : List ℤ) (a : Answer) : Type 0 where
-  pub says : a ≡ answerOf (outcomeOf d (length t))
-  pub leaves : t′ ≡ tableAfter (outcomeOf d (length t)) t
+  pub says : a ≡ answerOf (definitionOutcome d (length t))
+  pub leaves : t′ ≡ tableAfter (definitionOutcome d (length t)) t

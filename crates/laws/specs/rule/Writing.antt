@@ -17,11 +17,11 @@ pub record Sound (t : List ℤ) (i n : ℕ) : Type 0 where
   pub row : i < rowsOf t
   pub long : lengthOf t ≤ n
 
-pub data Outcome (t : List ℤ) (i : ℕ) (x : Value) (n : ℕ) : ℕ → Type 0 where
-  not-formed : wellFormed t ≡ false → Outcome t i x n 20
-  no-row : wellFormed t ≡ true → rowsOf t ≤ i → Outcome t i x n 21
-  too-short : wellFormed t ≡ true → i < rowsOf t → n < lengthOf t → Outcome t i x n 22
-  other-type : Sound t i n → fitOf t (rowsOf t) (rowAt t i) x ≡ otherType → Outcome t i x n 26
-  not-legal : Sound t i n → fitOf t (rowsOf t) (rowAt t i) x ≡ notLegal → Outcome t i x n 27
-  too-many : Sound t i n → fitOf t (rowsOf t) (rowAt t i) x ≡ tooMany → Outcome t i x n 28
-  no-fault : Sound t i n → fitOf t (rowsOf t) (rowAt t i) x ≡ fits → Outcome t i x n 0
+pub data WritingOutcome (t : List ℤ) (i : ℕ) (x : Value) (n : ℕ) : ℕ → Type 0 where
+  not-formed : wellFormed t ≡ false → WritingOutcome t i x n 20
+  no-row : wellFormed t ≡ true → rowsOf t ≤ i → WritingOutcome t i x n 21
+  too-short : wellFormed t ≡ true → i < rowsOf t → n < lengthOf t → WritingOutcome t i x n 22
+  other-type : Sound t i n → fitOf t (rowsOf t) (rowAt t i) x ≡ otherType → WritingOutcome t i x n 26
+  not-legal : Sound t i n → fitOf t (rowsOf t) (rowAt t i) x ≡ notLegal → WritingOutcome t i x n 27
+  too-many : Sound t i n → fitOf t (rowsOf t) (rowAt t i) x ≡ tooMany → WritingOutcome t i x n 28
+  no-fault : Sound t i n → fitOf t (rowsOf t) (rowAt t i) x ≡ fits → WritingOutcome t i x n 0

@@ -10,13 +10,13 @@ use lib.IntN.{ℤ, pos}
 use lib.ListN.{length, drop, drop-of-length-le}
 use mir.Facts.{toZ-ofZ}
 use Rattle.cells.specs.rule.Cell.{cell, eqZ}
-use Rattle.laying.specs.rule.Begins.{begins}
+use Rattle.laying.specs.rule.Begins.{beginsTable}
 use Rattle.laying.specs.Begins.{begins-on}
 use Rattle.laying.proofs.same_at.Statement.{statement}
 use Rattle.laying.proofs.same_at.Tie as tie
 
 abbrev Inv-loop : tie.InvT-loop
-Inv-loop t at part j₀ j = (j ≤ length part) × (begins part (drop at t) ≡ begins (drop j part) (drop (at + j) t))
+Inv-loop t at part j₀ j = (j ≤ length part) × (beginsTable part (drop at t) ≡ beginsTable (drop j part) (drop (at + j) t))
 
 abbrev μ-loop : tie.MeasureT-loop
 μ-loop t at part j₀ j = length part - j
@@ -24,7 +24,7 @@ abbrev μ-loop : tie.MeasureT-loop
 loop-holds : tie.Need-loop-holds Inv-loop μ-loop
 loop-holds c =
     let e : c .args .at ≡ c .args .at + 0 = omega arith in
-    (omega arith, ap (λ (n : ℕ). begins (c .args .part .now) (drop n (c .args .t .now))) e)
+    (omega arith, ap (λ (n : ℕ). beginsTable (c .args .part .now) (drop n (c .args .t .now))) e)
 
 shared-slice-copy-out-same : tie.Need-shared-slice-copy-out-same Inv-loop μ-loop
 shared-slice-copy-out-same c = omega arith
@@ -33,15 +33,15 @@ shared-slice-copy-out-same-2 : tie.Need-shared-slice-copy-out-same-2 Inv-loop μ
 shared-slice-copy-out-same-2 c = omega arith
 
 stops : (l t : List ℤ) (at j : ℕ) (b : Bool) → j < length l → at + j < length t → b ≡ eqZ (cell l j) (cell t (at + j)) → b ≡ false
-    → begins (drop j l) (drop (at + j) t) ≡ false
+    → beginsTable (drop j l) (drop (at + j) t) ≡ false
 stops l t at j b h g e f = begins-on l t at j h g ∙ rw (sym e ∙ f)
 
 goes : (l t : List ℤ) (at j : ℕ) (b : Bool) → j < length l → at + j < length t → b ≡ eqZ (cell l j) (cell t (at + j)) → b ≡ true
-    → begins (drop j l) (drop (at + j) t) ≡ begins (drop (j + 1) l) (drop (at + (j + 1)) t)
+    → beginsTable (drop j l) (drop (at + j) t) ≡ beginsTable (drop (j + 1) l) (drop (at + (j + 1)) t)
 goes l t at j b h g e f = begins-on l t at j h g ∙ rw (sym e ∙ f)
 
-ends : (l t : List ℤ) (j : ℕ) → length l ≤ j → begins (drop j l) t ≡ true
-unfolding begins
+ends : (l t : List ℤ) (j : ℕ) → length l ≤ j → beginsTable (drop j l) t ≡ true
+unfolding beginsTable
 ends l t j h = rw (drop-of-length-le l {i = j} h)
 
 returns : tie.Need-returns Inv-loop μ-loop

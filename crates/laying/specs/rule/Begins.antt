@@ -5,7 +5,7 @@ use lib.IntN.{ℤ}
 use Rattle.cells.specs.rule.Cell.{eqZ}
 
 -- the numbers t begin with these
-unfoldable pub begins : List ℤ → List ℤ → Bool
-begins [] t = true
-begins (x ∷ l) [] = false
-begins (x ∷ l) (y ∷ t) = eqZ x y && begins l t
+unfoldable pub beginsTable : List ℤ → List ℤ → Bool
+beginsTable [] t = true
+beginsTable (x ∷ l) [] = false
+beginsTable (x ∷ l) (y ∷ t) = eqZ x y && beginsTable l t

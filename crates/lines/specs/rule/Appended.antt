@@ -6,11 +6,11 @@ use lib.ListN.{length}
 use Rattle.places.specs.rule.Places.{put, run}
 
 -- the buffer with the text s from the place at on
-unfoldable pub laid : List ℕ → ℕ → List ℕ → List ℕ
-laid out at s = put out (run at (length s)) s
+unfoldable pub laidAt : List ℕ → ℕ → List ℕ → List ℕ
+laidAt out at s = put out (run at (length s)) s
 
 -- THE PROMISE of every call that appends: the text stands behind what was there, and the answer is where it ends
 pub record Appended (out : List ℕ) (at : ℕ) (s : List ℕ) (out′ : List ℕ) (r : ℕ) : Type 0 where
-  pub leaves : out′ ≡ laid out at s
+  pub leaves : out′ ≡ laidAt out at s
   pub ends : r ≡ at + length s
   pub inside : r ≤ length out′

@@ -7,29 +7,29 @@ use native.Mathlib.Nat.{add-zero, sub-zero}
 use native.Mathlib.Omega.{arith}
 use borrow.Author.Needs.{needs}
 use lib.ListN.{length, set, length-set}
-use Rattle.little.specs.rule.Bytes.{bytesOf, putAt}
+use Rattle.little.specs.rule.Bytes.{littleBytes, putAt}
 use Rattle.little.specs.Runs.{put-more}
 use Rattle.little.proofs.put_number.Statement.{statement}
 use Rattle.little.proofs.put_number.Tie as tie
 
 -- n put in what is left of w places, from i on
 abbrev rest : List ℕ → ℕ → ℕ → ℕ → ℕ → List ℕ
-rest out at w n i = putAt out (at + i) (bytesOf (w - i) n)
+rest out at w n i = putAt out (at + i) (littleBytes (w - i) n)
 
 rest-on : (out : List ℕ) (at w n i b : ℕ) → i < w → b ≡ n % 256 → rest (set out (at + i) b) at w (n / 256) (i + 1) ≡ rest out at w n i
-unfolding bytesOf
+unfolding littleBytes
 rest-on out at w n i b h e =
     let d : w - i ≡ suc (w - (i + 1)) = omega arith in
     let a : at + (i + 1) ≡ at + i + 1 = omega arith in
-    rw (e, d, a) (put-more out (at + i) (n % 256) (bytesOf (w - (i + 1)) (n / 256)))
+    rw (e, d, a) (put-more out (at + i) (n % 256) (littleBytes (w - (i + 1)) (n / 256)))
 
 rest-done : (out : List ℕ) (at w n i : ℕ) → w ≤ i → rest out at w n i ≡ out
-unfolding bytesOf putAt
+unfolding littleBytes putAt
 rest-done out at w n i h = let d : w - i ≡ 0 = omega arith in rw d
 
 abbrev Inv-loop : tie.InvT-loop
 Inv-loop out₀ at n width left₀ i₀ out left i = (i ≤ width) × (length out ≡ length out₀)
-    × (rest out at width left i ≡ putAt out₀ at (bytesOf width n))
+    × (rest out at width left i ≡ putAt out₀ at (littleBytes width n))
 
 abbrev μ-loop : tie.MeasureT-loop
 μ-loop out₀ at n width left₀ i₀ out left i = width - i

@@ -19,8 +19,8 @@ use lib.Dec.{eqb}
 abbrev pub hexOf : ℕ → ℕ
 hexOf b = cond (isDigit b) (b - 48) (upperOf b - 55)
 
-abbrev pub pairOf : ℕ → ℕ → ℕ
-pairOf a b = hexOf a * 16 + hexOf b
+abbrev pub hexPair : ℕ → ℕ → ℕ
+hexPair a b = hexOf a * 16 + hexOf b
 
 -- the sign that a string's byte b ends, where b follows a: none or one; {NL} is a break, and no other form has one
 unfoldable pub givesOf : Inside → ℕ → ℕ → List Sign
@@ -29,7 +29,7 @@ givesOf (Opened o) a b = cond (eqb b 34) (Byte b ∷ []) (cond (eqb b 123) (Byte
 givesOf (Shut o) a b = []
 givesOf (Ell o) a b = Break ∷ []
 givesOf (Pair o) a b = []
-givesOf (Low o) a b = Byte (pairOf a b) ∷ []
+givesOf (Low o) a b = Byte (hexPair a b) ∷ []
 
 abbrev pub gone : Move → List Sign → (Inside → List Sign) → List Sign
 gone (Go s) m k = m ++ k s

@@ -4,17 +4,17 @@ use borrow.Author.Needs.{needs}
 use native.Mathlib.Omega.{arith}
 use borrow.Author.Tests.{eq-eqb, ne-eqb, lt-ltb, le-ltb}
 use lib.ListN.{drop-of-length-le}
-use Rattle.markup.specs.rule.Reference.{closedOf}
+use Rattle.markup.specs.rule.Reference.{closedReference}
 use Rattle.utf.proofs.Strides.{drop-1}
 use Rattle.markup.proofs.closed.Statement.{statement}
 use Rattle.markup.proofs.closed.Tie as tie
 
 returns : tie.Need-returns
-unfolding closedOf
+unfolding closedReference
 returns c = rw (drop-of-length-le (c .before .before .args .d .now) (c .if1 .taken))
 
 returns-2 : tie.Need-returns-2
-unfolding closedOf
+unfolding closedReference
 returns-2 c =
     let at-if2 = c .before .before in
     let args = at-if2 .before .before .before .before .args in
@@ -26,7 +26,7 @@ returns-2 c =
     )
 
 returns-3 : tie.Need-returns-3
-unfolding closedOf
+unfolding closedReference
 returns-3 c =
     let at-if2 = c .before .before in
     let args = at-if2 .before .before .before .before .args in
@@ -38,7 +38,7 @@ returns-3 c =
     )
 
 returns-4 : tie.Need-returns-4
-unfolding closedOf
+unfolding closedReference
 returns-4 c = rw (
   drop-1 (c .before .before .before .before .args .d .now) (c .before .before .before .before .args .n) (omega arith),
   ne-eqb _ 59 (c .if2 .left),

@@ -3,13 +3,13 @@ use Prim.Native.Nat.{_+_, _-_, _≤_, _<_}
 use lib.ListN.{length, drop, getD, length-drop}
 use borrow.Author.Needs.{needs}
 use native.Mathlib.Omega.{arith}
-use Rattle.markup.specs.rule.Gap.{commentOf}
+use Rattle.markup.specs.rule.Gap.{xmlComment}
 use Rattle.markup.proofs.Gaps.{comment-next, comment-closed, comment-broken, comment-end, stands-long}
 use Rattle.markup.proofs.comment.Statement.{statement}
 use Rattle.markup.proofs.comment.Tie as tie
 
 abbrev Inv-loop : tie.InvT-loop
-Inv-loop bad d opened at i₀ i = (commentOf bad opened at (drop at d) ≡ commentOf bad opened i (drop i d)) × (i ≤ length d)
+Inv-loop bad d opened at i₀ i = (xmlComment bad opened at (drop at d) ≡ xmlComment bad opened i (drop i d)) × (i ≤ length d)
 
 abbrev μ-loop : tie.MeasureT-loop
 μ-loop bad d opened at i₀ i = length d - i

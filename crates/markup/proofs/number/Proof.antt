@@ -4,14 +4,14 @@ use lib.ListN.{length, drop, getD, length-drop}
 use borrow.Author.Needs.{needs}
 use native.Mathlib.Omega.{arith}
 use Rattle.markup.specs.rule.Bytes.{ofKind}
-use Rattle.markup.specs.rule.Reference.{capped, pushOf, digitKind, figureOf}
+use Rattle.markup.specs.rule.Reference.{heldBelow, pushOf, digitKind, referenceFigure}
 use Rattle.markup.proofs.Runs.{figure-next, figure-over, figure-end}
 use Rattle.markup.proofs.number.Statement.{statement}
 use Rattle.markup.proofs.number.Tie as tie
 
 abbrev Inv-loop : tie.InvT-loop
 Inv-loop hex d at kind v₀ i₀ v i =
-    (figureOf hex 0 at (drop at d) ≡ figureOf hex v i (drop i d)) × (i ≤ length d) × (v ≤ 2000000) × (kind ≡ digitKind hex)
+    (referenceFigure hex 0 at (drop at d) ≡ referenceFigure hex v i (drop i d)) × (i ≤ length d) × (v ≤ 2000000) × (kind ≡ digitKind hex)
 
 abbrev μ-loop : tie.MeasureT-loop
 μ-loop hex d at kind v₀ i₀ v i = length d - i

@@ -30,9 +30,9 @@ unfoldable pub runOf : (ℕ → Bool) → ℕ → List ℕ → ℕ
 runOf f p [] = p
 runOf f p (b ∷ s) = cond (f b) (runOf f (p + 1) s) p
 
-unfoldable pub bytesOf : (ℕ → Bool) → List ℕ → List ℕ
-bytesOf f [] = []
-bytesOf f (b ∷ s) = cond (f b) (b ∷ bytesOf f s) []
+unfoldable pub bytesWhile : (ℕ → Bool) → List ℕ → List ℕ
+bytesWhile f [] = []
+bytesWhile f (b ∷ s) = cond (f b) (b ∷ bytesWhile f s) []
 
 unfoldable pub restOf : (ℕ → Bool) → List ℕ → List ℕ
 restOf f [] = []

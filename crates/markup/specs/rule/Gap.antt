@@ -11,11 +11,11 @@ use Rattle.markup.specs.declared.Move.{Move}
 use Rattle.markup.specs.declared.Move.the-variants.{Go, Stop}
 
 -- behind <!--: up to the first two dashes, which > has to follow
-unfoldable pub commentOf : Bool → ℕ → ℕ → List ℕ → Skip
-commentOf bad opened p [] = Broken (endFault bad p opened)
-commentOf bad opened p (b ∷ s) =
+unfoldable pub xmlComment : Bool → ℕ → ℕ → List ℕ → Skip
+xmlComment bad opened p [] = Broken (endFault bad p opened)
+xmlComment bad opened p (b ∷ s) =
     cond (stands (45 ∷ 45 ∷ []) (b ∷ s)) (cond (stands (45 ∷ 45 ∷ 62 ∷ []) (b ∷ s)) (Past (p + 3)) (Broken p))
-    (commentOf bad opened (p + 1) s)
+    (xmlComment bad opened (p + 1) s)
 
 abbrev pub onSkip : Skip → Move
 onSkip (Past n) = Go n
@@ -26,12 +26,12 @@ unfoldable pub moveOf : Bool → ℕ → List ℕ → Move
 moveOf bad p [] = Stop (Past p)
 moveOf bad p (b ∷ s) =
     cond (isWhite b) (Go (p + 1))
-    (cond (stands (60 ∷ 33 ∷ 45 ∷ 45 ∷ []) (b ∷ s)) (onSkip (commentOf bad p (p + 4) (drop 3 s))) (Stop (Past p)))
+    (cond (stands (60 ∷ 33 ∷ 45 ∷ 45 ∷ []) (b ∷ s)) (onSkip (xmlComment bad p (p + 4) (drop 3 s))) (Stop (Past p)))
 
-abbrev pub nextOf : Move → Next ℕ Skip
-nextOf (Go n) = Again n
-nextOf (Stop r) = Done r
+abbrev pub nextMove : Move → Next ℕ Skip
+nextMove (Go n) = Again n
+nextMove (Stop r) = Done r
 
 -- as many as there are
 unfoldable pub gapOf : Bool → List ℕ → ℕ → Skip
-gapOf bad d p = loopOf (λ p. nextOf (moveOf bad p (drop p d))) (Past 0) (suc (length d - p)) p
+gapOf bad d p = loopOf (λ p. nextMove (moveOf bad p (drop p d))) (Past 0) (suc (length d - p)) p

@@ -3,9 +3,9 @@ use mathlib.Core.Path.{_≡_}
 use mathlib.Core.Bool.{Bool, true, false}
 use mathlib.Core.List.{List, [], _∷_, _++_}
 use Prim.Native.Nat.{ℕ}
-use Rattle.utf.specs.rule.Chars.{legal}
+use Rattle.utf.specs.rule.Chars.{legalCharacter}
 use Rattle.markup.specs.rule.Bytes.{ofKind, isWhite}
-use Rattle.markup.specs.rule.Reference.{numberOf, digitKind}
+use Rattle.markup.specs.rule.Reference.{referenceNumber, digitKind}
 
 -- every byte passes
 pub data Each (f : ℕ → Bool) : List ℕ → Type 0 where
@@ -13,8 +13,8 @@ pub data Each (f : ℕ → Bool) : List ℕ → Type 0 where
   each : {b : ℕ} {s : List ℕ} → f b ≡ true → Each f s → Each f (b ∷ s)
 
 -- digits, one or more
-pub data Digits (hex : Bool) : List ℕ → Type 0 where
-  digits : {b : ℕ} {s : List ℕ} → Each (ofKind (digitKind hex)) (b ∷ s) → Digits hex (b ∷ s)
+pub data ReferenceDigits (hex : Bool) : List ℕ → Type 0 where
+  digits : {b : ℕ} {s : List ℕ} → Each (ofKind (digitKind hex)) (b ∷ s) → ReferenceDigits hex (b ∷ s)
 
 -- what follows the & of a reference that says c
 pub data Ref : List ℕ → ℕ → Type 0 where
@@ -23,8 +23,10 @@ pub data Ref : List ℕ → ℕ → Type 0 where
   amp : Ref (97 ∷ 109 ∷ 112 ∷ 59 ∷ []) 38
   apos : Ref (97 ∷ 112 ∷ 111 ∷ 115 ∷ 59 ∷ []) 39
   quot : Ref (113 ∷ 117 ∷ 111 ∷ 116 ∷ 59 ∷ []) 34
-  decimal : {s : List ℕ} {c : ℕ} → Digits false s → c ≡ numberOf false 0 s → legal c ≡ true → Ref (35 ∷ s ++ 59 ∷ []) c
-  hex : {s : List ℕ} {c : ℕ} → Digits true s → c ≡ numberOf true 0 s → legal c ≡ true → Ref (35 ∷ 120 ∷ s ++ 59 ∷ []) c
+  decimal : {s : List ℕ} {c : ℕ} → ReferenceDigits false s → c ≡ referenceNumber false 0 s → legalCharacter c ≡ true
+      → Ref (35 ∷ s ++ 59 ∷ []) c
+  hex : {s : List ℕ} {c : ℕ} → ReferenceDigits true s → c ≡ referenceNumber true 0 s → legalCharacter c ≡ true
+      → Ref (35 ∷ 120 ∷ s ++ 59 ∷ []) c
 
 -- what follows the <!-- of a comment: bytes other than dashes, each behind one dash at most, and -->
 pub data Note : List ℕ → Type 0 where

@@ -8,7 +8,7 @@ use lib.ListN.{length}
 use Rattle.cuts.specs.rule.Records.{recordsOf}
 use Rattle.files.specs.Tested.{tested-rows, tested-length}
 use Rattle.columns.specs.rule.Columns.{columnsFrom}
-use Rattle.matrices.specs.rule.Matrix.{endedOf, allEntries}
+use Rattle.matrices.specs.rule.Matrix.{endedOf, matrixEntries}
 use Rattle.matrices.specs.Records.{file-sound}
 use Rattle.matrices.specs.Even.{file-even}
 use Rattle.matrices.specs.Legal.{file-legal}

@@ -32,9 +32,9 @@ tableColumns t = columnsFrom t (rowsOf t) 0 (rowsOf t)
 
 -- ---- the parts
 -- the entries record by record, in column order
-unfoldable pub allEntries : List ℤ → ℕ → List Column → List (List ℕ) → List Entry
-allEntries t v cs [] = []
-allEntries t v cs (r ∷ rs) = entriesOf t v r cs ++ allEntries t v cs rs
+unfoldable pub matrixEntries : List ℤ → ℕ → List Column → List (List ℕ) → List Entry
+matrixEntries t v cs [] = []
+matrixEntries t v cs (r ∷ rs) = entriesOf t v r cs ++ matrixEntries t v cs rs
 
 -- a column's entries, record by record
 unfoldable pub columnEntries : List ℤ → ℕ → Column → List (List ℕ) → List Entry
@@ -50,7 +50,7 @@ summariesOf t v rs (c ∷ cs) = summaryBytes (summaryOf (presentOf (columnEntrie
 unfoldable pub matrixOf : List ℤ → List (List ℕ) → List ℕ
 matrixOf t rs =
     let cs = tableColumns t in
-    let es = allEntries t (rowsOf t) cs rs in
+    let es = matrixEntries t (rowsOf t) cs rs in
     headerBytes (length rs) (length cs) ++ (summariesOf t (rowsOf t) rs cs ++ (flagsOf es ++ valueBytes es))
 
 -- ---- the call
@@ -85,12 +85,12 @@ unfoldable pub matrixVerdict : List ℤ → List ℕ → ℕ → MatrixVerdict
 matrixVerdict t d room = verdictAfter t room (fileVerdict t d)
 
 -- the output afterwards: the matrix at its start, or as it was
-unfoldable pub outputAfter : MatrixVerdict → List ℕ → List ℕ → List ℕ
-outputAfter (refusedAs v) m out = out
-outputAfter (refused k) m out = out
-outputAfter (written n r c) m out = putAt out 0 m
+unfoldable pub matrixAfter : MatrixVerdict → List ℕ → List ℕ → List ℕ
+matrixAfter (refusedAs v) m out = out
+matrixAfter (refused k) m out = out
+matrixAfter (written n r c) m out = putAt out 0 m
 
 -- THE PROMISE of the call
 pub record MatrixWritten (t : List ℤ) (d out out′ : List ℕ) (v : MatrixVerdict) : Type 0 where
   pub says : v ≡ matrixVerdict t d (length out)
-  pub leaves : out′ ≡ outputAfter (matrixVerdict t d (length out)) (matrixOf t (endedOf (recordsOf d))) out
+  pub leaves : out′ ≡ matrixAfter (matrixVerdict t d (length out)) (matrixOf t (endedOf (recordsOf d))) out

@@ -5,7 +5,7 @@ use Prim.Native.Nat.{_+_, _≤_, _<_}
 use native.Mathlib.Omega.{arith}
 use borrow.Author.Needs.{needs}
 use lib.ListN.{length}
-use Rattle.summary.specs.rule.Summary.{none, extendedBy, summaryOf}
+use Rattle.summary.specs.rule.Summary.{noneSummed, extendedBy, summaryOf}
 use Rattle.summary.specs.Laws.{count-on}
 use Rattle.matrix.specs.Column.{ColumnThere, columnIn, there-here, there-on, column-on, column-off, column-none}
 use Rattle.matrix.proofs.column_summary.Statement.{statement}
@@ -20,7 +20,7 @@ abbrev μ-loop : tie.MeasureT-loop
 μ-loop s flags values step records sum₀ flag₀ value₀ left₀ sum flag value left = left
 
 loop-holds : tie.Need-loop-holds Inv-loop μ-loop
-unfolding none summaryOf
+unfolding noneSummed summaryOf
 loop-holds c = rw (c .empty .ensures) (omega arith, c .before .before .pre .1, refl)
 
 add-flag : tie.Need-add-flag Inv-loop μ-loop

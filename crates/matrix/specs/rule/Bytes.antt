@@ -3,7 +3,7 @@
 use Prim.Native.Nat.{ℕ, _+_, _*_}
 use mathlib.Core.List.{List, _++_}
 use lib.Ieee.{binary64, toBits}
-use Rattle.little.specs.rule.Bytes.{bytesOf}
+use Rattle.little.specs.rule.Bytes.{littleBytes}
 use Rattle.summary.specs.declared.Summary.{Summary}
 
 -- where the presence bytes and the values of so many records and columns start, and the total length
@@ -18,8 +18,9 @@ totalOf records columns = valuesAt records columns + 8 * (records * columns)
 
 unfoldable pub headerBytes : ℕ → ℕ → List ℕ
 headerBytes records columns =
-    ((((bytesOf 4 records ++ bytesOf 4 columns) ++ bytesOf 4 24) ++ bytesOf 4 (presenceAt columns)) ++ bytesOf 4 (valuesAt records columns))
-    ++ bytesOf 4 (totalOf records columns)
+    ((((littleBytes 4 records ++ littleBytes 4 columns) ++ littleBytes 4 24) ++ littleBytes 4 (presenceAt columns))
+    ++ littleBytes 4 (valuesAt records columns))
+    ++ littleBytes 4 (totalOf records columns)
 
 unfoldable pub summaryBytes : Summary → List ℕ
-summaryBytes s = (bytesOf 8 (s .count) ++ bytesOf 8 (toBits binary64 (s .least))) ++ bytesOf 8 (toBits binary64 (s .most))
+summaryBytes s = (littleBytes 8 (s .count) ++ littleBytes 8 (toBits binary64 (s .least))) ++ littleBytes 8 (toBits binary64 (s .most))

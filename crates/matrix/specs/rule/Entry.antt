@@ -4,7 +4,7 @@ use Prim.Native.Nat.{ℕ}
 use mathlib.Core.List.{List, [], _∷_, _++_}
 use lib.Ieee.{Float, binary64, toBits}
 use Rattle.quotient.specs.rule.Value.{valueOf}
-use Rattle.little.specs.rule.Bytes.{bytesOf}
+use Rattle.little.specs.rule.Bytes.{littleBytes}
 use Rattle.summary.specs.rule.Summary.{nought}
 use Rattle.matrix.specs.declared.Entry.{Entry}
 use Rattle.matrix.specs.declared.Entry.the-variants.{Absent, Scaled}
@@ -25,7 +25,7 @@ flagsOf (e ∷ es) = presenceOf e ∷ flagsOf es
 
 unfoldable pub valueBytes : List Entry → List ℕ
 valueBytes [] = []
-valueBytes (e ∷ es) = bytesOf 8 (toBits binary64 (floatOf e)) ++ valueBytes es
+valueBytes (e ∷ es) = littleBytes 8 (toBits binary64 (floatOf e)) ++ valueBytes es
 
 -- the values present
 unfoldable pub presentOf : List Entry → List Float

@@ -5,15 +5,11 @@ use mathlib.Core.List.{List, [], _∷_}
 use Prim.Native.Nat.{ℕ, _+_, _*_}
 use lib.ListN.{take, drop}
 use Rattle.matrix.specs.rule.Bytes.{presenceAt, valuesAt, totalOf}
-
--- the number that bytes say, the lowest first
-unfoldable pub little : List ℕ → ℕ
-little [] = 0
-little (b ∷ bs) = b + 256 * little bs
+use Rattle.little.specs.rule.Bytes.{littleNumber}
 
 -- the number of 32 bits from byte a on
 abbrev pub at32 : ℕ → List ℕ → ℕ
-at32 a bytes = little (take 4 (drop a bytes))
+at32 a bytes = littleNumber (take 4 (drop a bytes))
 
 pub record Headed (records columns : ℕ) (bytes : List ℕ) : Type 0 where
   pub first : at32 0 bytes ≡ records

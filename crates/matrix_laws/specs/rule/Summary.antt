@@ -7,7 +7,7 @@ use mathlib.Core.Logic.{_⊎_}
 use lib.ListN.{length}
 use lib.Ieee.{Float, lt}
 use Rattle.summary.specs.declared.Summary.{Summary}
-use Rattle.summary.specs.rule.Summary.{none}
+use Rattle.summary.specs.rule.Summary.{noneSummed}
 
 -- x is one of these
 unfoldable pub Present : Float → List Float → Type 0
@@ -22,5 +22,5 @@ pub record Extremes (xs : List Float) (s : Summary) : Type 0 where
   pub none-above : (x : Float) → Present x xs → lt (s .most) x ≡ false
 
 unfoldable pub Summarises : List Float → Summary → Type 0
-Summarises [] s = s ≡ none
+Summarises [] s = s ≡ noneSummed
 Summarises (x ∷ xs) s = (s .count ≡ length (x ∷ xs)) × Extremes (x ∷ xs) s

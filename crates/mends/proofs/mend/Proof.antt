@@ -18,7 +18,7 @@ use Rattle.sound.specs.Rows.{length-low}
 use Rattle.cuts.specs.declared.Terminator.{Terminator}
 use Rattle.pieces.specs.rule.Pieces.{cutFrom}
 use Rattle.mends.specs.declared.Sizes.{Sizes}
-use Rattle.mends.specs.rule.Mend.{mendedOf, entriesOf, numbersOf}
+use Rattle.mends.specs.rule.Mend.{mendedOf, mendEntries, entryNumbers}
 use Rattle.mends.specs.Mend.{Ends, Measured}
 use Rattle.mends.specs.Whole.{Counts, counts, said-bytes, said-list, wide-enough, mends-bad, mends-short, mends-done, mends-copied}
 use Rattle.mends.specs.Whole.{room-both, room-out, room-list, room-copy}
@@ -170,5 +170,5 @@ mend-spec =
     ap length (c .before .before .before .mend-into .ensures .0) ∙ length-sets (out s) 0 (mendedOf (z s .width) (e s) (cutFrom 0 (file s))))
     (λ c. let s = c .before .before .before .before .before .before .before .before .before .before .before in
     ap length (c .before .before .before .mend-into .ensures .1)
-    ∙ length-sets (list s) 0 (numbersOf (entriesOf (z s .width) (e s) 1 0 (cutFrom 0 (file s)))))
+    ∙ length-sets (list s) 0 (entryNumbers (mendEntries (z s .width) (e s) 1 0 (cutFrom 0 (file s)))))
     returns-4)

@@ -6,7 +6,7 @@ use Prim.Native.Nat.{_+_, _-_, _≤_}
 use lib.ListN.{length, drop}
 use lib.Seq.{sets}
 use Rattle.pieces.specs.rule.Pieces.{cutFrom}
-use Rattle.mends.specs.rule.Mend.{widthOf, mendedOf, entriesOf, numbersOf}
+use Rattle.mends.specs.rule.Mend.{widthOf, mendedOf, mendEntries, entryNumbers}
 use Rattle.mends.specs.Mend.{stored-on, stored-length, mended-next, mended-length, entries-next, entries-length, width-next}
 use Rattle.mends.specs.Mend.{mended-over, entries-over}
 use Rattle.mends.proofs.mend_into.Statement.{statement}
@@ -20,9 +20,9 @@ Inv-loop d e width out₀ list₀ i₀ number₀ at₀ k₀ out list i number at
     × (sets out₀ 0 (mendedOf width e (cutFrom 0 d)) ≡ sets out at (mendedOf width e (cutFrom 0 (drop i d))))
     × (at + length (mendedOf width e (cutFrom 0 (drop i d))) ≤ length out)
     × (length out ≡ length out₀)
-    × (sets list₀ 0 (numbersOf (entriesOf width e 1 0 (cutFrom 0 d)))
-    ≡ sets list k (numbersOf (entriesOf width e (number + 1) i (cutFrom 0 (drop i d)))))
-    × (k + length (numbersOf (entriesOf width e (number + 1) i (cutFrom 0 (drop i d)))) ≤ length list)
+    × (sets list₀ 0 (entryNumbers (mendEntries width e 1 0 (cutFrom 0 d)))
+    ≡ sets list k (entryNumbers (mendEntries width e (number + 1) i (cutFrom 0 (drop i d)))))
+    × (k + length (entryNumbers (mendEntries width e (number + 1) i (cutFrom 0 (drop i d)))) ≤ length list)
     × (length list ≡ length list₀)
 
 abbrev μ-loop : tie.MeasureT-loop

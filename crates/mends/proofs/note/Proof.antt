@@ -5,7 +5,7 @@ use native.Mathlib.Numerals.{add-one, add-two}
 use borrow.Author.Needs.{sfits-of}
 use mir.Facts.{toZ-ofZ}
 use lib.ListN.{length-set}
-use Rattle.mends.specs.rule.Mend.{numbersOf}
+use Rattle.mends.specs.rule.Mend.{entryNumbers}
 use Rattle.mends.proofs.note.Statement.{statement}
 use Rattle.mends.proofs.note.Tie as tie
 
@@ -16,7 +16,7 @@ slice-set-from-c : tie.Need-slice-set-from-c
 slice-set-from-c c = simp length-set (omega arith)
 
 returns : tie.Need-returns
-unfolding numbersOf
+unfolding entryNumbers
 returns c =
     let a = c .before .before .before .args in record {
       stored =

@@ -8,7 +8,7 @@ use lib.ListN.{length}
 use lib.Seq.{sets}
 use Rattle.lows.specs.rule.Lows.{lowAt}
 use Rattle.cuts.specs.Records.{part}
-use Rattle.mends.specs.rule.Mend.{numbersOf, byteEntries}
+use Rattle.mends.specs.rule.Mend.{entryNumbers, byteEntries}
 use Rattle.mends.specs.Mend.{stored-on, stored-length, bytes-clear, bytes-low, bytes-low-length, bytes-over}
 use Rattle.mends.proofs.note_bytes.Statement.{statement}
 use Rattle.mends.proofs.note_bytes.Tie as tie
@@ -16,9 +16,10 @@ use Rattle.mends.proofs.note_bytes.Tie as tie
 abbrev Inv-loop : tie.InvT-loop
 Inv-loop d from stop number list₀ k j₀ m₀ list j m =
     (j ≤ length d)
-    × (sets list₀ k (numbersOf (byteEntries number from (part d from stop)))
-    ≡ sets list m (numbersOf (byteEntries number j (part d j stop))))
-    × (k + length (numbersOf (byteEntries number from (part d from stop))) ≡ m + length (numbersOf (byteEntries number j (part d j stop))))
+    × (sets list₀ k (entryNumbers (byteEntries number from (part d from stop)))
+    ≡ sets list m (entryNumbers (byteEntries number j (part d j stop))))
+    × (k + length (entryNumbers (byteEntries number from (part d from stop))) ≡ m
+    + length (entryNumbers (byteEntries number j (part d j stop))))
     × (length list ≡ length list₀)
     × (j < length d → lowAt d j ≡ true)
 

@@ -3,19 +3,19 @@ use mathlib.Core.Path.{_≡_, refl, sym, ap, _∙_}
 use native.Mathlib.Omega.{arith}
 use borrow.Author.Needs.{needs}
 use lib.ListN.{length}
-use Rattle.mends.specs.rule.Mend.{numbersOf, listedIf}
+use Rattle.mends.specs.rule.Mend.{entryNumbers, listedIf}
 use Rattle.mends.specs.Mend.{stored-join, stored-length}
 use Rattle.mends.proofs.note_end.Statement.{statement}
 use Rattle.mends.proofs.note_end.Tie as tie
 
 note-requires : tie.Need-note-requires
-unfolding numbersOf listedIf
+unfolding entryNumbers listedIf
 note-requires c κs =
     let r = rw (c .before .if1 .taken) at (c .before .before .pre .1) in
     (omega arith, (omega arith, c .before .before .pre .0 .0, c .before .before .pre .0 .1))
 
 add-m : tie.Need-add-m
-unfolding numbersOf listedIf
+unfolding entryNumbers listedIf
 add-m c = let r = rw (c .before .before .before .if1 .taken) at (c .before .before .before .before .pre .1) in omega arith
 
 returns : tie.Need-returns
@@ -23,7 +23,7 @@ unfolding listedIf
 returns c = rw (c .before .before .before .before .if1 .taken, c .if2 .taken) (c .before .before .note .ensures)
 
 note-requires-2 : tie.Need-note-requires-2
-unfolding numbersOf listedIf
+unfolding entryNumbers listedIf
 note-requires-2 c κs =
     let at-note = c .before .before .before in
     let start = at-note .before .before .before in
@@ -37,29 +37,29 @@ note-requires-2 c κs =
     )
 
 add-result : tie.Need-add-result
-unfolding numbersOf listedIf
+unfolding entryNumbers listedIf
 add-result c =
     let at-if2 = c .before .before .before in
     let r = rw (at-if2 .before .before .before .before .if1 .taken, at-if2 .if2 .left) at
     (at-if2 .before .before .before .before .before .pre .1) in omega arith
 
 returns-2 : tie.Need-returns-2
-unfolding numbersOf listedIf
+unfolding entryNumbers listedIf
 returns-2 c = rw (c .before .before .before .before .before .before .before .if1 .taken, c .before .before .before .if2 .left)
     (stored-join (c .before .before .before .before .before .note .ensures) (c .before .note2 .ensures))
 
 returns-3 : tie.Need-returns-3
-unfolding numbersOf listedIf
+unfolding entryNumbers listedIf
 returns-3 c = rw (c .before .if1 .left, c .if3 .taken) (record { stored = refl; next = omega arith })
 
 note-requires-3 : tie.Need-note-requires-3
-unfolding numbersOf listedIf
+unfolding entryNumbers listedIf
 note-requires-3 c κs =
     let r = rw (c .before .before .if1 .left, c .before .if3 .left) at (c .before .before .before .pre .1) in
     (omega arith, (omega arith, c .before .before .before .pre .0 .0, c .before .before .before .pre .0 .1))
 
 add-result-2 : tie.Need-add-result-2
-unfolding numbersOf listedIf
+unfolding entryNumbers listedIf
 add-result-2 c = let r = rw (c .before .before .before .before .if1 .left, c .before .before .before .if3 .left) at
     (c .before .before .before .before .before .pre .1) in omega arith
 

@@ -2,13 +2,13 @@
 use mathlib.Core.Path.{_≡_, refl, sym, ap, _∙_}
 use native.Mathlib.Omega.{arith}
 use borrow.Author.Needs.{needs}
-use Rattle.mends.specs.rule.Mend.{numbersOf}
+use Rattle.mends.specs.rule.Mend.{entryNumbers}
 use Rattle.mends.specs.Mend.{stored-join, stored-length, piece-empty, piece-full, piece-length, piece-plain}
 use Rattle.mends.proofs.note_piece.Statement.{statement}
 use Rattle.mends.proofs.note_piece.Tie as tie
 
 note-requires : tie.Need-note-requires
-unfolding numbersOf
+unfolding entryNumbers
 note-requires c κs =
     let a = c .before .before .before .before .args in
     let q = c .before .before .before .before .pre in
@@ -16,7 +16,7 @@ note-requires c κs =
     (omega arith, (omega arith, q .1 .0, omega (arith, q .0 .on, q .0 .within)))
 
 add-result : tie.Need-add-result
-unfolding numbersOf
+unfolding entryNumbers
 add-result c =
     let at-if1 = c .before .before .before in
     let start = at-if1 .before .before .before in

@@ -8,7 +8,7 @@ use lib.Dec.{eqb, ltb}
 use lib.IntN.{ℤ, pos}
 use lib.ListN.{length, drop}
 use Rattle.cuts.specs.declared.Terminator.{Terminator}
-use Rattle.cuts.specs.rule.Cut.{pair, terminatorOf}
+use Rattle.cuts.specs.rule.Cut.{twoBytes, terminatorOf}
 use Rattle.cuts.specs.rule.Records.{terminatorBytes}
 use Rattle.fields.specs.rule.Field.{spaces}
 use Rattle.sound.specs.rule.Sound.{wellFormed}
@@ -19,7 +19,7 @@ use Rattle.mends.specs.declared.Mended.the-variants as M
 
 -- "the first terminator met (CR LF if there is none)"
 unfoldable pub endingOf : List ℕ → Terminator
-endingOf d = cond (eqb (terminatorOf d .size) 0) (pair 13 10) (terminatorOf d)
+endingOf d = cond (eqb (terminatorOf d .size) 0) (twoBytes 13 10) (terminatorOf d)
 
 -- "replaces bytes below 32 by spaces"
 unfoldable pub plainByte : ℕ → ℕ
@@ -48,67 +48,67 @@ mendedOf w e [] = []
 mendedOf w e (p ∷ ps) = recordOf w e p ++ mendedOf w e ps
 
 -- ---- THE LIST: "kind (1 dropped, 2 byte, 3 pad, 4 terminator), record and byte place"
-pub record Entry : Type 0 where
+pub record MendEntry : Type 0 where
   pub kind : ℕ
   pub number : ℕ
   pub place : ℕ
 
-abbrev pub entry : ℕ → ℕ → ℕ → Entry
-entry k n p = record { kind = k; number = n; place = p }
+abbrev pub mendEntry : ℕ → ℕ → ℕ → MendEntry
+mendEntry k n p = record { kind = k; number = n; place = p }
 
 -- an entry where a test holds
-unfoldable pub listedIf : Bool → Entry → List Entry
+unfoldable pub listedIf : Bool → MendEntry → List MendEntry
 listedIf true x = x ∷ []
 listedIf false x = []
 
 -- a 2 for each byte below 32; the first of them stands at the place `at`
-unfoldable pub byteEntries : ℕ → ℕ → List ℕ → List Entry
+unfoldable pub byteEntries : ℕ → ℕ → List ℕ → List MendEntry
 byteEntries n at [] = []
-byteEntries n at (b ∷ r) = listedIf (ltb b 32) (entry 2 n at) ++ byteEntries n (at + 1) r
+byteEntries n at (b ∷ r) = listedIf (ltb b 32) (mendEntry 2 n at) ++ byteEntries n (at + 1) r
 
 -- the file's terminator stands behind a record
 unfoldable pub sameBoundary : Terminator → Terminator → Bool
 sameBoundary e b = eqb (e .size) (b .size) && eqb (e .first) (b .first) && eqb (e .second) (b .second)
 
 -- "a dropped one has only its 1"; "1, 3 and 4 stand at the record's end": record n, from the place `at` on
-unfoldable pub pieceEntries : ℕ → Terminator → ℕ → ℕ → Piece → List Entry
+unfoldable pub pieceEntries : ℕ → Terminator → ℕ → ℕ → Piece → List MendEntry
 pieceEntries w e n at p =
-    cond (isEmpty p) (entry 1 n at ∷ [])
+    cond (isEmpty p) (mendEntry 1 n at ∷ [])
     (byteEntries n at (p .bytes)
-    ++ listedIf (ltb (length (p .bytes)) w) (entry 3 n (at + length (p .bytes)))
-    ++ cond (sameBoundary e (p .boundary)) [] (entry 4 n (at + length (p .bytes)) ∷ []))
+    ++ listedIf (ltb (length (p .bytes)) w) (mendEntry 3 n (at + length (p .bytes)))
+    ++ cond (sameBoundary e (p .boundary)) [] (mendEntry 4 n (at + length (p .bytes)) ∷ []))
 
 -- "in input order": the pieces from record n on, the first of them at the place `at`
-unfoldable pub entriesOf : ℕ → Terminator → ℕ → ℕ → List Piece → List Entry
-entriesOf w e n at [] = []
-entriesOf w e n at (p ∷ ps) = pieceEntries w e n at p ++ entriesOf w e (n + 1) (at + length (p .bytes) + p .boundary .size) ps
+unfoldable pub mendEntries : ℕ → Terminator → ℕ → ℕ → List Piece → List MendEntry
+mendEntries w e n at [] = []
+mendEntries w e n at (p ∷ ps) = pieceEntries w e n at p ++ mendEntries w e (n + 1) (at + length (p .bytes) + p .boundary .size) ps
 
 -- an entry is three numbers of the lent list
-unfoldable pub numbersOf : List Entry → List ℤ
-numbersOf [] = []
-numbersOf (x ∷ l) = pos (x .kind) ∷ pos (x .number) ∷ pos (x .place) ∷ numbersOf l
+unfoldable pub entryNumbers : List MendEntry → List ℤ
+entryNumbers [] = []
+entryNumbers (x ∷ l) = pos (x .kind) ∷ pos (x .number) ∷ pos (x .place) ∷ entryNumbers l
 
 -- ---- THE CALL, on a table t and a data file d
-unfoldable pub widthIn : List ℤ → List ℕ → ℕ
-widthIn t d = widthOf (lengthOf t) (piecesOf d)
+unfoldable pub widthOfRecords : List ℤ → List ℕ → ℕ
+widthOfRecords t d = widthOf (lengthOf t) (piecesOf d)
 
 unfoldable pub bytesIn : List ℤ → List ℕ → List ℕ
-bytesIn t d = mendedOf (widthIn t d) (endingOf d) (piecesOf d)
+bytesIn t d = mendedOf (widthOfRecords t d) (endingOf d) (piecesOf d)
 
-unfoldable pub listIn : List ℤ → List ℕ → List Entry
-listIn t d = entriesOf (widthIn t d) (endingOf d) 1 0 (piecesOf d)
+unfoldable pub listIn : List ℤ → List ℕ → List MendEntry
+listIn t d = mendEntries (widthOfRecords t d) (endingOf d) 1 0 (piecesOf d)
 
 -- "20, then 70 output or list too short"; else how many bytes and entries there are
-pub data Outcome : Type 0 where
-  done : ℕ → ℕ → Outcome
-  refused : ℕ → Outcome
+pub data MendAnswer : Type 0 where
+  done : ℕ → ℕ → MendAnswer
+  refused : ℕ → MendAnswer
 
-unfoldable pub said : Mended → Outcome
-said (M.Done b n) = done b n
-said M.BadTable = refused 20
-said M.NoRoom = refused 70
+unfoldable pub mendSaid : Mended → MendAnswer
+mendSaid (M.Done b n) = done b n
+mendSaid M.BadTable = refused 20
+mendSaid M.NoRoom = refused 70
 
-unfoldable pub mendedAs : List ℤ → List ℕ → ℕ → ℕ → Outcome
+unfoldable pub mendedAs : List ℤ → List ℕ → ℕ → ℕ → MendAnswer
 mendedAs t d room cells =
     cond (wellFormed t)
     (cond (ltb room (length (bytesIn t d)) || ltb cells (3 * length (listIn t d))) (refused 70)
@@ -116,12 +116,12 @@ mendedAs t d room cells =
     (refused 20)
 
 -- a buffer afterwards: "before anything is written" on a refusal, and what lies beyond is kept
-unfoldable pub after : {A : Type 0} → Outcome → List A → List A → List A
-after (done b n) new old = new ++ drop (length new) old
-after (refused k) new old = old
+unfoldable pub keptOrNew : {A : Type 0} → MendAnswer → List A → List A → List A
+keptOrNew (done b n) new old = new ++ drop (length new) old
+keptOrNew (refused k) new old = old
 
 -- THE PROMISE of the call
 pub record Mends (t : List ℤ) (d out out′ : List ℕ) (list list′ : List ℤ) (r : Mended) : Type 0 where
-  pub says : said r ≡ mendedAs t d (length out) (length list)
-  pub mended : out′ ≡ after (mendedAs t d (length out) (length list)) (bytesIn t d) out
-  pub listed : list′ ≡ after (mendedAs t d (length out) (length list)) (numbersOf (listIn t d)) list
+  pub says : mendSaid r ≡ mendedAs t d (length out) (length list)
+  pub mended : out′ ≡ keptOrNew (mendedAs t d (length out) (length list)) (bytesIn t d) out
+  pub listed : list′ ≡ keptOrNew (mendedAs t d (length out) (length list)) (entryNumbers (listIn t d)) list

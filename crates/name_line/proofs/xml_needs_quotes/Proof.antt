@@ -4,7 +4,7 @@ use Prim.Native.Nat.{_≤_, _<_}
 use native.Mathlib.Omega.{arith}
 use borrow.Author.Needs.{needs}
 use lib.ListN.{length}
-use Rattle.contents.specs.rule.Content.{signsAt}
+use Rattle.contents.specs.rule.Content.{contentSigns}
 use Rattle.stretches.proofs.Outcomes.{begins, told-one, told-over}
 use Rattle.commas.specs.rule.Csv.{holdsSpecial}
 use Rattle.name_line.specs.Names.{bytesOf, restText, special-next, special-none, shorter}
@@ -13,10 +13,10 @@ use Rattle.name_line.proofs.xml_needs_quotes.Tie as tie
 
 abbrev Inv-loop : tie.InvT-loop
 Inv-loop latin d name c₀ c =
-    (holdsSpecial (restText latin d name) ≡ holdsSpecial (bytesOf (signsAt latin d c))) × (c .next ≤ length d) × (c .code < 2097152)
+    (holdsSpecial (restText latin d name) ≡ holdsSpecial (bytesOf (contentSigns latin d c))) × (c .next ≤ length d) × (c .code < 2097152)
 
 abbrev μ-loop : tie.MeasureT-loop
-μ-loop latin d name c₀ c = length (signsAt latin d c)
+μ-loop latin d name c₀ c = length (contentSigns latin d c)
 
 loop-holds : tie.Need-loop-holds Inv-loop μ-loop
 loop-holds c =

@@ -4,7 +4,7 @@ use Prim.Native.Nat.{_≤_, _<_}
 use native.Mathlib.Omega.{arith}
 use borrow.Author.Needs.{needs}
 use lib.ListN.{length}
-use Rattle.contents.specs.rule.Content.{signsAt}
+use Rattle.contents.specs.rule.Content.{contentSigns}
 use Rattle.stretches.proofs.Outcomes.{begins, told-one, told-over}
 use Rattle.commas.specs.rule.Csv.{doubled}
 use Rattle.sink.specs.Sent.{Owed, all-owed, less-owed, none-owed}
@@ -14,11 +14,11 @@ use Rattle.name_line.proofs.xml_send_signs.Tie as tie
 
 abbrev Inv-loop : tie.InvT-loop
 Inv-loop latin d name bound out₀ at c₀ end₀ out c end =
-    Owed bound out₀ at (doubled (restText latin d name)) out end (doubled (bytesOf (signsAt latin d c)))
+    Owed bound out₀ at (doubled (restText latin d name)) out end (doubled (bytesOf (contentSigns latin d c)))
     × (c .next ≤ length d) × (c .code < 2097152)
 
 abbrev μ-loop : tie.MeasureT-loop
-μ-loop latin d name bound out₀ at c₀ end₀ out c end = length (signsAt latin d c)
+μ-loop latin d name bound out₀ at c₀ end₀ out c end = length (contentSigns latin d c)
 
 loop-holds : tie.Need-loop-holds Inv-loop μ-loop
 loop-holds c =

@@ -31,17 +31,17 @@ unfoldable pub wellNamed : List Sign → Bool
 wellNamed s = leb 1 (length s) && (leb (length s) 8 && (lettersOrDigits s && beginsWithLetter s))
 
 -- the same signs once each byte is put in capitals
-abbrev pub sameSign : Sign → Sign → Bool
-sameSign (Byte b) (Byte c) = eqb (upperOf b) (upperOf c)
-sameSign (Byte b) Break = false
-sameSign Break (Byte c) = false
-sameSign Break Break = true
+abbrev pub sameCapital : Sign → Sign → Bool
+sameCapital (Byte b) (Byte c) = eqb (upperOf b) (upperOf c)
+sameCapital (Byte b) Break = false
+sameCapital Break (Byte c) = false
+sameCapital Break Break = true
 
 unfoldable pub agree : List Sign → List Sign → Bool
 agree [] [] = true
 agree [] (y ∷ t) = false
 agree (x ∷ s) [] = false
-agree (x ∷ s) (y ∷ t) = sameSign x y && agree s t
+agree (x ∷ s) (y ∷ t) = sameCapital x y && agree s t
 
 abbrev pub nameAt : List (List Sign) → ℕ → List Sign
 nameAt names i = getD names i []

@@ -5,7 +5,7 @@ use borrow.Author.Needs.{needs}
 use mir.Syntax.{w64}
 use mir.Val.{toZ, ofZ}
 use lib.Seq.{length-take-le}
-use Rattle.writes.specs.rule.Write.{valueOf}
+use Rattle.writes.specs.rule.Write.{lentValue}
 use Rattle.normal.proofs.Steps.{held, written-back, number-legal, number-back}
 use Rattle.normal.proofs.put_back.Statement.{statement}
 use Rattle.normal.proofs.put_back.Tie as tie
@@ -25,7 +25,7 @@ slice-aggregate-set c =
     sym (length-take-le _ (start .args .list .now) (held _ _ _ _ _ (c .before .before .said2 .given .1) (start .pre .1 .1) .0))
 
 returns : tie.Need-returns
-unfolding valueOf
+unfolding lentValue
 returns c = written-back _ _ _ _ _ (held _ _ _ _ _ (c .before .before .before .before .enum-told .given .1)
     (c .before .before .before .before .before .before .before .pre .1 .1)) refl (c .before .before .blank-row .ensures)
 
@@ -36,7 +36,7 @@ returns-2 c =
     (rw (back (c .before .before .before .before)) at (c .before .before .put-figures .ensures))
 
 returns-3 : tie.Need-returns-3
-unfolding valueOf
+unfolding lentValue
 returns-3 c =
     let at-said = c .before .before .before .before .before .before .before in
     written-back _ _ _ _ _ (held _ _ _ _ _ (at-said .said2 .given .1) (at-said .before .before .before .pre .1 .1) .1) refl

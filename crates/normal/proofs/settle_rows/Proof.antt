@@ -4,14 +4,14 @@ use Prim.Native.Nat.{_+_, _-_, _≤_}
 use native.Mathlib.Omega.{arith}
 use borrow.Author.Needs.{needs}
 use lib.ListN.{length}
-use Rattle.normal.specs.rule.Normal.{settled}
+use Rattle.normal.specs.rule.Normal.{settledRow}
 use Rattle.normal.proofs.Steps.{settled-none, settled-step, settled-whole}
 use Rattle.normal.proofs.settle_rows.Statement.{statement}
 use Rattle.normal.proofs.settle_rows.Tie as tie
 
 abbrev Inv-loop : tie.InvT-loop
 Inv-loop powers t rows list₀ bytes₀ i₀ list bytes i =
-    (i ≤ rows) × (length list ≡ length list₀) × (length bytes ≡ length bytes₀) × (bytes ≡ settled t rows i bytes₀)
+    (i ≤ rows) × (length list ≡ length list₀) × (length bytes ≡ length bytes₀) × (bytes ≡ settledRow t rows i bytes₀)
 
 abbrev μ-loop : tie.MeasureT-loop
 μ-loop powers t rows list₀ bytes₀ i₀ list bytes i = rows - i

@@ -26,13 +26,13 @@ abbrev pub backOf : List ℤ → ℕ → Row → List ℕ → List ℕ
 backOf t v r s = fieldBack t v r (readingOf t v r s) s
 
 -- the first n of v rows, one after the other
-unfoldable pub settled : List ℤ → ℕ → ℕ → List ℕ → List ℕ
-settled t v zero s = s
-settled t v (suc n) s = backOf t v (rowAt t n) (settled t v n s)
+unfoldable pub settledRow : List ℤ → ℕ → ℕ → List ℕ → List ℕ
+settledRow t v zero s = s
+settledRow t v (suc n) s = backOf t v (rowAt t n) (settledRow t v n s)
 
 -- THE NORMAL FORM
 abbrev pub normalForm : List ℤ → List ℕ → List ℕ
-normalForm t s = settled t (rowsOf t) (rowsOf t) s
+normalForm t s = settledRow t (rowsOf t) (rowsOf t) s
 
 -- what is answered
 unfoldable pub normalVerdict : List ℤ → List ℕ → Verdict

@@ -4,23 +4,23 @@ use lib.ListN.{length}
 use borrow.Author.Needs.{needs}
 use native.Mathlib.Omega.{arith}
 use borrow.Author.Tests.{eq-eqb, ne-eqb, le-leb, lt-leb}
-use Rattle.pairs.specs.rule.Stand.{textOf}
+use Rattle.pairs.specs.rule.Stand.{textStand}
 use Rattle.pairs.proofs.stand_text.Statement.{statement}
 use Rattle.pairs.proofs.stand_text.Tie as tie
 
 returns : tie.Need-returns
-unfolding textOf
+unfolding textStand
 returns c = rw (eq-eqb _ 38 (c .before .before .before .if1 .taken), sym (c .before .before .reference .ensures) ∙ c .enum-told .given .1)
 
 returns-2 : tie.Need-returns-2
-unfolding textOf
+unfolding textStand
 returns-2 c = rw (
   eq-eqb _ 38 (c .before .before .before .if1 .taken),
   sym (c .before .before .reference .ensures) ∙ c .enum-told2 .given .1,
 )
 
 returns-3 : tie.Need-returns-3
-unfolding textOf
+unfolding textStand
 returns-3 c = rw (ne-eqb _ 38 (c .if1 .left))
 
 pub stand-text-spec : {M : Type 1} → statement M

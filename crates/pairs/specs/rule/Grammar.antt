@@ -8,7 +8,7 @@ use lib.Dec.{eqb}
 use lib.ListN.{length}
 use Rattle.markup.specs.rule.Bytes.{ofKind, startsName}
 use Rattle.markup.specs.rule.Grammar.{Each, Gap}
-use Rattle.attributes.specs.rule.Attribute.{Value}
+use Rattle.attributes.specs.rule.Attribute.{AttributeValue}
 
 -- white space or none
 abbrev pub White : List ℕ → Type 0
@@ -27,16 +27,16 @@ pub data Empties (w : List ℕ) : List ℕ → Type 0 where
   empties : {g t : List ℕ} → Gap g → Ends w t → Empties w (g ++ t)
 
 -- an attribute n with the white space before it, so many bytes of that
-pub data Given (n : List ℕ) : ℕ → List ℕ → Type 0 where
-  given : {q : ℕ} {u y z v : List ℕ} → White u → 0 < length u → Name n → White y → White z → (q ≡ 34) ⊎ (q ≡ 39) → Value q v
-      → Given n (length u) (u ++ (n ++ (y ++ 61 ∷ (z ++ q ∷ (v ++ q ∷ [])))))
+pub data PairGiven (n : List ℕ) : ℕ → List ℕ → Type 0 where
+  given : {q : ℕ} {u y z v : List ℕ} → White u → 0 < length u → Name n → White y → White z → (q ≡ 34) ⊎ (q ≡ 39) → AttributeValue q v
+      → PairGiven n (length u) (u ++ (n ++ (y ++ 61 ∷ (z ++ q ∷ (v ++ q ∷ [])))))
 
 -- attributes in whatever order, from place p on: whether k is among them, once at most; and the place of the first other one's name, 0 for
 -- none
 pub data Attributes (k : List ℕ) : ℕ → List ℕ → Bool → ℕ → Type 0 where
   none : {p : ℕ} → Attributes k p [] false 0
-  known : {p o a : ℕ} {u s : List ℕ} → Given k o u → Attributes k (p + length u) s false a → Attributes k p (u ++ s) true a
-  other : {p o a : ℕ} {n u s : List ℕ} {g : Bool} → Given n o u → (n ≡ k → ⊥) → Attributes k (p + length u) s g a
+  known : {p o a : ℕ} {u s : List ℕ} → PairGiven k o u → Attributes k (p + length u) s false a → Attributes k p (u ++ s) true a
+  other : {p o a : ℕ} {n u s : List ℕ} {g : Bool} → PairGiven n o u → (n ≡ k → ⊥) → Attributes k (p + length u) s g a
       → Attributes k p (u ++ s) g (p + o)
 
 -- the end of a start tag: /> or >

@@ -14,20 +14,20 @@ use Rattle.pairs.specs.declared.Pair.{Pair}
 use Rattle.pairs.specs.declared.Pair.the-variants.{Past, Cut, Fault}
 use Rattle.pairs.specs.rule.Stand.{standOf, shutOf, bareOf}
 
-abbrev pub onBare : ℕ → Tag → Pair
-onBare o (tag.Read h em p n) = Cut o
-onBare o (tag.Fault k p) = Fault k p
+abbrev pub pairBare : ℕ → Tag → Pair
+pairBare o (tag.Read h em p n) = Cut o
+pairBare o (tag.Fault k p) = Fault k p
 
 -- a start tag cuts, once its form was read
 unfoldable pub missedOf : Bool → List ℕ → ℕ → ℕ → Pair
-missedOf bad d o e = onBare o (bareOf bad d o e)
+missedOf bad d o e = pairBare o (bareOf bad d o e)
 
-abbrev pub onShut : Skip → Pair
-onShut (skip.Past n) = Past n
-onShut (skip.Broken p) = Fault 50 p
+abbrev pub pairShut : Skip → Pair
+pairShut (skip.Past n) = Past n
+pairShut (skip.Broken p) = Fault 50 p
 
 unfoldable pub closedOf : Bool → List ℕ → ℕ → ℕ → List ℕ → Pair
-closedOf bad d o e w = onShut (shutOf bad d o e w)
+closedOf bad d o e w = pairShut (shutOf bad d o e w)
 
 abbrev pub onStand : Bool → List ℕ → List ℕ → Stand → Pair
 onStand bad d w (stand.Start p e) = missedOf bad d p e

@@ -21,22 +21,22 @@ use Rattle.pairs.specs.declared.Stand.{Stand}
 use Rattle.pairs.specs.declared.Stand.the-variants.{Start, Close, Foreign, Text, Broken}
 
 -- a text, whose first reference has to be good
-abbrev pub onChar : ℕ → Char → Stand
-onChar p (Is c n) = Text p
-onChar p Bad = Broken p
+abbrev pub onTextChar : ℕ → Char → Stand
+onTextChar p (Is c n) = Text p
+onTextChar p Bad = Broken p
 
-unfoldable pub textOf : List ℕ → ℕ → Stand
-textOf d p = cond (eqb (getD d p 0) 38) (onChar p (referenceOf p (drop (p + 1) d))) (Text p)
+unfoldable pub textStand : List ℕ → ℕ → Stand
+textStand d p = cond (eqb (getD d p 0) 38) (onTextChar p (referenceOf p (drop (p + 1) d))) (Text p)
 
-abbrev pub onAngle : ℕ → Angle → Stand
-onAngle p (angle.Start e) = Start p e
-onAngle p (angle.Close e) = Close p e
-onAngle p angle.Foreign = Foreign p
-onAngle p (angle.Broken q) = Broken q
+abbrev pub standAngle : ℕ → Angle → Stand
+standAngle p (angle.Start e) = Start p e
+standAngle p (angle.Close e) = Close p e
+standAngle p angle.Foreign = Foreign p
+standAngle p (angle.Broken q) = Broken q
 
 -- at p, where neither white space nor a comment stands
 unfoldable pub standAt : Bool → List ℕ → ℕ → Stand
-standAt bad d p = cond (leb (length d) p) (Broken p) (cond (eqb (getD d p 0) 60) (onAngle p (angleOf bad d p)) (textOf d p))
+standAt bad d p = cond (leb (length d) p) (Broken p) (cond (eqb (getD d p 0) 60) (standAngle p (angleOf bad d p)) (textStand d p))
 
 abbrev pub onGap : Bool → List ℕ → Skip → Stand
 onGap bad d (skip.Past n) = standAt bad d n
@@ -46,12 +46,12 @@ unfoldable pub standOf : Bool → List ℕ → ℕ → Stand
 standOf bad d p = onGap bad d (gapOf bad d p)
 
 -- an end tag, read whole: it has the name w, or it is 50 at its <
-abbrev pub onEnd : List ℕ → ℕ → ℕ → List ℕ → Skip → Skip
-onEnd d o e w (skip.Past n) = cond (isNamed d (o + 2) e w) (skip.Past n) (skip.Broken o)
-onEnd d o e w (skip.Broken p) = skip.Broken p
+abbrev pub standEnd : List ℕ → ℕ → ℕ → List ℕ → Skip → Skip
+standEnd d o e w (skip.Past n) = cond (isNamed d (o + 2) e w) (skip.Past n) (skip.Broken o)
+standEnd d o e w (skip.Broken p) = skip.Broken p
 
 unfoldable pub shutOf : Bool → List ℕ → ℕ → ℕ → List ℕ → Skip
-shutOf bad d o e w = onEnd d o e w (endOf bad d o e)
+shutOf bad d o e w = standEnd d o e w (endOf bad d o e)
 
 -- a start tag whose element knows no attribute
 abbrev pub bareOf : Bool → List ℕ → ℕ → ℕ → Tag

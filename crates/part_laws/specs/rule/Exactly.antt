@@ -10,7 +10,7 @@ use Rattle.cuts.specs.rule.Records.{Records, over, unended, record-and, records
 use Rattle.sound.specs.rule.Sound.{wellFormed}
 use Rattle.records.specs.rule.Verdict.{sound, refused, verdictOf}
 use Rattle.files.specs.rule.File.{soundWith, badTable, faultIn}
-use Rattle.file_laws.specs.rule.Files.{before, AllSound}
+use Rattle.file_laws.specs.rule.Files.{recordsBefore, AllSound}
 use Rattle.parts.specs.rule.Part.{numbered, PartVerdict, noTerminator, judgedAs}
 
 -- 1 CR LF, 2 LF CR, 3 CR, 4 LF
@@ -22,7 +22,7 @@ pub record IsNumber (k : ℕ) : Type 0 where
 pub record SoundIn (t : List ℤ) (d : List ℕ) (terminator first : ℕ) (rs : List (List ℕ)) (rest : Records) : Type 0 where
   pub formed : wellFormed t ≡ true
   pub number : IsNumber terminator
-  pub records : recordsFrom (numbered terminator) d ≡ before rs rest
+  pub records : recordsFrom (numbered terminator) d ≡ recordsBefore rs rest
   pub all : AllSound t first rs
 
 pub data PartOutcome (t : List ℤ) (d : List ℕ) (terminator first last : ℕ) : PartVerdict → Type 0 where

@@ -5,7 +5,7 @@ use mathlib.Core.List.{List, [], _∷_}
 use Prim.Native.Nat.{ℕ, _+_, _*_}
 use lib.IntN.{ℤ}
 use lib.ListN.{take, drop}
-use Rattle.cuts.specs.rule.Cut.{none, terminatorOf}
+use Rattle.cuts.specs.rule.Cut.{noEnding, terminatorOf}
 use Rattle.files.specs.rule.File.{soundWith, badTable, faultIn}
 use Rattle.parts.specs.rule.Part.{numbered, PartVerdict, noTerminator, judgedAs, partVerdict}
 use Rattle.part_laws.specs.rule.Exactly.{IsNumber}
@@ -27,5 +27,5 @@ inParts t terminator first n s (size ∷ sizes) =
 
 -- the number of a file's terminator, or that it has no CR and no LF
 pub data FileNumber (d : List ℕ) : Type 0 where
-  has-none : terminatorOf d ≡ none → FileNumber d
+  has-none : terminatorOf d ≡ noEnding → FileNumber d
   has : (k : ℕ) → IsNumber k → terminatorOf d ≡ numbered k → FileNumber d

@@ -8,7 +8,7 @@ use Prim.Native.Nat.{ℕ, _+_}
 use lib.Dec.{eqb}
 use lib.IntN.{ℤ}
 use Rattle.cuts.specs.declared.Terminator.{Terminator}
-use Rattle.cuts.specs.rule.Cut.{single, pair, none}
+use Rattle.cuts.specs.rule.Cut.{oneByte, twoBytes, noEnding}
 use Rattle.cuts.specs.rule.Records.{Records, over, unended, record-and, recordsFrom}
 use Rattle.sound.specs.rule.Sound.{wellFormed}
 use Rattle.records.specs.rule.Verdict.{refused}
@@ -19,7 +19,8 @@ use Rattle.parts.specs.declared.Part.the-variants as P
 -- the terminator of a number: 1 CR LF, 2 LF CR, 3 CR, 4 LF; no other number has one
 unfoldable pub numbered : ℕ → Terminator
 numbered k =
-    cond (eqb k 1) (pair 13 10) (cond (eqb k 2) (pair 10 13) (cond (eqb k 3) (single 13 10) (cond (eqb k 4) (single 10 13) none)))
+    cond (eqb k 1) (twoBytes 13 10) (cond (eqb k 2) (twoBytes 10 13)
+    (cond (eqb k 3) (oneByte 13 10) (cond (eqb k 4) (oneByte 10 13) noEnding)))
 
 -- the records of a part, n of it before them, in a file whose first record has `first` bytes: each 31, 22, 23, its fields; a record without
 -- its

@@ -5,13 +5,13 @@ use mathlib.Core.List.{List, [], _∷_, _++_}
 use Prim.Native.Nat.{ℕ, zero, suc, _-_}
 use lib.Dec.{eqb}
 use Rattle.cuts.specs.declared.Terminator.{Terminator}
-use Rattle.cuts.specs.rule.Cut.{none, terminatorAt}
+use Rattle.cuts.specs.rule.Cut.{noEnding, terminatorAt}
 use Rattle.cuts.specs.rule.Records.{terminatorBytes}
 
 -- the boundary that s begins with: a CR or LF with the other behind it is one boundary, else the one byte; none before any other byte
 unfoldable pub boundaryAt : List ℕ → Terminator
-boundaryAt [] = none
-boundaryAt (b ∷ s) = cond (eqb b 13) (terminatorAt 13 10 s) (cond (eqb b 10) (terminatorAt 10 13 s) none)
+boundaryAt [] = noEnding
+boundaryAt (b ∷ s) = cond (eqb b 13) (terminatorAt 13 10 s) (cond (eqb b 10) (terminatorAt 10 13 s) noEnding)
 
 -- a piece: its bytes, and the boundary behind it
 pub record Piece : Type 0 where
@@ -22,17 +22,17 @@ abbrev pub piece : List ℕ → Terminator → Piece
 piece r w = record { bytes = r; boundary = w }
 
 -- the first piece, where there is one, and those behind it
-unfoldable pub firstOf : List Piece → Piece
-firstOf [] = piece [] none
-firstOf (p ∷ ps) = p
+unfoldable pub firstPiece : List Piece → Piece
+firstPiece [] = piece [] noEnding
+firstPiece (p ∷ ps) = p
 
-unfoldable pub behind : List Piece → List Piece
-behind [] = []
-behind (p ∷ ps) = ps
+unfoldable pub piecesBehind : List Piece → List Piece
+piecesBehind [] = []
+piecesBehind (p ∷ ps) = ps
 
 -- a byte in front of the first piece's bytes
 unfoldable pub onto : ℕ → List Piece → List Piece
-onto b ps = piece (b ∷ firstOf ps .bytes) (firstOf ps .boundary) ∷ behind ps
+onto b ps = piece (b ∷ firstPiece ps .bytes) (firstPiece ps .boundary) ∷ piecesBehind ps
 
 -- the pieces of s, after `skip` bytes that are left of a boundary
 unfoldable pub cutFrom : ℕ → List ℕ → List Piece

@@ -1,6 +1,6 @@
 use mathlib.Core.Path.{sym, ap, _∙_}
 use borrow.Author.Needs.{needs}
-use Rattle.xml_reading.specs.rule.Open.{within}
+use Rattle.xml_reading.specs.rule.Open.{withinElement}
 use Rattle.elements.specs.Code.{readOf}
 use Rattle.elements.proofs.Dues.{missed}
 use Rattle.prefaces.specs.Code.{endOf}
@@ -16,7 +16,8 @@ returns : tie.Need-returns
 unfolding endOf
 returns c =
     let a = c .before .before .before .before .before .before .before .args in
-    let e = sym (opened-is (within (a .bad) (a .d .now) (a .w .now) (a .at)) (c .before .before .before .before .find-open .ensures .0))
+    let e = sym (opened-is (withinElement (a .bad) (a .d .now) (a .w .now) (a .at))
+    (c .before .before .before .before .find-open .ensures .0))
     ∙ ap readOf (c .before .before .place .given .1) in
     (rw (e, missed (a .bad) (a .d .now) {A = Unit} _ _) (ap Refused (c .misplaced .ensures)), tt)
 
@@ -24,7 +25,7 @@ returns-2 : tie.Need-returns-2
 unfolding endOf
 returns-2 c =
     let a = c .before .before .before .before .before .before .args in
-    let e = sym (opened-is (within (a .bad) (a .d .now) (a .w .now) (a .at)) (c .before .before .before .find-open .ensures .0))
+    let e = sym (opened-is (withinElement (a .bad) (a .d .now) (a .w .now) (a .at)) (c .before .before .before .find-open .ensures .0))
     ∙ ap readOf (c .before .next .given .1) in
     let v = rw (c .before .next .given .1) at (c .before .before .before .find-open .ensures .1) in
     (rw e, v .2)
@@ -33,7 +34,7 @@ returns-3 : tie.Need-returns-3
 unfolding endOf
 returns-3 c = let a = c .before .before .before .before .before .before .args in (
   rw
-      (sym (opened-is (within (a .bad) (a .d .now) (a .w .now) (a .at)) (c .before .before .before .find-open .ensures .0))
+      (sym (opened-is (withinElement (a .bad) (a .d .now) (a .w .now) (a .at)) (c .before .before .before .find-open .ensures .0))
       ∙ ap readOf (c .before .f .given .1)),
   tt,
 )

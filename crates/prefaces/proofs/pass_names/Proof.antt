@@ -2,7 +2,7 @@ use mathlib.Core.Path.{ap, _∙_}
 use borrow.Author.Needs.{needs}
 use Rattle.reading.specs.rule.Result.{Result, bind}
 use Rattle.xml_reading.specs.rule.Open.{Open}
-use Rattle.xml_reading.specs.rule.Sheet.{perhaps}
+use Rattle.xml_reading.specs.rule.Sheet.{perhapsElement}
 use Rattle.prefaces.specs.Code.{titledOf}
 use Rattle.xml_reading.specs.rule.Word.{SURVEY, NAME, VERSION}
 use Rattle.elements.specs.Code.{openOf, readOf}
@@ -18,7 +18,7 @@ unfolding titledOf
 returns-2 c =
     let at-perhaps-text = c .before .before .before in
     let a = at-perhaps-text .before .before .before .before .before .args in
-    let p = perhaps (a .bad) (a .d .now) SURVEY in
+    let p = perhapsElement (a .bad) (a .d .now) SURVEY in
     let e = opened-is (bind (readOf (a .o)) (p NAME 0)) (at-perhaps-text .perhaps-text .ensures .0) in (
       rw (at-perhaps-text .before .before .before .if1 .left)
           (c .perhaps-text2 .ensures .0 ∙ ap (λ (y : Result Open). openOf (bind y (p VERSION 0))) e

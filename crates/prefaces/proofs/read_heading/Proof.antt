@@ -1,8 +1,8 @@
 use mathlib.Core.Path.{ap, _∙_}
 use borrow.Author.Needs.{needs}
 use Rattle.reading.specs.rule.Result.{Result, bind}
-use Rattle.xml_reading.specs.rule.Open.{Open, within}
-use Rattle.xml_reading.specs.rule.Sheet.{perhaps, heading}
+use Rattle.xml_reading.specs.rule.Open.{Open, withinElement}
+use Rattle.xml_reading.specs.rule.Sheet.{perhapsElement, heading}
 use Rattle.xml_reading.specs.rule.Word.{SSS, DATE, TIME, ORIGIN, USER}
 use Rattle.elements.specs.Code.{openOf}
 use Rattle.prefaces.proofs.Binds.{within-first, opened-is, four}
@@ -23,13 +23,17 @@ returns c =
     let a = at-find-open .before .before .before .args in
     let b = a .bad in
     let d = a .d .now in
-    let x = within b d SSS (a .at) in
+    let x = withinElement b d SSS (a .at) in
     let e1 = opened-is x (at-find-open .find-open .ensures .0) in
-    let e2 = opened-is _ (at-perhaps-text .perhaps-text .ensures .0) ∙ ap (λ (y : Result Open). bind y (perhaps b d SSS DATE 0)) e1 in
-    let e3 = opened-is _ (at-perhaps-text2 .perhaps-text2 .ensures .0) ∙ ap (λ (y : Result Open). bind y (perhaps b d SSS TIME 0)) e2 in
-    let e4 = opened-is _ (at-perhaps-text3 .perhaps-text3 .ensures .0) ∙ ap (λ (y : Result Open). bind y (perhaps b d SSS ORIGIN 0)) e3 in (
-      c .perhaps-text4 .ensures .0 ∙ ap (λ (y : Result Open). openOf (bind y (perhaps b d SSS USER 0))) e4
-          ∙ ap openOf (four x (perhaps b d SSS DATE 0) (perhaps b d SSS TIME 0) (perhaps b d SSS ORIGIN 0) (perhaps b d SSS USER 0)),
+    let e2 = opened-is _ (at-perhaps-text .perhaps-text .ensures .0)
+    ∙ ap (λ (y : Result Open). bind y (perhapsElement b d SSS DATE 0)) e1 in
+    let e3 = opened-is _ (at-perhaps-text2 .perhaps-text2 .ensures .0)
+    ∙ ap (λ (y : Result Open). bind y (perhapsElement b d SSS TIME 0)) e2 in
+    let e4 = opened-is _ (at-perhaps-text3 .perhaps-text3 .ensures .0)
+    ∙ ap (λ (y : Result Open). bind y (perhapsElement b d SSS ORIGIN 0)) e3 in (
+      c .perhaps-text4 .ensures .0 ∙ ap (λ (y : Result Open). openOf (bind y (perhapsElement b d SSS USER 0))) e4
+          ∙ ap openOf (four x (perhapsElement b d SSS DATE 0) (perhapsElement b d SSS TIME 0) (perhapsElement b d SSS ORIGIN 0)
+          (perhapsElement b d SSS USER 0)),
       c .perhaps-text4 .ensures .1,
     )
 

@@ -2,8 +2,8 @@ use mathlib.Core.Path.{ap, _∙_}
 use Prim.Native.Nat.{ℕ}
 use borrow.Author.Needs.{needs}
 use Rattle.reading.specs.rule.Result.{Result, bind}
-use Rattle.xml_reading.specs.rule.Open.{Open, within}
-use Rattle.xml_reading.specs.rule.Sheet.{perhaps, titles}
+use Rattle.xml_reading.specs.rule.Open.{Open, withinElement}
+use Rattle.xml_reading.specs.rule.Sheet.{perhapsElement, titles}
 use Rattle.prefaces.specs.Code.{titledOf}
 use Rattle.xml_reading.specs.rule.Word.{SURVEY, TITLE}
 use Rattle.elements.specs.Code.{openOf, readOf}
@@ -22,8 +22,8 @@ returns c =
     let a = c .before .before .before .before .before .before .before .before .args in
     let b = a .bad in
     let d = a .d .now in
-    let x = within b d SURVEY (a .at) in
-    let p = perhaps b d SURVEY TITLE in
+    let x = withinElement b d SURVEY (a .at) in
+    let p = perhapsElement b d SURVEY TITLE in
     let e1 = opened-is x (c .before .before .before .before .before .find-open .ensures .0) in
     let e2 = opened-is _ (c .before .before .before .before .pass-names .ensures .0)
     ∙ ap (λ (y : Result Open). bind y (titledOf b d (a .m .old))) e1 in (

@@ -5,14 +5,14 @@ use Prim.Native.Nat.{ℕ, _+_, _-_, _≤_, _<_}
 use lib.ListN.{length, drop, getD}
 use borrow.Author.Needs.{needs}
 use native.Mathlib.Omega.{arith}
-use Rattle.prologs.specs.rule.Form.{encoding-is, naming, standalone}
+use Rattle.prologs.specs.rule.Form.{encoding-is, namingForm, standalone}
 use Rattle.prologs.proofs.Steps.{stands-in, perhaps-none, perhaps-yes, perhaps-not}
 use Rattle.prologs.proofs.encoding_at.Statement.{statement}
 use Rattle.prologs.proofs.encoding_at.Tie as tie
 
 returns : tie.Need-returns
 returns c = c .standalone-at .ensures ∙ sym (perhaps-none false (c .before .before .before .before .args .d .now)
-    (c .before .before .before .before .args .opened) encoding-is (naming (c .before .before .before .before .args .marked)) standalone
+    (c .before .before .before .before .args .opened) encoding-is (namingForm (c .before .before .before .before .args .marked)) standalone
     false (c .before .before .before .before .args .at) (c .before .before .run .ensures .0) (c .before .if1 .taken))
 
 add-encoding-named : tie.Need-add-encoding-named
@@ -29,7 +29,8 @@ returns-2 : tie.Need-returns-2
 returns-2 c =
     let at-is-there = c .before .before in
     let args = at-is-there .before .before .before .before .before .args in
-    c .encoding-named .ensures ∙ sym (perhaps-yes false (args .d .now) (args .opened) encoding-is (naming (args .marked)) standalone false
+    c .encoding-named .ensures ∙ sym (perhaps-yes false (args .d .now) (args .opened) encoding-is (namingForm (args .marked)) standalone
+    false
     (args .at) (at-is-there .before .before .before .run .ensures .0)
     (at-is-there .before .before .if1 .left) (sym (at-is-there .is-there .ensures) ∙ c .before .if2 .taken))
 
@@ -37,7 +38,8 @@ returns-3 : tie.Need-returns-3
 returns-3 c =
     let at-is-there = c .before .before in
     let args = at-is-there .before .before .before .before .before .args in
-    c .standalone-at2 .ensures ∙ sym (perhaps-not false (args .d .now) (args .opened) encoding-is (naming (args .marked)) standalone false
+    c .standalone-at2 .ensures ∙ sym (perhaps-not false (args .d .now) (args .opened) encoding-is (namingForm (args .marked)) standalone
+    false
     (args .at) (at-is-there .before .before .before .run .ensures .0)
     (at-is-there .before .before .if1 .left) (sym (at-is-there .is-there .ensures) ∙ c .before .if2 .left))
 

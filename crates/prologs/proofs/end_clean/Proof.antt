@@ -5,16 +5,16 @@ use Prim.Native.Nat.{ℕ, _+_, _-_, _≤_, _<_}
 use lib.ListN.{length, drop, getD}
 use borrow.Author.Needs.{needs}
 use native.Mathlib.Omega.{arith}
-use Rattle.prologs.specs.rule.Told.{endOf}
+use Rattle.prologs.specs.rule.Told.{endOfFile}
 use Rattle.prologs.proofs.end_clean.Statement.{statement}
 use Rattle.prologs.proofs.end_clean.Tie as tie
 
 returns : tie.Need-returns
-unfolding endOf
+unfolding endOfFile
 returns c = rw (c .if1 .taken)
 
 returns-2 : tie.Need-returns-2
-unfolding endOf
+unfolding endOfFile
 returns-2 c = rw (c .if1 .left)
 
 pub end-clean-spec : {M : Type 1} → statement M

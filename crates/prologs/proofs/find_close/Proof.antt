@@ -6,23 +6,23 @@ use lib.ListN.{length, drop, getD}
 use borrow.Author.Needs.{needs}
 use native.Mathlib.Omega.{arith}
 use borrow.Author.Tests.{eq-eqb, ne-eqb, le-leb, lt-leb}
-use Rattle.prologs.specs.rule.Told.{closedOf}
+use Rattle.prologs.specs.rule.Told.{closedString}
 use Rattle.prologs.proofs.find_close.Statement.{statement}
 use Rattle.prologs.proofs.find_close.Tie as tie
 
 returns : tie.Need-returns
-unfolding closedOf
+unfolding closedString
 returns c = rw (le-leb (length (c .before .args .d .now)) (c .before .args .k) (omega arith))
 
 returns-2 : tie.Need-returns-2
-unfolding closedOf
+unfolding closedString
 returns-2 c = rw (
   lt-leb (length (c .before .before .before .args .d .now)) (c .before .before .before .args .k) (omega arith),
   eq-eqb _ _ (c .if2 .taken),
 )
 
 returns-3 : tie.Need-returns-3
-unfolding closedOf
+unfolding closedString
 returns-3 c = rw (
   lt-leb (length (c .before .before .before .args .d .now)) (c .before .before .before .args .k) (omega arith),
   ne-eqb _ _ (c .if2 .left),

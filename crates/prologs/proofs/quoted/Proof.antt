@@ -6,12 +6,12 @@ use lib.ListN.{length, drop, getD}
 use borrow.Author.Needs.{needs}
 use native.Mathlib.Omega.{arith}
 use borrow.Author.Tests.{eq-eqb, ne-eqb, le-leb, lt-leb}
-use Rattle.prologs.specs.rule.Told.{quotedOf}
+use Rattle.prologs.specs.rule.Told.{quotedString}
 use Rattle.prologs.proofs.quoted.Statement.{statement}
 use Rattle.prologs.proofs.quoted.Tie as tie
 
 returns : tie.Need-returns
-unfolding quotedOf
+unfolding quotedString
 returns c = rw (
   le-leb (length (c .before .before .before .args .d .now)) (c .before .before .before .args .n) (omega arith),
   c .end-fault .ensures,
@@ -27,7 +27,7 @@ cut-at-requires : tie.Need-cut-at-requires
 cut-at-requires c κs = omega arith
 
 returns-2 : tie.Need-returns-2
-unfolding quotedOf
+unfolding quotedString
 returns-2 c =
     let at-run-inside = c .before .before in
     let args = at-run-inside .before .before .before .before .before .args in
@@ -39,7 +39,7 @@ returns-2 c =
     ) (c .find-close .ensures)
 
 returns-3 : tie.Need-returns-3
-unfolding quotedOf
+unfolding quotedString
 returns-3 c = rw (
   lt-leb (length (c .before .before .before .before .args .d .now)) (c .before .before .before .before .args .n)
       (omega arith),

@@ -6,13 +6,13 @@ use lib.ListN.{length, drop, getD}
 use borrow.Author.Needs.{needs}
 use native.Mathlib.Omega.{arith}
 use borrow.Author.Tests.{eq-eqb, ne-eqb, le-leb, lt-leb}
-use Rattle.prologs.specs.rule.Told.{tailOf}
+use Rattle.prologs.specs.rule.Told.{tailFrom}
 use Rattle.prologs.proofs.Steps.{gap-within}
 use Rattle.prologs.proofs.read_tail.Statement.{statement}
 use Rattle.prologs.proofs.read_tail.Tie as tie
 
 returns : tie.Need-returns
-unfolding tailOf
+unfolding tailFrom
 returns c = rw (
   sym (c .before .before .before .before .before .gap .ensures) ∙ c .before .before .before .n .given .1,
   le-leb _ _ (c .before .if1 .taken),
@@ -26,7 +26,7 @@ is-there-requires c κs =
     (sym (at-n .before .before .gap .ensures) ∙ at-n .n .given .1)
 
 returns-2 : tie.Need-returns-2
-unfolding tailOf
+unfolding tailFrom
 returns-2 c = rw (
   sym (c .before .before .before .before .before .before .before .gap .ensures)
       ∙ c .before .before .before .before .before .n .given .1,
@@ -35,7 +35,7 @@ returns-2 c = rw (
 )
 
 returns-3 : tie.Need-returns-3
-unfolding tailOf
+unfolding tailFrom
 returns-3 c = rw (
   sym (c .before .before .before .before .before .before .before .gap .ensures)
       ∙ c .before .before .before .before .before .n .given .1,
@@ -44,7 +44,7 @@ returns-3 c = rw (
 )
 
 returns-4 : tie.Need-returns-4
-unfolding tailOf
+unfolding tailFrom
 returns-4 c = rw (sym (c .before .before .before .gap .ensures) ∙ c .before .p .given .1)
 
 pub read-tail-spec : {M : Type 1} → statement M

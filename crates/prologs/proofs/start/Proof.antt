@@ -5,13 +5,13 @@ use Prim.Native.Nat.{ℕ, _+_, _-_, _≤_, _<_}
 use lib.ListN.{length, drop, getD}
 use borrow.Author.Needs.{needs}
 use native.Mathlib.Omega.{arith}
-use Rattle.prologs.specs.rule.Told.{startOf}
+use Rattle.prologs.specs.rule.Told.{startBehindMark}
 use Rattle.prologs.proofs.Steps.{stands-in}
 use Rattle.prologs.proofs.start.Statement.{statement}
 use Rattle.prologs.proofs.start.Tie as tie
 
 returns : tie.Need-returns
-unfolding startOf
+unfolding startBehindMark
 returns c = (
   rw (sym (c .before .is-there .ensures) ∙ c .if1 .taken),
   omega (
@@ -22,7 +22,7 @@ returns c = (
 )
 
 returns-2 : tie.Need-returns-2
-unfolding startOf
+unfolding startBehindMark
 returns-2 c = (rw (sym (c .before .is-there .ensures) ∙ c .if1 .left), omega arith)
 
 pub start-spec : {M : Type 1} → statement M

@@ -43,8 +43,8 @@ abbrev pub DOCTYPE : List ℕ
 DOCTYPE = 60 ∷ 33 ∷ 68 ∷ 79 ∷ 67 ∷ 84 ∷ 89 ∷ 80 ∷ 69 ∷ []
 
 -- version
-abbrev pub version : List ℕ
-version = 118 ∷ 101 ∷ 114 ∷ 115 ∷ 105 ∷ 111 ∷ 110 ∷ []
+abbrev pub versionWord : List ℕ
+versionWord = 118 ∷ 101 ∷ 114 ∷ 115 ∷ 105 ∷ 111 ∷ 110 ∷ []
 
 -- encoding
 abbrev pub encoding-is : List ℕ
@@ -98,14 +98,14 @@ close = room (word (63 ∷ 62 ∷ []) done)
 abbrev pub standalone : Form
 standalone = perhaps standalone-is (pair (yes ∷ no ∷ []) close) close
 
-abbrev pub naming : Bool → Form
-naming marked = room (word (61 ∷ []) (room (encoding marked standalone)))
+abbrev pub namingForm : Bool → Form
+namingForm marked = room (word (61 ∷ []) (room (encoding marked standalone)))
 
 abbrev pub encoded : Bool → Form
-encoded marked = perhaps encoding-is (naming marked) standalone
+encoded marked = perhaps encoding-is (namingForm marked) standalone
 
 abbrev pub declaration : Bool → Form
-declaration marked = word XML (white (word version (pair (one-nought ∷ []) (encoded marked))))
+declaration marked = word XML (white (word versionWord (pair (one-nought ∷ []) (encoded marked))))
 
 -- ---- the DOCTYPE
 -- 62 is >

@@ -22,12 +22,12 @@ use Rattle.prologs.specs.declared.Tail.the-variants.{Clean, Foul}
 
 -- ---- which file is XML
 -- EF BB BF is the byte order mark
-unfoldable pub startOf : List ℕ → ℕ
-startOf d = cond (stands (239 ∷ 187 ∷ 191 ∷ []) d) 3 0
+unfoldable pub startBehindMark : List ℕ → ℕ
+startBehindMark d = cond (stands (239 ∷ 187 ∷ 191 ∷ []) d) 3 0
 
 -- "A file is XML when it begins with `<?xml` or `<sss`, alone or behind EF BB BF; everything else is a 1.1 definition."
 unfoldable pub isXml : List ℕ → Bool
-isXml d = stands XML (drop (startOf d) d) || stands SSS (drop (startOf d) d)
+isXml d = stands XML (drop (startBehindMark d) d) || stands SSS (drop (startBehindMark d) d)
 
 -- ---- strings
 -- XML's PubidChar: letters, digits, space, CR, LF and - ' ( ) + , . / : = ? ; ! * # @ $ _ %
@@ -37,8 +37,8 @@ isPublic b =
     || (((leb 39 b && leb b 59) || ((leb 35 b && leb b 37) || (eqb b 33 || eqb b 61))) || (eqb b 32 || (eqb b 10 || eqb b 13)))
 
 -- what may stand between quotes
-unfoldable pub insideOf : Bool → ℕ → ℕ → Bool
-insideOf public quote b = cond (eqb b quote) false (cond public (isPublic b) true)
+unfoldable pub betweenQuotes : Bool → ℕ → ℕ → Bool
+betweenQuotes public quote b = cond (eqb b quote) false (cond public (isPublic b) true)
 
 -- what is due at n and isn't there is at fault at its first byte, or where the text ends too early
 unfoldable pub dueOf : Bool → List ℕ → ℕ → ℕ → ℕ
@@ -50,16 +50,16 @@ unfoldable pub cutOf : Bool → Bool → List ℕ → ℕ → ℕ → ℕ → �
 cutOf alone bad d o n k = cond alone (dueOf bad d o (n + 1)) (endFault bad k o)
 
 -- at k the quote is due that ends the string
-unfoldable pub closedOf : List ℕ → ℕ → ℕ → ℕ → Skip
-closedOf d cut quote k = cond (leb (length d) k) (Broken cut) (cond (eqb (getD d k 0) quote) (Past k) (Broken k))
+unfoldable pub closedString : List ℕ → ℕ → ℕ → ℕ → Skip
+closedString d cut quote k = cond (leb (length d) k) (Broken cut) (cond (eqb (getD d k 0) quote) (Past k) (Broken k))
 
 -- at n the string's first quote is due
-unfoldable pub quotedOf : Bool → Bool → Bool → List ℕ → ℕ → ℕ → Skip
-quotedOf alone public bad d o n =
+unfoldable pub quotedString : Bool → Bool → Bool → List ℕ → ℕ → ℕ → Skip
+quotedString alone public bad d o n =
     let q = getD d n 0 in
-    let k = runOf (insideOf public q) (n + 1) (drop (n + 1) d) in
+    let k = runOf (betweenQuotes public q) (n + 1) (drop (n + 1) d) in
     cond (leb (length d) n) (Broken (endFault bad n o))
-    (cond (eqb q 34 || eqb q 39) (closedOf d (cutOf alone bad d o n k) q k) (Broken n))
+    (cond (eqb q 34 || eqb q 39) (closedString d (cutOf alone bad d o n k) q k) (Broken n))
 
 -- the stretch from v to e is just w; or so with letter case aside, w in capitals
 unfoldable pub speltOf : List ℕ → ℕ → ℕ → List ℕ → Bool
@@ -84,9 +84,9 @@ missOf bad d o n = Fault 50 (dueOf bad d o n)
 abbrev pub blanks : List ℕ → ℕ → ℕ
 blanks d p = runOf (ofKind 0) p (drop p d)
 
-abbrev pub onSkip : Skip → (ℕ → Prolog) → Prolog
-onSkip (Past n) k = k n
-onSkip (Broken p) k = Fault 50 p
+abbrev pub onPassed : Skip → (ℕ → Prolog) → Prolog
+onPassed (Past n) k = k n
+onPassed (Broken p) k = Fault 50 p
 
 -- the root's name is due at p and does not stand there whole. "Where the file ends too early: 50": where its beginning alone is left, at
 -- the bad character that cuts it, else at its first byte; another name is 2, anything else 50
@@ -103,12 +103,12 @@ tellOf bad d o (white f) latin p = let n = blanks d p in cond (eqb n p) (missOf 
 tellOf bad d o (room f) latin p = tellOf bad d o f latin (blanks d p)
 tellOf bad d o (word w f) latin p = cond (stands w (drop p d)) (tellOf bad d o f latin (p + length w)) (missOf bad d o p)
 tellOf bad d o (value ws f) latin p =
-    onSkip (quotedOf true false bad d o p) λ k. cond (amongOf d (p + 1) k ws) (tellOf bad d o f latin (k + 1)) (Fault 50 (p + 1))
+    onPassed (quotedString true false bad d o p) λ k. cond (amongOf d (p + 1) k ws) (tellOf bad d o f latin (k + 1)) (Fault 50 (p + 1))
 tellOf bad d o (encoding marked f) latin p =
-    onSkip (quotedOf true false bad d o p) λ k.
+    onPassed (quotedString true false bad d o p) λ k.
     cond (alikeOf d (p + 1) k UTF-8) (tellOf bad d o f false (k + 1))
     (cond marked (Fault 50 (p + 1)) (cond (alikeOf d (p + 1) k ISO-8859-1) (tellOf bad d o f true (k + 1)) (Fault 50 (p + 1))))
-tellOf bad d o (literal public f) latin p = onSkip (quotedOf false public bad d o p) λ k. tellOf bad d o f latin (k + 1)
+tellOf bad d o (literal public f) latin p = onPassed (quotedString false public bad d o p) λ k. tellOf bad d o f latin (k + 1)
 tellOf bad d o (root f) latin p = cond (stands sss (drop p d)) (tellOf bad d o f latin (p + 3)) (rootMissed bad d o p)
 tellOf bad d o (bracket f) latin p = cond (stands (91 ∷ []) (drop p d)) (Fault 51 p) (tellOf bad d o f latin p)
 tellOf bad d o (perhaps w f g) latin p =
@@ -120,12 +120,12 @@ tellOf bad d o (which w f g) latin p = cond (stands w (drop p d)) (tellOf bad d 
 -- ---- the declaration, by the file's bytes: no character cuts it
 unfoldable pub declarationOf : List ℕ → Prolog
 declarationOf d =
-    let o = startOf d in
+    let o = startBehindMark d in
     cond (stands XML (drop o d)) (tellOf false d o (declaration (ltb 0 o)) false o) (Read false o)
 
 -- ---- "DOCTYPE, once, behind the declaration": white space and comments before it and behind it
 unfoldable pub gapTo : Bool → Bool → List ℕ → ℕ → Prolog
-gapTo bad latin d p = onSkip (gapOf bad d p) λ n. Read latin n
+gapTo bad latin d p = onPassed (gapOf bad d p) λ n. Read latin n
 
 abbrev pub gapOn : Bool → List ℕ → Prolog → Prolog
 gapOn bad d (Read latin n) = gapTo bad latin d n
@@ -133,16 +133,16 @@ gapOn bad d (Fault k p) = Fault k p
 
 unfoldable pub headOf : Bool → Bool → List ℕ → ℕ → Prolog
 headOf bad latin d p =
-    onSkip (gapOf bad d p) λ n. cond (stands DOCTYPE (drop n d)) (gapOn bad d (tellOf bad d n doctype latin n)) (Read latin n)
+    onPassed (gapOf bad d p) λ n. cond (stands DOCTYPE (drop n d)) (gapOn bad d (tellOf bad d n doctype latin n)) (Read latin n)
 
 -- ---- "Behind `</sss>` only white space and comments, else 50 there (51 for a processing instruction)." 60 63 is <?
-unfoldable pub endOf : Bool → ℕ → Tail
-endOf bad n = cond bad (Foul 50 n) Clean
+unfoldable pub endOfFile : Bool → ℕ → Tail
+endOfFile bad n = cond bad (Foul 50 n) Clean
 
 abbrev pub behindRoot : Bool → List ℕ → Skip → Tail
 behindRoot bad d (Past n) =
-    cond (leb (length d) n) (endOf bad n) (cond (stands (60 ∷ 63 ∷ []) (drop n d)) (Foul 51 n) (Foul 50 n))
+    cond (leb (length d) n) (endOfFile bad n) (cond (stands (60 ∷ 63 ∷ []) (drop n d)) (Foul 51 n) (Foul 50 n))
 behindRoot bad d (Broken q) = Foul 50 q
 
-unfoldable pub tailOf : Bool → List ℕ → ℕ → Tail
-tailOf bad d p = behindRoot bad d (gapOf bad d p)
+unfoldable pub tailFrom : Bool → List ℕ → ℕ → Tail
+tailFrom bad d p = behindRoot bad d (gapOf bad d p)

@@ -4,23 +4,23 @@ use lib.ListN.{length}
 use borrow.Author.Needs.{needs}
 use native.Mathlib.Omega.{arith}
 use borrow.Author.Tests.{eq-eqb, ne-eqb, le-leb, lt-leb}
-use Rattle.ranks.specs.rule.Rank.{lowerOf}
+use Rattle.ranks.specs.rule.Rank.{lowerFound}
 use Rattle.ranks.proofs.lower.Statement.{statement}
 use Rattle.ranks.proofs.lower.Tie as tie
 
 returns : tie.Need-returns
-unfolding lowerOf
+unfolding lowerFound
 returns c = rw (eq-eqb (c .before .before .args .a .number) 0 (c .if1 .taken))
 
 returns-2 : tie.Need-returns-2
-unfolding lowerOf
+unfolding lowerFound
 returns-2 c = rw (
   ne-eqb (c .before .before .before .before .args .a .number) 0 (c .before .before .if1 .left),
   eq-eqb (c .before .before .before .before .args .b .number) 0 (c .if2 .taken),
 )
 
 returns-3 : tie.Need-returns-3
-unfolding lowerOf
+unfolding lowerFound
 returns-3 c =
     let at-if2 = c .before .before in
     let args = at-if2 .before .before .before .before .args in
@@ -31,7 +31,7 @@ returns-3 c =
     )
 
 returns-4 : tie.Need-returns-4
-unfolding lowerOf
+unfolding lowerFound
 returns-4 c =
     let at-if2 = c .before .before in
     let args = at-if2 .before .before .before .before .args in

@@ -7,25 +7,25 @@ use Prim.Native.Nat.{ℕ}
 use lib.Dec.{ltb, eqb}
 use Rattle.ranks.specs.declared.Found.{Found}
 
-abbrev pub none : Found
-none = record { number = 0; place = 0 }
+abbrev pub noneFound : Found
+noneFound = record { number = 0; place = 0 }
 
 -- a fault at a place, where 0 says that there is none
-abbrev pub faultOf : ℕ → ℕ → Found
-faultOf number place = cond (eqb place 0) none (record { number = number; place = place })
+abbrev pub foundAt : ℕ → ℕ → Found
+foundAt number place = cond (eqb place 0) noneFound (record { number = number; place = place })
 
 -- one comes before another
 unfoldable pub precedes : Found → Found → Bool
 precedes b a = ltb (b .number) (a .number) || (eqb (b .number) (a .number) && ltb (b .place) (a .place))
 
 -- of two the one that counts
-unfoldable pub lowerOf : Found → Found → Found
-lowerOf a b = cond (eqb (a .number) 0) b (cond (eqb (b .number) 0) a (cond (precedes b a) b a))
+unfoldable pub lowerFound : Found → Found → Found
+lowerFound a b = cond (eqb (a .number) 0) b (cond (eqb (b .number) 0) a (cond (precedes b a) b a))
 
 -- of all
 unfoldable pub lowestOf : List Found → Found
-lowestOf [] = none
-lowestOf (a ∷ s) = lowerOf a (lowestOf s)
+lowestOf [] = noneFound
+lowestOf (a ∷ s) = lowerFound a (lowestOf s)
 
 -- ---- in the paper's words
 pub data Among (f : Found) : List Found → Type 0 where

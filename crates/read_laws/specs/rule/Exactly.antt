@@ -35,22 +35,22 @@ module _ (t : List ℤ) (v : ℕ) (r : Row) (s : List ℕ) where
     logical : (Spaces s → ⊥) → (s ≡ 49 ∷ [] → ⊥) → (s ≡ 48 ∷ [] → ⊥) → Illegal Logical
 
   -- what the bytes say
-  pub data Says : Kind → Field → Type 0 where
+  pub data FieldSays : Kind → Field → Type 0 where
     -- "All value places spaces: missing, for every type"; SINGLE: "zero is missing"
-    blank-field : {k : Kind} → Spaces s → Says k (holds missing)
-    single-zero : CodeForm s (pos 0) → Says Single (holds missing)
+    blank-field : {k : Kind} → Spaces s → FieldSays k (holds missing)
+    single-zero : CodeForm s (pos 0) → FieldSays Single (holds missing)
     -- "Otherwise a number must lie in the range or on a line"
-    single-number : {z : ℤ} → CodeForm s z → (z ≡ pos 0 → ⊥) → legal t v r z ≡ true → Says Single (holds (number z))
-    quantity-number : {f : Format} {z : ℤ} → QuantityForm f s z → legal t v r z ≡ true → Says (Quantity f) (holds (number z))
+    single-number : {z : ℤ} → CodeForm s z → (z ≡ pos 0 → ⊥) → legal t v r z ≡ true → FieldSays Single (holds (number z))
+    quantity-number : {f : Format} {z : ℤ} → QuantityForm f s z → legal t v r z ≡ true → FieldSays (Quantity f) (holds (number z))
     -- "Both multiple forms read as a set in rising order, repeats dropped"
-    bits-set : {ms : List ℤ} → (Spaces s → ⊥) → BitForm (categories t v r) s ms → Says (Multiple Bits) (holds (members ms))
+    bits-set : {ms : List ℤ} → (Spaces s → ⊥) → BitForm (categories t v r) s ms → FieldSays (Multiple Bits) (holds (members ms))
     spread-set : {n b : ℕ} {ms : List ℤ} → (Spaces s → ⊥) → Entries (legal t v r) (r .width) n s → SpreadSet (r .width) n s ms
-        → Says (Multiple (Fields n b)) (holds (members ms))
+        → FieldSays (Multiple (Fields n b)) (holds (members ms))
     -- "trailing spaces cut; bytes 32 to 255"; "`0` or `1`"
-    character-text : {x : List ℕ} → TextForm s x → AllPlain s → Says Character (holds (text x))
-    logical-true : s ≡ 49 ∷ [] → Says Logical (holds (truth true))
-    logical-false : s ≡ 48 ∷ [] → Says Logical (holds (truth false))
-    no-value : {k : Kind} → Illegal k → Says k illegal
+    character-text : {x : List ℕ} → TextForm s x → AllPlain s → FieldSays Character (holds (text x))
+    logical-true : s ≡ 49 ∷ [] → FieldSays Logical (holds (truth true))
+    logical-false : s ≡ 48 ∷ [] → FieldSays Logical (holds (truth false))
+    no-value : {k : Kind} → Illegal k → FieldSays k illegal
 
   -- what a row of a well-formed table and the bytes at its value places give
   abbrev pub Given : Kind → Type 0

@@ -14,7 +14,7 @@ use Rattle.sound.specs.rule.Sound.{wellFormed}
 use Rattle.sound.specs.rule.Rows.{rowsOf, lengthOf}
 use Rattle.records.specs.rule.First.{rowFault}
 use Rattle.records.specs.rule.Value.{Outcome, nothing, numberIs, setOf, textAt, truthIs, refused, badField}
-use Rattle.read_laws.specs.rule.Exactly.{Says}
+use Rattle.read_laws.specs.rule.Exactly.{FieldSays}
 
 -- ---- the words
 -- the table is well formed and has the row, and the record is long enough
@@ -25,7 +25,7 @@ pub record Readable (t : List ℤ) (i : ℕ) (bytes : List ℕ) : Type 0 where
 
 -- the bytes at the value places of row i say this
 abbrev pub Row-says : List ℤ → ℕ → List ℕ → Field → Type 0
-Row-says t i bytes f = Says t (rowsOf t) (rowAt t i) (pick bytes (placesOf t (rowsOf t) (rowAt t i))) (rowAt t i .kind) f
+Row-says t i bytes f = FieldSays t (rowsOf t) (rowAt t i) (pick bytes (placesOf t (rowsOf t) (rowAt t i))) (rowAt t i .kind) f
 
 -- the outcome, and the list after it: "a set fills the start of a lent list; the rest is kept", and all else keeps it
 pub data ReadOutcome (t : List ℤ) (i : ℕ) (bytes : List ℕ) (list : List ℤ) : List ℤ → Outcome → Type 0 where

@@ -17,8 +17,8 @@ named [] = []
 named (f when q ∷ l) = cond q (f ∷ named l) (named l)
 
 -- f goes first: its number is lower, or equal and its place no later
-unfoldable pub before : Fault → Fault → Bool
-before f g = cond (ltb (f .number) (g .number)) true (cond (eqb (f .number) (g .number)) (leb (f .place) (g .place)) false)
+unfoldable pub goesBefore : Fault → Fault → Bool
+goesBefore f g = cond (ltb (f .number) (g .number)) true (cond (eqb (f .number) (g .number)) (leb (f .place) (g .place)) false)
 
 pub data Finding : Type 0 where
   clean : Finding
@@ -26,7 +26,7 @@ pub data Finding : Type 0 where
 
 unfoldable pub lower : Fault → Finding → Finding
 lower f clean = first f
-lower f (first g) = cond (before f g) (first f) (first g)
+lower f (first g) = cond (goesBefore f g) (first f) (first g)
 
 unfoldable pub least : List Fault → Finding
 least [] = clean

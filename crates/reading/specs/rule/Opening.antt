@@ -5,7 +5,7 @@ use Prim.Native.Nat.{ℕ}
 use lib.Dec.{eqb}
 use lib.ListN.{length}
 use Rattle.scan.specs.rule.Text.{text, placeOf}
-use Rattle.scan.specs.rule.Number.{isSpace, isValue, runOf, bytesOf}
+use Rattle.scan.specs.rule.Number.{isSpace, isValue, runOf, runBytes}
 use Rattle.tokens.specs.rule.Gap.{fault}
 use Rattle.statements.specs.rule.Words.{SSS, VERSION, ONE-ONE}
 use Rattle.reading.specs.rule.Result.{Is, Reader, _>>_, due}
@@ -19,14 +19,14 @@ same (x ∷ s) [] = false
 same (x ∷ s) (y ∷ t) = eqb x y && same s t
 
 module _ (d : List ℕ) where
-  abbrev pub spaces : Reader Unit
-  spaces n = Is tt (placeOf (text d (runOf isSpace n (text d n))))
+  abbrev pub spacesSkipped : Reader Unit
+  spacesSkipped n = Is tt (placeOf (text d (runOf isSpace n (text d n))))
 
   -- "a version is the longest run of digits, points, `+` and `-`; none is 2"
   unfoldable pub version : Reader Unit
   version n =
-      let s = bytesOf isValue (text d n) in
+      let s = runBytes isValue (text d n) in
       cond (eqb (length s) 0) (due n) (judged (fault 4 n when not (same s ONE-ONE) ∷ []) tt (runOf isValue n (text d n)))
 
   unfoldable pub opening : Reader Unit
-  opening = here d SSS >> spaces >> here d VERSION >> spaces >> version
+  opening = here d SSS >> spacesSkipped >> here d VERSION >> spacesSkipped >> version

@@ -9,7 +9,7 @@ use lib.ListN.{length}
 use Rattle.scan.specs.rule.Loop.{Next, Again, Done}
 use Rattle.tokens.specs.rule.Gap.{fault}
 use Rattle.statements.specs.rule.Words.{NOTE, POSITION, TO, OF, SIZE}
-use Rattle.survey.specs.rule.Survey.{Figure, Text, Spread}
+use Rattle.survey.specs.rule.Survey.{Figure, KeptText, Spread}
 use Rattle.reading.specs.rule.Result.{Reader, _>>_, give, repeat, _>>=_}
 use Rattle.reading.specs.rule.Least.{Charge, _when_, judged}
 use Rattle.reading.specs.rule.Token.{gap, either, here, optional, number, string}
@@ -57,7 +57,7 @@ module _ (d : List ℕ) where
   unfoldable pub statement : List ℕ → Reader Unit
   statement w = notes >> here d w
 
-  unfoldable pub phrase : List ℕ → Reader Text
+  unfoldable pub phrase : List ℕ → Reader KeptText
   phrase w = statement w >> string d
 
   unfoldable pub position : Reader Position

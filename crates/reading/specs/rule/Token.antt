@@ -9,7 +9,7 @@ use lib.ListN.{length}
 use Rattle.ascii.specs.rule.Class.{classOf}
 use Rattle.scan.specs.rule.Text.{stop, sign, text}
 use Rattle.scan.specs.rule.Text as scan
-use Rattle.scan.specs.rule.Number.{isDigit, isValue, runOf, bytesOf, decimalOf}
+use Rattle.scan.specs.rule.Number.{isDigit, isValue, runOf, runBytes, decimalOf}
 use Rattle.scan.specs.rule.Word.{wordAt}
 use Rattle.scan.specs.declared.Word.{Word}
 use Rattle.scan.specs.declared.Word.the-variants as spelled
@@ -20,7 +20,7 @@ use Rattle.marks.specs.rule.Marks.{stringOf}
 use Rattle.tokens.specs.declared.Reading.{Reading}
 use Rattle.tokens.specs.declared.Reading.the-variants.{At, Refused}
 use Rattle.tokens.specs.rule.Gap.{fault, gapAt}
-use Rattle.survey.specs.rule.Survey.{Figure, Amount, Text}
+use Rattle.survey.specs.rule.Survey.{Figure, Amount, KeptText}
 use Rattle.reading.specs.rule.Result.{Result, Is, Not, Reader, _>>=_, _>>_, give, due}
 
 -- ---- "a value is the longest run of digits, points, `+` and `-`": of its bytes, a minus or none, digits, a point or none, digits
@@ -28,9 +28,9 @@ unfoldable pub leading : List ℕ → List ℕ
 leading [] = []
 leading (b ∷ s) = cond (isDigit b) (b ∷ leading s) []
 
-unfoldable pub behind : List ℕ → List ℕ
-behind [] = []
-behind (b ∷ s) = cond (isDigit b) (behind s) (b ∷ s)
+unfoldable pub afterPoint : List ℕ → List ℕ
+afterPoint [] = []
+afterPoint (b ∷ s) = cond (isDigit b) (afterPoint s) (b ∷ s)
 
 unfoldable pub begins : ℕ → List ℕ → Bool
 begins c [] = false
@@ -41,10 +41,10 @@ without c [] = []
 without c (b ∷ s) = cond (eqb b c) s (b ∷ s)
 
 -- from its place to its end the bytes s; it is formed if nothing else stands there, and one digit at least
-unfoldable pub amountOf : ℕ → ℕ → List ℕ → Amount
-amountOf place end s =
+unfoldable pub amountRead : ℕ → ℕ → List ℕ → Amount
+amountRead place end s =
     let unsigned = without 45 s in
-    let fraction = behind unsigned in
+    let fraction = afterPoint unsigned in
     let decimals = leading (without 46 fraction) in
     record {
       place = place;
@@ -54,17 +54,17 @@ amountOf place end s =
       point = begins 46 fraction;
       decimals = length decimals;
       size = decimalOf 0 (leading unsigned ++ decimals);
-      formed = eqb (length (behind (without 46 fraction))) 0 && ltb 0 (length (leading unsigned ++ decimals));
+      formed = eqb (length (afterPoint (without 46 fraction))) 0 && ltb 0 (length (leading unsigned ++ decimals));
     }
 
 -- ---- "a text's place is the byte just after its opening quote; its length reaches to just before its closing quote"
 -- a string that opened at p: 3 at its quote where it does not close, at its brace where a form is bad
-abbrev pub closed : ℕ → Skip → Result Text
+abbrev pub closed : ℕ → Skip → Result KeptText
 closed p (Past n) = Is (record { place = p + 1; length = n - (p + 1) - 1 }) n
 closed p Unclosed = Not (fault 3 p)
 closed p (Bad q) = Not (fault 3 q)
 
-unfoldable pub quoted : scan.Text → Result Text
+unfoldable pub quoted : scan.Text → Result KeptText
 quoted (stop p) = due p
 quoted (sign p b t) = let k = stringOf Plain t in cond (eqb b 34) (closed p k) (due p)
 
@@ -105,7 +105,7 @@ module _ (d : List ℕ) where
   -- "any other number the longest run of digits; none is 2"
   unfoldable pub figure : Reader Figure
   figure n =
-      let s = bytesOf isDigit (text d n) in
+      let s = runBytes isDigit (text d n) in
       let end = runOf isDigit n (text d n) in
       cond (eqb (length s) 0) (due n) (Is (record { place = n; end = end; digits = length s; value = decimalOf 0 s }) end)
 
@@ -115,14 +115,14 @@ module _ (d : List ℕ) where
   -- a value, right here; none is 2
   unfoldable pub amount : Reader Amount
   amount n =
-      let s = bytesOf isValue (text d n) in
+      let s = runBytes isValue (text d n) in
       let end = runOf isValue n (text d n) in
-      cond (eqb (length s) 0) (due n) (Is (amountOf n end s) end)
+      cond (eqb (length s) 0) (due n) (Is (amountRead n end s) end)
 
   abbrev pub value : Reader Amount
   value = gap >> amount
 
-  abbrev pub string : Reader Text
+  abbrev pub string : Reader KeptText
   string = gap >> λ n. quoted (text d n)
 
   abbrev pub letter : Reader ℕ

@@ -27,15 +27,15 @@ formIs quantity a = cond quantity (a .formed) (a .formed && (not (a .minus) && (
 unfoldable pub large : Bool → Amount → Bool
 large quantity a = cond quantity (ltb 999999999999999 (a .size) || ltb 9 (a .decimals)) (ltb 9999 (a .size))
 
-abbrev pub unlike : Amount → Amount → Bool
-unlike a b = not (eqb (a .decimals) (b .decimals))
+abbrev pub unlikeAmounts : Amount → Amount → Bool
+unlikeAmounts a b = not (eqb (a .decimals) (b .decimals))
 
 -- "6 value form wrong for its type, range reversed, decimals differ"; then 8
 unfoldable pub rangeCharges : Bool → Amount → Amount → List Charge
 rangeCharges quantity a b =
     fault 6 (a .place) when not (formIs quantity a)
     ∷ fault 6 (b .place) when not (formIs quantity b)
-    ∷ fault 6 (b .place) when unlike a b
+    ∷ fault 6 (b .place) when unlikeAmounts a b
     ∷ fault 6 (b .place) when ltZ (scaled b) (scaled a)
     ∷ fault 8 (a .place) when large quantity a
     ∷ fault 8 (b .place) when large quantity b
@@ -45,7 +45,7 @@ rangeCharges quantity a b =
 unfoldable pub lineCharges : Bool → ℕ → Block → Amount → List Charge
 lineCharges quantity before b a =
     fault 6 (a .place) when not (formIs quantity a)
-    ∷ fault 6 (a .place) when someOf (unlike a) (amounts b)
+    ∷ fault 6 (a .place) when someOf (unlikeAmounts a) (amounts b)
     ∷ fault 6 (a .place) when someOf (λ l. eqZ (scaled (l .value)) (scaled a)) (b .lines)
     ∷ fault 8 (a .place) when large quantity a
     ∷ fault 8 (a .place) when leb mostLines (before + length (b .lines))

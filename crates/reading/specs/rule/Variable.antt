@@ -9,7 +9,7 @@ use lib.ListN.{length}
 use Rattle.layout.specs.rule.Layout.{mostRows}
 use Rattle.tokens.specs.rule.Gap.{fault}
 use Rattle.statements.specs.rule.Words.{VARIABLE, NAME, LABEL, TYPE, SINGLE, MULTIPLE, QUANTITY, CHARACTER, LOGICAL, SPREAD, END}
-use Rattle.survey.specs.rule.Survey.{Figure, Text, Content, single, multiple, quantity, character, logical, Variable}
+use Rattle.survey.specs.rule.Survey.{Figure, KeptText, Content, single, multiple, quantity, character, logical, Variable}
 use Rattle.survey.specs.rule.Width.{someOf}
 use Rattle.survey.specs.rule.Table.{holds, linesAll}
 use Rattle.reading.specs.rule.Result.{Reader, _>>=_, give, due, _>>_}
@@ -38,7 +38,7 @@ pub data Sort : Type 0 where
 abbrev pub room : Position → ℕ
 room p = Option·getD (p .finish) (p .start) .value + 1 - p .start .value
 
-abbrev pub variableOf : Figure → Text → Text → Position → Content → Variable
+abbrev pub variableOf : Figure → KeptText → KeptText → Position → Content → Variable
 variableOf n name label p c = record { ident = n; name = name; label = label; start = p .start; finish = p .finish; content = c }
 
 -- "7 .. or position too narrow .. the first POSITION number when too narrow"

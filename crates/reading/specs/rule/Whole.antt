@@ -10,7 +10,7 @@ use Rattle.layout.specs.rule.Layout.{mostRows}
 use Rattle.scan.specs.rule.Text.{text, placeOf}
 use Rattle.scan.specs.rule.Loop.{Next, Again, Done}
 use Rattle.statements.specs.rule.Words.{DATE, TIME, ORIGIN, USER, STANDARD, NAMES, SURVEY, TITLE, RECORD, SSS, END}
-use Rattle.survey.specs.rule.Survey.{Text, Variable, Heading, Survey}
+use Rattle.survey.specs.rule.Survey.{KeptText, Variable, Heading, Survey}
 use Rattle.survey.specs.rule.Width.{someOf}
 use Rattle.reading.specs.rule.Result.{Result, Reader, _>>=_, _>>_, give, due, repeat}
 use Rattle.reading.specs.rule.Token.{either, here, word, string, letter}
@@ -19,47 +19,47 @@ use Rattle.reading.specs.rule.Statement.{notes, statement}
 use Rattle.reading.specs.rule.Variable.{variable}
 
 -- ---- the heading: statements by their words, 0 DATE, 1 TIME, 2 ORIGIN, 3 USER, 4 STANDARD NAMES, each with its text or none
-pub record Entry : Type 0 where
+pub record HeadingEntry : Type 0 where
   pub item : ℕ
-  pub text : Option Text
+  pub text : Option KeptText
 
-abbrev pub entry : ℕ → Option Text → Entry
+abbrev pub entry : ℕ → Option KeptText → HeadingEntry
 entry k t = record { item = k; text = t }
 
 -- statement k is among those given before
-unfoldable pub given : ℕ → List Entry → Bool
+unfoldable pub given : ℕ → List HeadingEntry → Bool
 given k l = someOf (λ e. eqb k (e .item)) l
 
-unfoldable pub textOf : ℕ → List Entry → Option Text
-textOf k [] = none
-textOf k (e ∷ l) = cond (eqb k (e .item)) (e .text) (textOf k l)
+unfoldable pub enteredText : ℕ → List HeadingEntry → Option KeptText
+enteredText k [] = none
+enteredText k (e ∷ l) = cond (eqb k (e .item)) (e .text) (enteredText k l)
 
-abbrev pub heading : List Entry → Option Text → ℕ → Heading
+abbrev pub heading : List HeadingEntry → Option KeptText → ℕ → Heading
 heading l title letter = record {
-  date = textOf 0 l;
-  time = textOf 1 l;
-  origin = textOf 2 l;
-  user = textOf 3 l;
+  date = enteredText 0 l;
+  time = enteredText 1 l;
+  origin = enteredText 2 l;
+  user = enteredText 3 l;
   standard = given 4 l;
   title = title;
   letter = letter;
 }
 
 module _ (d : List ℕ) where
-  abbrev pub texted : Reader (Option Text)
+  abbrev pub texted : Reader (Option KeptText)
   texted = string d >>= λ t. give (some t)
 
-  abbrev pub names : Reader (Option Text)
+  abbrev pub names : Reader (Option KeptText)
   names = word d NAMES >> give none
 
   -- the statement k, by its word w with p behind it, where it was not given before; a second one is 2 at its word. Or else q
-  abbrev pub once : List Entry → ℕ → List ℕ → Reader (Option Text) → Reader (Next (List Entry) (List Entry))
-      → Reader (Next (List Entry) (List Entry))
+  abbrev pub once : List HeadingEntry → ℕ → List ℕ → Reader (Option KeptText) → Reader (Next (List HeadingEntry) (List HeadingEntry))
+      → Reader (Next (List HeadingEntry) (List HeadingEntry))
   once l k w p q n =
       either d w (cond (given k l) (λ m. due n) (p >>= λ t. notes d >> give (Again (entry k t ∷ l)))) q n
 
-  unfoldable pub entered : List Entry → Reader (Next (List Entry) (List Entry))
-  entered l =
+  unfoldable pub headingEntered : List HeadingEntry → Reader (Next (List HeadingEntry) (List HeadingEntry))
+  headingEntered l =
       once l 0 DATE texted
       (once l 1 TIME texted
       (once l 2 ORIGIN texted
@@ -68,8 +68,8 @@ module _ (d : List ℕ) where
       (give (Done l))))))
 
   -- ---- "one or more variables": another one, or END
-  unfoldable pub another : List Variable → Reader (Next (List Variable) (List Variable))
-  another l = do
+  unfoldable pub anotherVariable : List Variable → Reader (Next (List Variable) (List Variable))
+  anotherVariable l = do
     v ← variable d l
     notes d
     either d END (give (Done (l ++ v ∷ []))) (give (Again (l ++ v ∷ [])))
@@ -79,7 +79,7 @@ module _ (d : List ℕ) where
   front = do
     opening d
     notes d
-    l ← repeat (suc (length d)) entered []
+    l ← repeat (suc (length d)) headingEntered []
     here d SURVEY
     notes d
     title ← either d TITLE texted (give none)
@@ -99,7 +99,7 @@ module _ (d : List ℕ) where
   unfoldable pub survey : Reader Survey
   survey = do
     h ← front
-    l ← repeat (suc mostRows) another []
+    l ← repeat (suc mostRows) anotherVariable []
     ends
     give (record { heading = h; variables = l })
 

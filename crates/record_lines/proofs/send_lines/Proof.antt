@@ -6,9 +6,9 @@ use borrow.Author.Needs.{needs}
 use lib.ListN.{length, drop}
 use Rattle.cuts.specs.rule.Records.{recordsFrom}
 use Rattle.cuts.specs.Records.{part, next-ended, next-unended, next-nothing, over-past}
-use Rattle.commas.specs.rule.Csv.{lineBytes, textBytes}
+use Rattle.commas.specs.rule.Csv.{lineBytes, csvBytes}
 use Rattle.sink.specs.Sent.{Owed, all-owed, less-owed, none-owed, sent-as}
-use Rattle.record_lines.specs.rule.Lines.{recordLine, linesOf}
+use Rattle.record_lines.specs.rule.Lines.{recordLine, recordsLines}
 use Rattle.record_lines.specs.Lines.{SoundFirst, sound-next, lines-next, lines-unended, lines-over, lines-none}
 use Rattle.record_lines.proofs.send_lines.Statement.{statement}
 use Rattle.record_lines.proofs.send_lines.Tie as tie
@@ -16,7 +16,7 @@ use Rattle.record_lines.proofs.send_lines.Tie as tie
 abbrev Inv-loop : tie.InvT-loop
 Inv-loop powers t h d w n list₀ bound out₀ at end₀ full from₀ k₀ list out end from k =
     (length list ≡ length list₀) × SoundFirst t k (recordsFrom w (drop from d))
-    × Owed bound out₀ at (textBytes (linesOf t n (recordsFrom w d))) out end (textBytes (linesOf t k (recordsFrom w (drop from d))))
+    × Owed bound out₀ at (csvBytes (recordsLines t n (recordsFrom w d))) out end (csvBytes (recordsLines t k (recordsFrom w (drop from d))))
 
 abbrev μ-loop : tie.MeasureT-loop
 μ-loop powers t h d w n list₀ bound out₀ at end₀ full from₀ k₀ list out end from k = k

@@ -11,18 +11,18 @@ use Rattle.commas.specs.rule.Csv.{each}
 use Rattle.value_fields.specs.rule.Values.{rowField}
 
 -- how many records come before the first fault of a file
-unfoldable pub before : FileVerdict → ℕ
-before (soundWith n) = n
-before badTable = 0
-before (faultIn n v) = n - 1
+unfoldable pub soundBefore : FileVerdict → ℕ
+soundBefore (soundWith n) = n
+soundBefore badTable = 0
+soundBefore (faultIn n v) = n - 1
 
 -- a record's line: a field for each row of the table
 unfoldable pub recordLine : List ℤ → List ℕ → List (List ℕ)
 recordLine t r = each (rowField t r) 0 (rowsOf t)
 
 -- the lines of the first n records that have a terminator
-unfoldable pub linesOf : List ℤ → ℕ → Records → List (List (List ℕ))
-linesOf t zero rs = []
-linesOf t (suc n) over = []
-linesOf t (suc n) (unended r) = []
-linesOf t (suc n) (record-and r rs) = recordLine t r ∷ linesOf t n rs
+unfoldable pub recordsLines : List ℤ → ℕ → Records → List (List (List ℕ))
+recordsLines t zero rs = []
+recordsLines t (suc n) over = []
+recordsLines t (suc n) (unended r) = []
+recordsLines t (suc n) (record-and r rs) = recordLine t r ∷ recordsLines t n rs

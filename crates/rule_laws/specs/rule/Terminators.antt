@@ -4,7 +4,7 @@ use mathlib.Core.Path.{_≡_}
 use mathlib.Core.List.{List, [], _∷_, _++_}
 use Prim.Native.Nat.{ℕ}
 use Rattle.cuts.specs.declared.Terminator.{Terminator}
-use Rattle.cuts.specs.rule.Cut.{single, pair, none}
+use Rattle.cuts.specs.rule.Cut.{oneByte, twoBytes, noEnding}
 
 -- ---- the words
 -- no CR and no LF
@@ -19,8 +19,8 @@ pub data NotNext (b : ℕ) : List ℕ → Type 0 where
 
 -- the first one met: no CR and no LF stands before it
 pub data First (d : List ℕ) : Terminator → Type 0 where
-  cr-lf : (a s : List ℕ) → Plain a → d ≡ a ++ 13 ∷ 10 ∷ s → First d (pair 13 10)
-  lf-cr : (a s : List ℕ) → Plain a → d ≡ a ++ 10 ∷ 13 ∷ s → First d (pair 10 13)
-  cr : (a s : List ℕ) → Plain a → d ≡ a ++ 13 ∷ s → NotNext 10 s → First d (single 13 10)
-  lf : (a s : List ℕ) → Plain a → d ≡ a ++ 10 ∷ s → NotNext 13 s → First d (single 10 13)
-  no-end : Plain d → First d none
+  cr-lf : (a s : List ℕ) → Plain a → d ≡ a ++ 13 ∷ 10 ∷ s → First d (twoBytes 13 10)
+  lf-cr : (a s : List ℕ) → Plain a → d ≡ a ++ 10 ∷ 13 ∷ s → First d (twoBytes 10 13)
+  cr : (a s : List ℕ) → Plain a → d ≡ a ++ 13 ∷ s → NotNext 10 s → First d (oneByte 13 10)
+  lf : (a s : List ℕ) → Plain a → d ≡ a ++ 10 ∷ s → NotNext 13 s → First d (oneByte 10 13)
+  no-end : Plain d → First d noEnding

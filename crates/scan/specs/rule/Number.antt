@@ -22,9 +22,9 @@ runOf f at (stop p) = at
 runOf f at (sign p b t) = cond (f b) (runOf f (p + 1) t) at
 
 -- the bytes of that run
-unfoldable pub bytesOf : (ℕ → Bool) → Text → List ℕ
-bytesOf f (stop p) = []
-bytesOf f (sign p b t) = cond (f b) (b ∷ bytesOf f t) []
+unfoldable pub runBytes : (ℕ → Bool) → Text → List ℕ
+runBytes f (stop p) = []
+runBytes f (sign p b t) = cond (f b) (b ∷ runBytes f t) []
 
 -- the number that digits say, after n
 unfoldable pub decimalOf : ℕ → List ℕ → ℕ

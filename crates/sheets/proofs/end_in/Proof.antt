@@ -2,7 +2,7 @@ use mathlib.Core.Path.{_≡_, ap, _∙_}
 use borrow.Author.Needs.{needs}
 use Rattle.reading.specs.rule.Result.{Result, bind}
 use Rattle.xml_reading.specs.rule.Word.{VARIABLE}
-use Rattle.xml_reading.specs.rule.Open.{Open, within, over}
+use Rattle.xml_reading.specs.rule.Open.{Open, withinElement, over}
 use Rattle.elements.specs.Code.{readOf}
 use Rattle.elements.proofs.Dues.{read-open}
 use Rattle.prefaces.specs.Code.{readingOf}
@@ -17,7 +17,7 @@ close-in-requires c κs = let a = c .before .before .before .args in
 returns : tie.Need-returns
 returns c =
     let a = c .before .before .before .before .args in
-    let x = within (a .bad) (a .d .now) VARIABLE (a .at) in (
+    let x = withinElement (a .bad) (a .d .now) VARIABLE (a .at) in (
       c .close-in .ensures .0
           ∙ ap (λ (r : Result Open). readingOf (bind r (over (a .bad) (a .d .now))))
           (ap readOf (c .before .find-open .ensures .0) ∙ read-open x),

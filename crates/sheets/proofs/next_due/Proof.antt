@@ -2,7 +2,7 @@ use mathlib.Core.Path.{_≡_, ap, _∙_}
 use borrow.Author.Needs.{needs}
 use Rattle.reading.specs.rule.Result.{Result, bind, give}
 use Rattle.xml_reading.specs.rule.Word.{VARIABLE}
-use Rattle.xml_reading.specs.rule.Open.{Open, within, due}
+use Rattle.xml_reading.specs.rule.Open.{Open, withinElement, due}
 use Rattle.elements.specs.Code.{readOf, dueOf}
 use Rattle.elements.proofs.Dues.{read-open}
 use Rattle.sheets.specs.Code.{dueIn, DueEnds}
@@ -17,7 +17,7 @@ tag-due-requires c κs = let a = c .before .before .before .before .args in
 returns : tie.Need-returns
 returns c =
     let a = c .before .before .before .before .before .args in
-    let x = within (a .bad) (a .d .now) VARIABLE (a .at) in
+    let x = withinElement (a .bad) (a .d .now) VARIABLE (a .at) in
     let e : c .tag-due .result ≡ dueOf (dueIn (a .bad) (a .d .now) (a .w .now) (a .at)) =
     c .tag-due .ensures
     ∙ ap (λ (r : Result Open). dueOf (bind r (λ o. due (a .bad) (a .d .now) (a .w .now) o give)))

@@ -2,7 +2,7 @@ use mathlib.Core.Path.{_≡_, sym, ap, _∙_}
 use borrow.Author.Needs.{needs}
 use Rattle.reading.specs.rule.Result.{Result, Is, bind}
 use Rattle.xml_reading.specs.rule.Word.{VARIABLE}
-use Rattle.xml_reading.specs.rule.Open.{Open, within}
+use Rattle.xml_reading.specs.rule.Open.{Open, withinElement}
 use Rattle.xml_reading.specs.rule.Role.{filter}
 use Rattle.xml_reading.specs.rule.Variable.{Then, with}
 use Rattle.elements.specs.Code.{readOf}
@@ -24,7 +24,7 @@ returns c =
     let f = at-filter .filter .given .0 .0 in
     let n = at-filter .filter .given .0 .1 .0 in
     let o = c .before .find-open .result in
-    let R = ap readOf (c .before .find-open .ensures .0) ∙ read-open (within (a .bad) (a .d .now) VARIABLE n) in
+    let R = ap readOf (c .before .find-open .ensures .0) ∙ read-open (withinElement (a .bad) (a .d .now) VARIABLE n) in
     record {
       is = λ l h. c .sift-by .ensures ∙ ap (λ (x : Result Open). siftedOf (bind x λ y k. Is (with f y) k)) R
           ∙ rw (filter-is (filter (a .bad) (a .d .now) (a .m .latin) (a .m .standard) l

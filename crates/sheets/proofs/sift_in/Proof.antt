@@ -2,10 +2,10 @@ use mathlib.Core.Path.{_≡_, sym, ap, _∙_}
 use mathlib.Core.Bool.{true, false}
 use borrow.Author.Needs.{needs}
 use borrow.Author.Tests.{not-true, not-false}
-use Rattle.survey.specs.rule.Survey.{Text}
+use Rattle.survey.specs.rule.Survey.{KeptText}
 use Rattle.reading.specs.rule.Result.{Result, Is, bind}
 use Rattle.xml_reading.specs.rule.Word.{VARIABLE, FILTER}
-use Rattle.xml_reading.specs.rule.Open.{Open, within}
+use Rattle.xml_reading.specs.rule.Open.{Open, withinElement}
 use Rattle.xml_reading.specs.rule.Variable.{filtered}
 use Rattle.elements.specs.Code.{readOf, startsOf, Within}
 use Rattle.elements.proofs.Dues.{read-open}
@@ -44,8 +44,8 @@ returns : tie.Need-returns
 returns c =
     let a = c .before .before .before .before .before .before .args in
     let o = c .before .before .find-open .result in
-    let t : Text = record { place = a .name .place; length = a .name .length } in
-    let R = ap readOf (c .before .before .find-open .ensures .0) ∙ read-open (within (a .bad) (a .d .now) VARIABLE (a .at)) in
+    let t : KeptText = record { place = a .name .place; length = a .name .length } in
+    let R = ap readOf (c .before .before .find-open .ensures .0) ∙ read-open (withinElement (a .bad) (a .d .now) VARIABLE (a .at)) in
     record {
       is = λ l h. c .sift-by .ensures ∙ ap siftedOf
           (sym (sift-old (a .bad) (a .d .now) (ruleOf (a .m)) l t (a .usage) o (c .before .if1 .taken)))
@@ -58,9 +58,9 @@ returns-2 : tie.Need-returns-2
 returns-2 c =
     let a = c .before .before .before .before .before .before .before .before .before .args in
     let o = c .before .before .before .before .before .find-open .result in
-    let t : Text = record { place = a .name .place; length = a .name .length } in
+    let t : KeptText = record { place = a .name .place; length = a .name .length } in
     let R = ap readOf (c .before .before .before .before .before .find-open .ensures .0)
-    ∙ read-open (within (a .bad) (a .d .now) VARIABLE (a .at)) in
+    ∙ read-open (withinElement (a .bad) (a .d .now) VARIABLE (a .at)) in
     let s : startsOf (a .d .now) o FILTER ≡ false = sym (c .before .before .is-start .ensures) ∙ not-true _ (c .before .if2 .taken) in
     record {
       is = λ l h. c .sift-by2 .ensures ∙ ap siftedOf
@@ -77,8 +77,8 @@ returns-3 c =
     let at-find-open = at-if2 .before .before .before .before in
     let a = at-find-open .before .before .before .before .args in
     let o = at-find-open .find-open .result in
-    let t : Text = record { place = a .name .place; length = a .name .length } in
-    let R = ap readOf (at-find-open .find-open .ensures .0) ∙ read-open (within (a .bad) (a .d .now) VARIABLE (a .at)) in
+    let t : KeptText = record { place = a .name .place; length = a .name .length } in
+    let R = ap readOf (at-find-open .find-open .ensures .0) ∙ read-open (withinElement (a .bad) (a .d .now) VARIABLE (a .at)) in
     let s : startsOf (a .d .now) o FILTER ≡ true = sym (at-if2 .before .is-start .ensures) ∙ not-false _ (at-if2 .if2 .left) in
     record {
       is = λ l h. c .read-filter .ensures .is l h ∙ ap siftedOf (sym (sift-one (a .bad) (a .d .now) (ruleOf (a .m)) l t (a .usage) o

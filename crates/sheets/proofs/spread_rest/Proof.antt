@@ -7,7 +7,7 @@ use borrow.Author.Tests.{not-true, not-false}
 use Rattle.survey.specs.rule.Survey.{multiple}
 use Rattle.reading.specs.rule.Result.{Result, Is, bind}
 use Rattle.xml_reading.specs.rule.Word.{VARIABLE, SPREAD}
-use Rattle.xml_reading.specs.rule.Open.{Open, within}
+use Rattle.xml_reading.specs.rule.Open.{Open, withinElement}
 use Rattle.xml_reading.specs.rule.Element.{spread}
 use Rattle.elements.specs.Code.{readOf}
 use Rattle.elements.proofs.Dues.{read-open}
@@ -76,8 +76,8 @@ returns-2 c =
     let e = content-spread (a .bad) (a .d .now) (ruleOf (a .m)) (a .before) (a .room) (a .o)
     (sym (at-if1 .before .is-start .ensures) ∙ not-false _ (at-if1 .if1 .left)) (sym (at-place .before .before .tag-due
     .ensures) ∙ at-place .place .given .1) (y .spread) n (y .is) in
-    let o : readOf (at-find-open .find-open .result) ≡ within (a .bad) (a .d .now) VARIABLE n =
-    ap readOf (at-find-open .find-open .ensures .0) ∙ read-open (within (a .bad) (a .d .now) VARIABLE n) in
+    let o : readOf (at-find-open .find-open .result) ≡ withinElement (a .bad) (a .d .now) VARIABLE n =
+    ap readOf (at-find-open .find-open .ensures .0) ∙ read-open (withinElement (a .bad) (a .d .now) VARIABLE n) in
     rests-spread (y .spread) (y .count-is) (y .width-is)
     (e ∙ ap (λ (r : Result Open). bind (bind r (valuesEnded (a .bad) (a .d .now) (a .m .languages) false (a .before)))
     (λ b n. Is (multiple (some (y .spread)) b) n)) (sym o)) (at-values-rest2 .values-rest2 .ensures)

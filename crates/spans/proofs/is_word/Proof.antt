@@ -5,14 +5,14 @@ use borrow.Author.Needs.{needs}
 use borrow.Author.Tests.{not-true, not-false}
 use native.Mathlib.Omega.{arith}
 use Rattle.spans.specs.rule.Heard.{heard}
-use Rattle.spans.specs.rule.Says.{wordOf}
+use Rattle.spans.specs.rule.Says.{heardWord}
 use Rattle.spans.proofs.Hearing.{first-on}
 use Rattle.spans.proofs.Words.{word-on, word-off, word-past, word-over, word-bad}
 use Rattle.spans.proofs.is_word.Statement.{statement}
 use Rattle.spans.proofs.is_word.Tie as tie
 
 abbrev Inv-loop : tie.InvT-loop
-Inv-loop s w n₀ i₀ n i = (wordOf w (heard s 0) ≡ wordOf (drop i w) (heard s n)) × (n ≤ length s) × (i ≤ length w)
+Inv-loop s w n₀ i₀ n i = (heardWord w (heard s 0) ≡ heardWord (drop i w) (heard s n)) × (n ≤ length s) × (i ≤ length w)
 
 abbrev μ-loop : tie.MeasureT-loop
 μ-loop s w n₀ i₀ n i = length s - n

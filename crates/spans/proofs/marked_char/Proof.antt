@@ -3,13 +3,13 @@ use Prim.Native.Nat.{ℕ, _+_, _-_, _≤_, _<_}
 use lib.ListN.{length, drop, getD, length-drop}
 use borrow.Author.Needs.{needs}
 use native.Mathlib.Omega.{arith}
-use Rattle.spans.specs.rule.Heard.{firstOf}
+use Rattle.spans.specs.rule.Heard.{firstHeard}
 use Rattle.spans.proofs.Hearing.{part-passed, first-next, first-stop}
 use Rattle.spans.proofs.marked_char.Statement.{statement}
 use Rattle.spans.proofs.marked_char.Tie as tie
 
 abbrev Inv-loop : tie.InvT-loop
-Inv-loop s at n₀ n = (firstOf s at ≡ firstOf s n) × (n ≤ length s)
+Inv-loop s at n₀ n = (firstHeard s at ≡ firstHeard s n) × (n ≤ length s)
 
 abbrev μ-loop : tie.MeasureT-loop
 μ-loop s at n₀ n = length s - n

@@ -10,7 +10,7 @@ use lib.ListN.{length, drop, getD}
 use Rattle.scan.specs.rule.Loop.{Next, Again, Done, loopOf}
 use Rattle.markup.specs.rule.Bytes.{stands}
 use Rattle.markup.specs.rule.Reference.{referenceOf}
-use Rattle.markup.specs.rule.Gap.{commentOf}
+use Rattle.markup.specs.rule.Gap.{xmlComment}
 use Rattle.markup.specs.rule.Grammar.{Ref, Note}
 use Rattle.markup.specs.declared.Char.{Char}
 use Rattle.markup.specs.declared.Char.the-variants.{Is, Bad}
@@ -39,7 +39,7 @@ ofNote (Broken p) = Stop Not
 
 -- at p a < stands: a comment, or nothing that a stretch may hold
 unfoldable pub notedOf : List ℕ → ℕ → Part
-notedOf s p = cond (stands (60 ∷ 33 ∷ 45 ∷ 45 ∷ []) (drop p s)) (ofNote (commentOf false p (p + 4) (drop (p + 4) s))) (Stop Not)
+notedOf s p = cond (stands (60 ∷ 33 ∷ 45 ∷ 45 ∷ []) (drop p s)) (ofNote (xmlComment false p (p + 4) (drop (p + 4) s))) (Stop Not)
 
 unfoldable pub partOf : List ℕ → ℕ → Part
 partOf s p =
@@ -52,8 +52,8 @@ ofPart (Passed n) = Again n
 ofPart (Stop r) = Done r
 
 -- the first character from p on, behind comments
-unfoldable pub firstOf : List ℕ → ℕ → First
-firstOf s p = loopOf (λ p. ofPart (partOf s p)) Not (suc (length s - p)) p
+unfoldable pub firstHeard : List ℕ → ℕ → First
+firstHeard s p = loopOf (λ p. ofPart (partOf s p)) Not (suc (length s - p)) p
 
 -- all characters; or that something else stands among them
 pub data Heard : Type 0 where
@@ -72,7 +72,7 @@ onFirst Not k = Ill
 -- in at most so many steps
 unfoldable pub heardBy : ℕ → List ℕ → ℕ → Heard
 heardBy zero s p = Ill
-heardBy (suc f) s p = onFirst (firstOf s p) (heardBy f s)
+heardBy (suc f) s p = onFirst (firstHeard s p) (heardBy f s)
 
 unfoldable pub heard : List ℕ → ℕ → Heard
 heard s p = heardBy (suc (length s - p)) s p

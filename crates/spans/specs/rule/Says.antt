@@ -10,9 +10,9 @@ use Rattle.markup.specs.rule.Bytes.{isDigit}
 use Rattle.spans.specs.rule.Heard.{Heard, All, Ill}
 
 -- every one passes
-unfoldable pub eachOf : (ℕ → Bool) → List ℕ → Bool
-eachOf f [] = true
-eachOf f (c ∷ cs) = f c && eachOf f cs
+unfoldable pub eachChar : (ℕ → Bool) → List ℕ → Bool
+eachChar f [] = true
+eachChar f (c ∷ cs) = f c && eachChar f cs
 
 -- ---- characters of a class: 1 digits, 2 those that values are written with, 3 letters
 unfoldable pub isLetter : ℕ → Bool
@@ -26,11 +26,11 @@ ofClass class c = cond (eqb class 1) (isDigit c) (cond (eqb class 2) (isValue c)
 
 -- how many they are, where all are of the class, after k; 0 where one is not
 unfoldable pub countAfter : ℕ → ℕ → Heard → ℕ
-countAfter class k (All cs) = cond (eachOf (ofClass class) cs) (k + length cs) 0
+countAfter class k (All cs) = cond (eachChar (ofClass class) cs) (k + length cs) 0
 countAfter class k Ill = 0
 
-abbrev pub countOf : ℕ → Heard → ℕ
-countOf class h = countAfter class 0 h
+abbrev pub heardCount : ℕ → Heard → ℕ
+heardCount class h = countAfter class 0 h
 
 -- ---- a word: just these characters
 unfoldable pub sameOf : List ℕ → List ℕ → Bool
@@ -39,6 +39,6 @@ sameOf [] (c ∷ cs) = false
 sameOf (x ∷ w) [] = false
 sameOf (x ∷ w) (c ∷ cs) = eqb x c && sameOf w cs
 
-unfoldable pub wordOf : List ℕ → Heard → Bool
-wordOf w (All cs) = sameOf w cs
-wordOf w Ill = false
+unfoldable pub heardWord : List ℕ → Heard → Bool
+heardWord w (All cs) = sameOf w cs
+heardWord w Ill = false

@@ -3,17 +3,17 @@ use Prim.Native.Nat.{ℕ, _+_, _-_, _≤_, _<_}
 use native.Mathlib.Omega.{arith}
 use lib.ListN.{length}
 use borrow.Author.Needs.{needs}
-use Rattle.contents.specs.rule.Content.{begun, signsFrom, signsAt}
+use Rattle.contents.specs.rule.Content.{begun, signsFrom, contentSigns}
 use Rattle.stretches.proofs.Outcomes.{begins, told-one, told-over, room-short, room-fits}
 use Rattle.stretches.proofs.count_signs.Statement.{statement}
 use Rattle.stretches.proofs.count_signs.Tie as tie
 
 abbrev Inv-loop : tie.InvT-loop
 Inv-loop latin d at room c₀ n₀ c n =
-    (n + length (signsAt latin d c) ≡ length (signsFrom latin d (begun at))) × (n ≤ room) × (c .next ≤ length d) × (c .code < 2097152)
+    (n + length (contentSigns latin d c) ≡ length (signsFrom latin d (begun at))) × (n ≤ room) × (c .next ≤ length d) × (c .code < 2097152)
 
 abbrev μ-loop : tie.MeasureT-loop
-μ-loop latin d at room c₀ n₀ c n = length (signsAt latin d c)
+μ-loop latin d at room c₀ n₀ c n = length (contentSigns latin d c)
 
 loop-holds : tie.Need-loop-holds Inv-loop μ-loop
 loop-holds c =

@@ -10,15 +10,15 @@ use mir.Facts.{toZ-ofZ}
 use borrow.Author.Needs.{sfits-of}
 use Rattle.texts.specs.rule.Decode.{numbersOf}
 use Rattle.texts.proofs.Measures.{next-stored, all-written}
-use Rattle.contents.specs.rule.Content.{begun, signsFrom, signsAt}
+use Rattle.contents.specs.rule.Content.{begun, signsFrom, contentSigns}
 use Rattle.stretches.proofs.Outcomes.{begins, told-one, told-over}
 use Rattle.stretches.proofs.write_signs.Statement.{statement}
 use Rattle.stretches.proofs.write_signs.Tie as tie
 
 abbrev Inv-loop : tie.InvT-loop
 Inv-loop latin d at count list₀ c₀ k₀ list c k =
-    (sets list₀ 0 (numbersOf (signsFrom latin d (begun at))) ≡ sets list k (numbersOf (signsAt latin d c)))
-    × (k + length (signsAt latin d c) ≡ count)
+    (sets list₀ 0 (numbersOf (signsFrom latin d (begun at))) ≡ sets list k (numbersOf (contentSigns latin d c)))
+    × (k + length (contentSigns latin d c) ≡ count)
     × (length list ≡ length list₀)
     × (c .next ≤ length d)
     × (c .code < 2097152)

@@ -9,23 +9,23 @@ use lib.Dec.{leb}
 use lib.IntN.{ℤ}
 use lib.ListN.{length}
 use Rattle.signs.specs.declared.Sign.{Sign}
-use Rattle.texts.specs.rule.Decode.{cutOff, Outcome, refused, said, fitting, listAfter}
+use Rattle.texts.specs.rule.Decode.{cutOff, DecodeOutcome, refused, decodeSaid, decodeFitting, signsAfter}
 use Rattle.texts.specs.declared.Decoded.{Decoded}
-use Rattle.contents.specs.rule.Content.{begun, signsFrom, textOf}
+use Rattle.contents.specs.rule.Content.{begun, signsFrom, isText}
 
 -- a stretch lies in the definition, and is a text
 unfoldable pub stretchText : Bool → List ℕ → ℕ → ℕ → Bool
-stretchText latin d place long = leb (place + long) (length d) && textOf latin (cutOff d place long) place
+stretchText latin d place long = leb (place + long) (length d) && isText latin (cutOff d place long) place
 
 -- the signs that it says
 unfoldable pub stretchSigns : Bool → List ℕ → ℕ → ℕ → List Sign
 stretchSigns latin d place long = signsFrom latin (cutOff d place long) (begun place)
 
 -- the outcome for a list with room for n: 3 before 25
-unfoldable pub stretchAs : Bool → List ℕ → ℕ → ℕ → ℕ → Outcome
-stretchAs latin d place long n = cond (stretchText latin d place long) (fitting n (stretchSigns latin d place long)) (refused 3)
+unfoldable pub stretchAs : Bool → List ℕ → ℕ → ℕ → ℕ → DecodeOutcome
+stretchAs latin d place long n = cond (stretchText latin d place long) (decodeFitting n (stretchSigns latin d place long)) (refused 3)
 
 -- THE PROMISE of the call
 pub record StretchDecoded (latin : Bool) (d : List ℕ) (place long : ℕ) (list list′ : List ℤ) (r : Decoded) : Type 0 where
-  pub says : said r ≡ stretchAs latin d place long (length list)
-  pub leaves : list′ ≡ listAfter (stretchAs latin d place long (length list)) (stretchSigns latin d place long) list
+  pub says : decodeSaid r ≡ stretchAs latin d place long (length list)
+  pub leaves : list′ ≡ signsAfter (stretchAs latin d place long (length list)) (stretchSigns latin d place long) list

@@ -2,12 +2,12 @@
 -- Assumes nothing.
 use mathlib.Core.Path.{refl}
 use lib.Ieee.{ofBits}
-use Rattle.summary.specs.rule.Summary.{none}
+use Rattle.summary.specs.rule.Summary.{noneSummed}
 use Rattle.summary.proofs.empty.Statement.{statement}
 use Rattle.summary.proofs.empty.Tie as tie
 
 returns : tie.Need-returns
-unfolding none ofBits
+unfolding noneSummed ofBits
 returns c = refl
 
 pub empty-spec : {M : Type 1} → statement M

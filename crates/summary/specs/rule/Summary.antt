@@ -11,8 +11,8 @@ use Rattle.summary.specs.declared.Summary.{Summary}
 abbrev pub nought : Float
 nought = fin false 0 (pos 0)
 
-unfoldable pub none : Summary
-none = record { count = 0; least = nought; most = nought }
+unfoldable pub noneSummed : Summary
+noneSummed = record { count = 0; least = nought; most = nought }
 
 unfoldable pub lowerOf : Float → Float → Float
 lowerOf a x = cond (lt x a) x a
@@ -32,4 +32,4 @@ extendedBy s (x ∷ xs) = extendedBy (extendOf s x) xs
 
 -- THE SUMMARY of the values present
 unfoldable pub summaryOf : List Float → Summary
-summaryOf xs = extendedBy none xs
+summaryOf xs = extendedBy noneSummed xs

@@ -27,7 +27,7 @@ pub record Amount : Type 0 where
   pub formed : Bool
 
 -- a text: "places are just after the opening quote; lengths are undecoded bytes"
-pub record Text : Type 0 where
+pub record KeptText : Type 0 where
   pub place : ℕ
   pub length : ℕ
 
@@ -38,7 +38,7 @@ pub record Range : Type 0 where
 
 pub record Line : Type 0 where
   pub value : Amount
-  pub text : Text
+  pub text : KeptText
   pub special : Bool
 
 pub record Block : Type 0 where
@@ -61,20 +61,20 @@ pub data Content : Type 0 where
 -- POSITION start, and TO finish or none
 pub record Variable : Type 0 where
   pub ident : Figure
-  pub name : Text
-  pub label : Text
+  pub name : KeptText
+  pub label : KeptText
   pub start : Figure
   pub finish : Option Figure
   pub content : Content
 
 -- ---- the whole: the texts of the heading, whether STANDARD NAMES was given, the record's letter, and the variables
 pub record Heading : Type 0 where
-  pub date : Option Text
-  pub time : Option Text
-  pub origin : Option Text
-  pub user : Option Text
+  pub date : Option KeptText
+  pub time : Option KeptText
+  pub origin : Option KeptText
+  pub user : Option KeptText
   pub standard : Bool
-  pub title : Option Text
+  pub title : Option KeptText
   pub letter : ℕ
 
 pub record Survey : Type 0 where

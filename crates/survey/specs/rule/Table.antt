@@ -45,8 +45,8 @@ toOf none = pos 0
 toOf (some r) = scaled (r .to)
 
 -- the row of a variable; `before` lines stand before its own
-unfoldable pub columnsOf : ℕ → Variable → Columns
-columnsOf before v =
+unfoldable pub variableColumns : ℕ → Variable → Columns
+variableColumns before v =
     let b = blockIn (v .content) in
     let room = roomIn v in
     record {
@@ -74,7 +74,7 @@ columnsOf before v =
 
 -- "POSITION must hold w (for a spread, n times the declared subfield width, itself at least w)"
 unfoldable pub holds : Variable → Bool
-holds v = roomGood (kindIn (roomIn v) (v .content)) (rowOf (columnsOf 0 v))
+holds v = roomGood (kindIn (roomIn v) (v .content)) (rowOf (variableColumns 0 v))
 
 -- ---- variables one after the other
 abbrev pub linesOf : Variable → List Line
@@ -101,7 +101,7 @@ headerFor l = record {
 
 unfoldable pub rowsFrom : ℕ → List Variable → List ℤ
 rowsFrom before [] = []
-rowsFrom before (v ∷ l) = rowCells (columnsOf before v) ++ rowsFrom (before + length (linesOf v)) l
+rowsFrom before (v ∷ l) = rowCells (variableColumns before v) ++ rowsFrom (before + length (linesOf v)) l
 
 -- "Line, four: value, special 0/1, text place, length"
 unfoldable pub lineCells : Line → List ℤ

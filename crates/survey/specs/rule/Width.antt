@@ -94,13 +94,13 @@ kindIn room (character n) = Character
 kindIn room logical = Logical
 
 -- ---- w
-unfoldable pub widest : Kind → List Amount → ℕ
-widest k [] = 0
-widest k (a ∷ l) = max (need k (scaled a)) (widest k l)
+unfoldable pub widestAmount : Kind → List Amount → ℕ
+widestAmount k [] = 0
+widestAmount k (a ∷ l) = max (need k (scaled a)) (widestAmount k l)
 
 unfoldable pub widthIn : ℕ → Content → ℕ
-widthIn room (single b) = widest (kindIn room (single b)) (amounts b)
-widthIn room (multiple s b) = widest (kindIn room (multiple s b)) (amounts b)
-widthIn room (quantity b) = widest (kindIn room (quantity b)) (amounts b)
+widthIn room (single b) = widestAmount (kindIn room (single b)) (amounts b)
+widthIn room (multiple s b) = widestAmount (kindIn room (multiple s b)) (amounts b)
+widthIn room (quantity b) = widestAmount (kindIn room (quantity b)) (amounts b)
 widthIn room (character n) = n .value
 widthIn room logical = 1

@@ -3,7 +3,7 @@ use borrow.Author.Needs.{needs}
 use native.Mathlib.Omega.{arith}
 use Prim.Native.Nat.{_+_, _≤_}
 use lib.ListN.{length}
-use Rattle.tags.specs.rule.Tag.{nothing}
+use Rattle.tags.specs.rule.Tag.{nothingHeld}
 use Rattle.tags.specs.Usual.{Given, EndAt, holding}
 use Rattle.tags.proofs.Turns.{turns-next, turns-over}
 use Rattle.tags.proofs.Usuals.{turn-first, turn-second, turn-end}
@@ -18,8 +18,8 @@ returns c =
     let a = c .before .before .before .before .before .before .before .before .args in
     let d = a .d .now in
     rw (c .before .hold .ensures) at (c .shut .ensures)
-    ∙ sym (turns-over (a .bad) d (a .opened) (a .x .now) (a .y .now) (a .z .now) (a .f) (a .g) (a .k) (a .required) (nothing (a .at)) _
-    (turn-end (a .bad) d (a .opened) (a .x .now) (a .y .now) (a .z .now) (a .f) (a .g) (a .k) (a .required) (nothing (a .at)) _
+    ∙ sym (turns-over (a .bad) d (a .opened) (a .x .now) (a .y .now) (a .z .now) (a .f) (a .g) (a .k) (a .required) (nothingHeld (a .at)) _
+    (turn-end (a .bad) d (a .opened) (a .x .now) (a .y .now) (a .z .now) (a .f) (a .g) (a .k) (a .required) (nothingHeld (a .at)) _
     (c .before .before .before .end-at .ensures (c .before .before .if1 .taken))))
 
 read-turns-requires : tie.Need-read-turns-requires
@@ -51,7 +51,7 @@ returns-3 c =
     let d = a .d .now in
     let v = (c .before .before .before .before .before .usual-end .ensures (c .before .before .before .before .if2 .left)) in
     rw (c .before .hold3 .ensures) at (c .shut2 .ensures)
-    ∙ sym (turns-next (a .bad) d (a .opened) (a .x .now) (a .y .now) (a .z .now) (a .f) (a .g) (a .k) (a .required) (nothing (a .at)) _
+    ∙ sym (turns-next (a .bad) d (a .opened) (a .x .now) (a .y .now) (a .z .now) (a .f) (a .g) (a .k) (a .required) (nothingHeld (a .at)) _
     (turn-first (a .bad) d (a .opened) (a .x .now) (a .y .now) (a .z .now) (a .f) (a .g) (a .k) (a .required) (a .at) _ v)
     ∙ turns-over (a .bad) d (a .opened) (a .x .now) (a .y .now) (a .z .now) (a .f) (a .g) (a .k) (a .required) _ _
     (turn-end (a .bad) d (a .opened) (a .x .now) (a .y .now) (a .z .now) (a .f) (a .g) (a .k) (a .required) _ _
@@ -73,7 +73,7 @@ returns-4 c =
     let a = c .before .before .before .before .before .before .before .before .before .before .before .before .before .before .args in
     let d = a .d .now in
     rw (c .before .hold4 .ensures) at (c .read-turns2 .ensures)
-    ∙ sym (turns-next (a .bad) d (a .opened) (a .x .now) (a .y .now) (a .z .now) (a .f) (a .g) (a .k) (a .required) (nothing (a .at)) _
+    ∙ sym (turns-next (a .bad) d (a .opened) (a .x .now) (a .y .now) (a .z .now) (a .f) (a .g) (a .k) (a .required) (nothingHeld (a .at)) _
     (turn-first (a .bad) d (a .opened) (a .x .now) (a .y .now) (a .z .now) (a .f) (a .g) (a .k) (a .required) (a .at) _
     (c .before .before .before .before .before .before .before .usual-end .ensures
     (c .before .before .before .before .before .before .if2 .left))))
@@ -107,7 +107,7 @@ returns-5 c =
     let d = a .d .now in
     let y = c .before .before .before .before .before .second-end .ensures (c .before .before .before .before .if4 .left) in
     rw (c .before .hold5 .ensures) at (c .shut3 .ensures)
-    ∙ sym (turns-next (a .bad) d (a .opened) (a .x .now) (a .y .now) (a .z .now) (a .f) (a .g) (a .k) (a .required) (nothing (a .at)) _
+    ∙ sym (turns-next (a .bad) d (a .opened) (a .x .now) (a .y .now) (a .z .now) (a .f) (a .g) (a .k) (a .required) (nothingHeld (a .at)) _
     (turn-first (a .bad) d (a .opened) (a .x .now) (a .y .now) (a .z .now) (a .f) (a .g) (a .k) (a .required) (a .at) _
     (c .before .before .before .before .before .before .before .before .before .usual-end .ensures
     (c .before .before .before .before .before .before .before .before .if2 .left)))
@@ -130,7 +130,7 @@ returns-6 c =
     let d = a .d .now in
     let y = c .before .before .before .before .before .second-end .ensures (c .before .before .before .before .if4 .left) in
     rw (c .before .hold6 .ensures) at (c .read-turns3 .ensures)
-    ∙ sym (turns-next (a .bad) d (a .opened) (a .x .now) (a .y .now) (a .z .now) (a .f) (a .g) (a .k) (a .required) (nothing (a .at)) _
+    ∙ sym (turns-next (a .bad) d (a .opened) (a .x .now) (a .y .now) (a .z .now) (a .f) (a .g) (a .k) (a .required) (nothingHeld (a .at)) _
     (turn-first (a .bad) d (a .opened) (a .x .now) (a .y .now) (a .z .now) (a .f) (a .g) (a .k) (a .required) (a .at) _
     (c .before .before .before .before .before .before .before .before .before .usual-end .ensures
     (c .before .before .before .before .before .before .before .before .if2 .left)))

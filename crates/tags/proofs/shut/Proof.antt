@@ -1,15 +1,15 @@
 use mathlib.Core.Path.{_≡_, refl, sym, ap, _∙_}
 use borrow.Author.Needs.{needs}
-use Rattle.tags.specs.rule.Tag.{shutOf}
+use Rattle.tags.specs.rule.Tag.{shutTag}
 use Rattle.tags.proofs.shut.Statement.{statement}
 use Rattle.tags.proofs.shut.Tie as tie
 
 returns : tie.Need-returns
-unfolding shutOf
+unfolding shutTag
 returns c = rw (sym (c .before .misses .ensures) ∙ c .if1 .taken)
 
 returns-2 : tie.Need-returns-2
-unfolding shutOf
+unfolding shutTag
 returns-2 c = rw (sym (c .before .misses .ensures) ∙ c .if1 .left)
 
 pub shut-spec : {M : Type 1} → statement M

@@ -66,15 +66,15 @@ unfoldable pub missesOf : ℕ → Held → Bool
 missesOf required h =
     (ltb 0 required && eqb (h .a) 0) || ((ltb 1 required && eqb (h .b) 0) || (ltb 2 required && eqb (h .c) 0))
 
-unfoldable pub shutOf : ℕ → Held → Bool → ℕ → ℕ → Tag
-shutOf required h empty place next = cond (missesOf required h) (Fault 2 place) (Read h empty place next)
+unfoldable pub shutTag : ℕ → Held → Bool → ℕ → ℕ → Tag
+shutTag required h empty place next = cond (missesOf required h) (Fault 2 place) (Read h empty place next)
 
 -- one attribute placed, or the tag's end
 abbrev pub turned : List ℕ → List ℕ → List ℕ → List ℕ → ℕ → ℕ → ℕ → ℕ → Held → Attribute → Turn
 turned d x y z f g k required h (One n e v w next) =
     let slot = slotOf d n e x y z in
     putOf h slot n next (stretchFits (formOf slot f g k) d v w) v w
-turned d x y z f g k required h (Shut empty place next) = Over (shutOf required h empty place next)
+turned d x y z f g k required h (Shut empty place next) = Over (shutTag required h empty place next)
 turned d x y z f g k required h (Faulty p) = Over (Fault 50 p)
 
 unfoldable pub turnOf : Bool → List ℕ → ℕ → List ℕ → List ℕ → List ℕ → ℕ → ℕ → ℕ → ℕ → Held → Turn
@@ -84,8 +84,8 @@ abbrev pub onTurn : Turn → Next Held Tag
 onTurn (More h) = Again h
 onTurn (Over t) = Done t
 
-abbrev pub nothing : ℕ → Held
-nothing at = record { a = 0; ae = 0; b = 0; be = 0; c = 0; ce = 0; third = 0; unknown = 0; next = at }
+abbrev pub nothingHeld : ℕ → Held
+nothingHeld at = record { a = 0; ae = 0; b = 0; be = 0; c = 0; ce = 0; third = 0; unknown = 0; next = at }
 
 unfoldable pub turnsOf : Bool → List ℕ → ℕ → List ℕ → List ℕ → List ℕ → ℕ → ℕ → ℕ → ℕ → Held → Tag
 turnsOf bad d opened x y z f g k required h =
@@ -93,4 +93,4 @@ turnsOf bad d opened x y z f g k required h =
 
 -- the tag whose < stands at `opened` and whose attributes begin at `at`
 abbrev pub tagOf : Bool → List ℕ → ℕ → ℕ → List ℕ → List ℕ → List ℕ → ℕ → ℕ → ℕ → ℕ → Tag
-tagOf bad d opened at x y z f g k required = turnsOf bad d opened x y z f g k required (nothing at)
+tagOf bad d opened at x y z f g k required = turnsOf bad d opened x y z f g k required (nothingHeld at)

@@ -13,7 +13,7 @@ use Rattle.scan.specs.rule.Text.{text}
 use Rattle.signs.specs.declared.Sign.the-variants.{Byte}
 use Rattle.signs.specs.rule.Sign.{signNumber}
 use Rattle.marks.specs.declared.Inside.the-variants.{Pair}
-use Rattle.marks.specs.rule.Spelling.{pairOf, decodeOf}
+use Rattle.marks.specs.rule.Spelling.{hexPair, decodeOf}
 use Rattle.texts.specs.rule.Decode.{numbersOf}
 use Rattle.texts.specs.Measured.{Says}
 use Rattle.texts.proofs.Measures.{next-stored}
@@ -35,7 +35,7 @@ abbrev μ-loop : tie.MeasureT-loop
 here : (c : tie.Else3 Inv-loop μ-loop)
     → let args = c .before .before .before .before .before .before .before .before .before .before .args in let d = args .s .now in
     let i = c .before .before .before .before .before .before .before .before .loop .i in
-    Says d (Pair (args .o)) i (Byte (pairOf (getD d i 0) (getD d (i + 1) 0))) (i + 2) (Pair (args .o))
+    Says d (Pair (args .o)) i (Byte (hexPair (getD d i 0) (getD d (i + 1) 0))) (i + 2) (Pair (args .o))
 here c = pair-step _ _ _ (omega arith) (sym (c .before .before .before .is-hex .ensures) ∙ not-false _ (c .before .before .if2 .left))
     (sym (c .before .is-hex2 .ensures) ∙ not-false _ (c .if3 .left))
 

@@ -43,27 +43,27 @@ numbersOf [] = []
 numbersOf (x ∷ s) = pos (signNumber x) ∷ numbersOf s
 
 -- ---- the outcome for a list with room for n: 3 before 25
-pub data Outcome : Type 0 where
-  signs : ℕ → Outcome
-  refused : ℕ → Outcome
+pub data DecodeOutcome : Type 0 where
+  signs : ℕ → DecodeOutcome
+  refused : ℕ → DecodeOutcome
 
-unfoldable pub said : Decoded → Outcome
-said (decoded.Signs n) = signs n
-said decoded.NotText = refused 3
-said decoded.ShortList = refused 25
+unfoldable pub decodeSaid : Decoded → DecodeOutcome
+decodeSaid (decoded.Signs n) = signs n
+decodeSaid decoded.NotText = refused 3
+decodeSaid decoded.ShortList = refused 25
 
-unfoldable pub fitting : ℕ → List Sign → Outcome
-fitting n s = cond (ltb n (length s)) (refused 25) (signs (length s))
+unfoldable pub decodeFitting : ℕ → List Sign → DecodeOutcome
+decodeFitting n s = cond (ltb n (length s)) (refused 25) (signs (length s))
 
-unfoldable pub decodedAs : List ℕ → ℕ → ℕ → ℕ → Outcome
-decodedAs d place long n = cond (insideText d place long) (fitting n (signsAt d place long)) (refused 3)
+unfoldable pub decodedAs : List ℕ → ℕ → ℕ → ℕ → DecodeOutcome
+decodedAs d place long n = cond (insideText d place long) (decodeFitting n (signsAt d place long)) (refused 3)
 
 -- the list after it: the signs' numbers, and behind them what stood there
-unfoldable pub listAfter : Outcome → List Sign → List ℤ → List ℤ
-listAfter (signs n) s list = numbersOf s ++ drop n list
-listAfter (refused k) s list = list
+unfoldable pub signsAfter : DecodeOutcome → List Sign → List ℤ → List ℤ
+signsAfter (signs n) s list = numbersOf s ++ drop n list
+signsAfter (refused k) s list = list
 
 -- THE PROMISE of the call
 pub record TextDecoded (d : List ℕ) (place long : ℕ) (list list′ : List ℤ) (r : Decoded) : Type 0 where
-  pub says : said r ≡ decodedAs d place long (length list)
-  pub leaves : list′ ≡ listAfter (decodedAs d place long (length list)) (signsAt d place long) list
+  pub says : decodeSaid r ≡ decodedAs d place long (length list)
+  pub leaves : list′ ≡ signsAfter (decodedAs d place long (length list)) (signsAt d place long) list

@@ -1,10 +1,10 @@
 use borrow.Author.Needs.{needs}
-use Rattle.utf.specs.rule.Cut.{fourOf}
+use Rattle.utf.specs.rule.Cut.{validFour}
 use Rattle.utf.proofs.four.Statement.{statement}
 use Rattle.utf.proofs.four.Tie as tie
 
 returns : tie.Need-returns
-unfolding fourOf
+unfolding validFour
 returns c =
     let at-does-follow2 = c .before .before in
     rw (

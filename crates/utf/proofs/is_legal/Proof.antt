@@ -1,10 +1,10 @@
 use borrow.Author.Needs.{needs}
-use Rattle.utf.specs.rule.Chars.{legal}
+use Rattle.utf.specs.rule.Chars.{legalCharacter}
 use Rattle.utf.proofs.is_legal.Statement.{statement}
 use Rattle.utf.proofs.is_legal.Tie as tie
 
 returns : tie.Need-returns
-unfolding legal
+unfolding legalCharacter
 returns c = search needs
 
 pub is-legal-spec : {M : Type 1} → statement M

@@ -1,10 +1,10 @@
 use borrow.Author.Needs.{needs}
-use Rattle.utf.specs.rule.Cut.{pairOf}
+use Rattle.utf.specs.rule.Cut.{validPair}
 use Rattle.utf.proofs.pair.Statement.{statement}
 use Rattle.utf.proofs.pair.Tie as tie
 
 returns : tie.Need-returns
-unfolding pairOf
+unfolding validPair
 returns c = rw (
   c .before .does-follow .ensures,
   c .is-legal .ensures,

@@ -1,12 +1,12 @@
 use borrow.Author.Needs.{needs}
 use native.Mathlib.Omega.{arith}
-use Rattle.utf.specs.rule.Cut.{widthOf}
+use Rattle.utf.specs.rule.Cut.{characterWidth}
 use Rattle.utf.proofs.Strides.{drop-1}
 use Rattle.utf.proofs.width.Statement.{statement}
 use Rattle.utf.proofs.width.Tie as tie
 
 returns : tie.Need-returns
-unfolding widthOf
+unfolding characterWidth
 returns c = rw (
   drop-1 (c .before .before .before .before .args .d .now) (c .before .before .before .before .args .at) (omega arith),
   ← (c .before .is-plain .ensures),
@@ -14,7 +14,7 @@ returns c = rw (
 )
 
 returns-2 : tie.Need-returns-2
-unfolding widthOf
+unfolding characterWidth
 returns-2 c = rw (
   drop-1 (c .before .before .before .before .before .args .d .now) (c .before .before .before .before .before .args .at)
       (omega arith),
@@ -24,7 +24,7 @@ returns-2 c = rw (
 )
 
 returns-3 : tie.Need-returns-3
-unfolding widthOf
+unfolding characterWidth
 returns-3 c =
     let at-if1 = c .before .before in
     let args = at-if1 .before .before .before .before .args in

@@ -2,7 +2,7 @@
 use mathlib.Core.Path.{_≡_, refl, sym, ap, _∙_}
 use native.Mathlib.Omega.{arith}
 use borrow.Author.Needs.{needs}
-use Rattle.value_fields.specs.rule.Values.{decimalsOf}
+use Rattle.widths.specs.rule.Width.{decimalsOf}
 use Rattle.value_fields.proofs.decimals.Statement.{statement}
 use Rattle.value_fields.proofs.decimals.Tie as tie
 

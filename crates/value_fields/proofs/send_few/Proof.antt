@@ -19,7 +19,7 @@ use Rattle.readings.proofs.Laws.{as-spread}
 use Rattle.listing.specs.RowLaws.{row-stands, row-ready}
 use Rattle.sink.specs.Sent.{sent-as, then}
 use Rattle.few_codes.specs.Few.{all-zero, spread-entries}
-use Rattle.value_fields.specs.rule.Values.{decimalsOf}
+use Rattle.widths.specs.rule.Width.{decimalsOf}
 use Rattle.value_fields.specs.Legal.{count-code, row-legal, row-text}
 use Rattle.value_fields.specs.Few.{first-next, held-text}
 use Rattle.value_fields.proofs.send_few.Statement.{statement}

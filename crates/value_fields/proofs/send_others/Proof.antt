@@ -6,7 +6,7 @@ use Prim.Native.Nat.{_-_, _≤_}
 use borrow.Author.Needs.{sfits-of}
 use mir.Facts.{toZ-ofZ}
 use lib.ListN.{length, take, drop}
-use Rattle.value_fields.specs.rule.Values.{codesBehind, numberText}
+use Rattle.value_fields.specs.rule.Values.{codesBehind, exportNumber}
 use Rattle.value_fields.specs.Values.{codes-next, codes-over}
 use Rattle.sink.specs.Sent.{Owed, all-owed, less-owed, none-owed, sent-as}
 use Rattle.value_fields.proofs.send_others.Statement.{statement}
@@ -52,7 +52,7 @@ loop-again c =
       less-owed (less-owed (at-loop .loop .inv .2) (codes-next _ _ _ h (at-loop .before .before .pre .1 .0 .many))
           (c .before .before .before .before .before .before .before .send-byte .ensures)) refl
           (sent-as (c .before .before .send-code .ensures)
-          (ap (numberText 0) (toZ-ofZ (sfits-of (at-number .number .ok)) ∙ at-number .number .ensures))),
+          (ap (exportNumber 0) (toZ-ofZ (sfits-of (at-number .number .ok)) ∙ at-number .number .ensures))),
     )
 
 same-length : tie.Need-same-length Inv-loop μ-loop

@@ -4,7 +4,7 @@ use native.Mathlib.Omega.{arith}
 use borrow.Author.Needs.{needs}
 use Rattle.listing.specs.RowLaws.{row-stands, row-ready, row-listable}
 use Rattle.value_fields.specs.Rows.{row-decimals, row-empty, row-field}
-use Rattle.value_fields.specs.rule.Values.{valueText}
+use Rattle.value_fields.specs.rule.Values.{exportValue}
 use Rattle.commas.specs.rule.Csv.{fieldBytes}
 use Rattle.sink.specs.Sent.{sent-as, nothing-sent}
 use Rattle.value_fields.proofs.send_read.Statement.{statement}

@@ -24,7 +24,7 @@ use Rattle.readings.specs.Ready.{single-ready, quantity-ready, bits-ready, text
 use Rattle.readings.proofs.Laws.{as-single, as-bits, as-quantity, as-text, as-truth}
 use Rattle.listing.specs.RowLaws.{row-stands, row-ready}
 use Rattle.sink.specs.Sent.{sent-as}
-use Rattle.value_fields.specs.rule.Values.{decimalsOf}
+use Rattle.widths.specs.rule.Width.{decimalsOf}
 use Rattle.value_fields.specs.Legal.{Told, eachField, told-of, row-fits, row-small, row-legal, row-text}
 use Rattle.value_fields.specs.Bare.{well-of}
 use Rattle.value_fields.proofs.send_row.Statement.{statement}

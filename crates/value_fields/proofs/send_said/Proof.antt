@@ -9,7 +9,7 @@ use Rattle.cells.specs.rule.Cell.{eqZ}
 use Rattle.fields.specs.rule.Number.{says}
 use Rattle.numbers.specs.Numeral.{saidOf}
 use Rattle.sink.specs.Sent.{sent-as, nothing-sent}
-use Rattle.value_fields.specs.rule.Values.{numberText}
+use Rattle.value_fields.specs.rule.Values.{exportNumber}
 use Rattle.value_fields.specs.Legal.{said-blank, said-zero, said-number, said-wrong}
 use Rattle.value_fields.proofs.send_said.Statement.{statement}
 use Rattle.value_fields.proofs.send_said.Tie as tie
@@ -46,7 +46,7 @@ unfolding saidOf
 returns-3 c ok g =
     let at-send-number = c .before .before in
     let e = at-send-number .before .before .before .before .before .said .given .1 in
-    sent-as (at-send-number .send-number .ensures) (ap (numberText _) (back (at-send-number .before .before .before .before))
+    sent-as (at-send-number .send-number .ensures) (ap (exportNumber _) (back (at-send-number .before .before .before .before))
     ∙ rw e (said-number _ ok _ _ (rw (zero-test (at-send-number .before .before .before)) at
     (at-send-number .before .before .if1 .left)) (rw e at g)))
 

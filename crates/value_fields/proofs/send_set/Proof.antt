@@ -5,7 +5,7 @@ use borrow.Author.Needs.{needs}
 use Prim.Native.Nat.{_≤_, _<_}
 use borrow.Author.Needs.{sfits-of}
 use mir.Facts.{toZ-ofZ}
-use Rattle.value_fields.specs.rule.Values.{numberText}
+use Rattle.value_fields.specs.rule.Values.{exportNumber}
 use Rattle.value_fields.specs.Values.{codes-first, codes-none, some-of}
 use Rattle.sink.specs.Sent.{sent-as, then}
 use Rattle.value_fields.proofs.send_set.Statement.{statement}
@@ -41,7 +41,7 @@ returns-2 c =
     let at-send-others = c .before .before in
     let at-number = at-send-others .before .before .before .before .before in
     sent-as (then (sent-as (at-send-others .before .before .before .before .send-code .ensures)
-    (ap (numberText 0) (toZ-ofZ (sfits-of (at-number .number .ok)) ∙ at-number .number .ensures))) (at-send-others .send-others .ensures))
+    (ap (exportNumber 0) (toZ-ofZ (sfits-of (at-number .number .ok)) ∙ at-number .number .ensures))) (at-send-others .send-others .ensures))
     (codes-first _ _ (some-of _ (at-number .before .before .if1 .left)) (at-number .before .before .before .before .pre .1 .many))
 
 pub send-set-spec : {M : Type 1} → statement M

@@ -5,7 +5,7 @@ use borrow.Author.Needs.{needs}
 use mir.Syntax.{w64}
 use mir.Val.{toZ, ofZ}
 use Rattle.lines.specs.Lines.{Listable, number-listed, set-listed, text-listed}
-use Rattle.value_fields.specs.rule.Values.{numberText}
+use Rattle.value_fields.specs.rule.Values.{exportNumber}
 use Rattle.value_fields.specs.Values.{missing-field, number-field, set-field, text-field, truth-field}
 use Rattle.sink.specs.Sent.{sent-as, nothing-sent}
 use Rattle.value_fields.proofs.send_value.Statement.{statement}
@@ -42,7 +42,7 @@ returns c = sent-as (nothing-sent _ _ _) (missing-field _ _ _ _ (c .enum-told .g
 
 returns-2 : tie.Need-returns-2
 returns-2 c = sent-as (c .before .before .send-number .ensures)
-    (ap (numberText _) (back (c .before .before .before .before))
+    (ap (exportNumber _) (back (c .before .before .before .before))
     ∙ number-field _ _ _ _ (c .before .before .before .before .before .a .given .1))
 
 returns-3 : tie.Need-returns-3

@@ -16,44 +16,37 @@ use Rattle.fields.specs.rule.Number.{padded}
 use Rattle.fields.specs.rule.Field.{Value, missing, number, members, text, truth, Field, holds, illegal}
 use Rattle.records.specs.rule.Value.{readingAt}
 use Rattle.lines.specs.rule.Text.{numeral}
+use Rattle.widths.specs.rule.Width.{decimalsOf}
 
 -- a size with k decimals: the digits before the point, as many as there are and at least one; the point and the decimals
 unfoldable pub amountText : ℕ → ℕ → List ℕ
 amountText k n = numeral (n / 10 ^ k) ++ cond (eqb k 0) [] ((46 ∷ []) ++ padded k n)
 
-unfoldable pub numberText : ℕ → ℤ → List ℕ
-numberText k z = cond (signedOf z .minus) ((45 ∷ []) ++ amountText k (signedOf z .size)) (amountText k (signedOf z .size))
+unfoldable pub exportNumber : ℕ → ℤ → List ℕ
+exportNumber k z = cond (signedOf z .minus) ((45 ∷ []) ++ amountText k (signedOf z .size)) (amountText k (signedOf z .size))
 
 -- codes behind a first one
 unfoldable pub codesBehind : List ℤ → List ℕ
 codesBehind [] = []
-codesBehind (m ∷ ms) = (59 ∷ []) ++ (numberText 0 m ++ codesBehind ms)
+codesBehind (m ∷ ms) = (59 ∷ []) ++ (exportNumber 0 m ++ codesBehind ms)
 
 unfoldable pub setText : List ℤ → List ℕ
 setText [] = 110 ∷ 111 ∷ 110 ∷ 101 ∷ []
-setText (m ∷ ms) = numberText 0 m ++ codesBehind ms
+setText (m ∷ ms) = exportNumber 0 m ++ codesBehind ms
 
 -- a value, where the block has k decimals
-unfoldable pub valueText : ℕ → Value → List ℕ
-valueText k missing = []
-valueText k (number z) = numberText k z
-valueText k (members ms) = setText ms
-valueText k (text s) = s
-valueText k (truth b) = cond b 49 48 ∷ []
+unfoldable pub exportValue : ℕ → Value → List ℕ
+exportValue k missing = []
+exportValue k (number z) = exportNumber k z
+exportValue k (members ms) = setText ms
+exportValue k (text s) = s
+exportValue k (truth b) = cond b 49 48 ∷ []
 
 -- what is read; nothing where that is not legal, which no record before the first fault has
-unfoldable pub fieldText : ℕ → Field → List ℕ
-fieldText k (holds v) = valueText k v
-fieldText k illegal = []
-
--- "their decimals": the block's
-unfoldable pub decimalsOf : Kind → ℕ
-decimalsOf Single = 0
-decimalsOf (Multiple s) = 0
-decimalsOf (Quantity f) = f .decimals
-decimalsOf Character = 0
-decimalsOf Logical = 0
+unfoldable pub exportField : ℕ → Field → List ℕ
+exportField k (holds v) = exportValue k v
+exportField k illegal = []
 
 -- THE FIELD of row i for a record
 unfoldable pub rowField : List ℤ → List ℕ → ℕ → List ℕ
-rowField t bytes i = fieldText (decimalsOf (rowAt t i .kind)) (readingAt t i bytes)
+rowField t bytes i = exportField (decimalsOf (rowAt t i .kind)) (readingAt t i bytes)

@@ -1,7 +1,6 @@
 use mir.Facts.{toZ-ofZ}
 use mathlib.Core.Path.{_∙_, sym}
-use Rattle.widths.specs.rule.Width.{need}
-use Rattle.widths.specs.Width.{decimalsOf}
+use Rattle.widths.specs.rule.Width.{need, decimalsOf}
 use borrow.Author.Needs.{needs}
 use Rattle.widths.proofs.needed.Statement.{statement}
 use Rattle.widths.proofs.needed.Tie as tie

@@ -34,6 +34,14 @@ wholeDigits f n = cond (eqb (n / 10 ^ f .decimals) 0) (leastWhole f) (digitsOf (
 unfoldable pub quantityWidth : Format → ℤ → ℕ
 quantityWidth f z = wholeDigits f (sizeOf z) + tailOf f + minusOf z
 
+-- the decimals that a kind's numbers have: a quantity's own
+unfoldable pub decimalsOf : Kind → ℕ
+decimalsOf Single = 0
+decimalsOf (Multiple s) = 0
+decimalsOf (Quantity f) = f .decimals
+decimalsOf Character = 0
+decimalsOf Logical = 0
+
 -- the digits of a category; in a bitstring the category itself; a quantity with its point and minus
 unfoldable pub need : Kind → ℤ → ℕ
 need Single z = digitsOf (sizeOf z)

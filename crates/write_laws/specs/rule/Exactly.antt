@@ -9,7 +9,7 @@ use lib.IntN.{ℤ}
 use lib.ListN.{length, take}
 use Rattle.survey.specs.rule.Survey.{Survey}
 use Rattle.survey.specs.rule.Table.{tableOf}
-use Rattle.definition.specs.rule.Definition.{Refusal, outcomeOf}
+use Rattle.definition.specs.rule.Definition.{Refusal, sssOutcome}
 use Rattle.clean_text.specs.rule.Clean.{cleanOf}
 use Rattle.clean_laws.specs.rule.Reads.{Reads}
 use Rattle.clean.specs.declared.Written.{Written}
@@ -17,7 +17,7 @@ use Rattle.clean.specs.declared.Written.the-variants.{Done, Refused}
 
 -- reading refuses d so, whatever the room of the table lent to it: 1 to 9, since 10 goes by that room
 abbrev pub Unread : List ℕ → ℕ → ℕ → Type 0
-Unread d number place = (n : ℕ) → outcomeOf d n ≡ Refusal number place
+Unread d number place = (n : ℕ) → sssOutcome d n ≡ Refusal number place
 
 -- the numbers t begin with the table of the survey s
 abbrev pub Begins : Survey → List ℤ → Type 0

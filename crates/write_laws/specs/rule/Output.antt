@@ -11,7 +11,7 @@ use Rattle.cells.specs.rule.Cell.{cell}
 use Rattle.survey.specs.rule.Survey.{Survey}
 use Rattle.survey.specs.rule.Table.{tableOf}
 use Rattle.definition.specs.declared.Answer.{Answer}
-use Rattle.definition.specs.rule.Definition.{DefinitionRead}
+use Rattle.definition.specs.rule.Definition.{SssRead}
 use Rattle.clean_text.specs.rule.Clean.{cleanOf}
 use Rattle.clean_laws.specs.rule.Texts.{textAt, decodedTexts}
 use Rattle.clean_laws.specs.rule.Reads.{headTexts, Reads}
@@ -38,11 +38,11 @@ pub record SaysSame (d c : List ℕ) (s : Survey) (n : ℕ) : Type 0 where
   pub reads : Reads c survey
   -- by the call that reads, of both into one lent table: the same answer, and tables that agree but for text places and lengths
   pub called : {u u₁ u₂ : List ℤ} {a₁ a₂ : Answer} → length (tableOf (s .variables)) ≤ length u
-      → DefinitionRead d u u₁ a₁ → DefinitionRead c u u₂ a₂
+      → SssRead d u u₁ a₁ → SssRead c u u₂ a₂
       → (a₂ ≡ a₁) × ((k : ℕ) → textAt (length (s .variables)) k ≡ false → cell u₂ k ≡ cell u₁ k)
   -- equal decoded texts: the heading's, and by the places and lengths of the two tables every name, label and value text
   pub heading-texts : headTexts c (survey .heading) ≡ headTexts d (s .heading)
   pub texts : map (decodedTexts c) (survey .variables) ≡ map (decodedTexts d) (s .variables)
   -- written again, with the table that its own reading leaves and room for it, it comes out byte for byte
   pub again : {u u′ : List ℤ} {a : Answer} {out out′ : List ℕ} {w : Written} → length (tableOf (s .variables)) ≤ length u
-      → DefinitionRead c u u′ a → n ≤ length out → DefinitionWritten c u′ out out′ w → (w ≡ Done n) × (out′ ≡ c ++ drop n out)
+      → SssRead c u u′ a → n ≤ length out → DefinitionWritten c u′ out out′ w → (w ≡ Done n) × (out′ ≡ c ++ drop n out)

@@ -3,7 +3,7 @@ use mathlib.Core.Path.{_≡_}
 use borrow.Author.Needs.{needs}
 use mir.Syntax.{w64}
 use mir.Val.{toZ, ofZ}
-use Rattle.writes.specs.rule.Write.{valueOf}
+use Rattle.writes.specs.rule.Write.{lentValue}
 use Rattle.writes.proofs.Cases.{as-given}
 use Rattle.writes.proofs.write_row.Statement.{statement}
 use Rattle.writes.proofs.write_row.Tie as tie
@@ -13,7 +13,7 @@ back : (c : tie.After-known-told) → toZ w64 (ofZ w64 (c .before .value .given 
 back c = search needs
 
 pub write-row-spec : {M : Type 1} → statement M
-unfolding valueOf
+unfolding lentValue
 write-row-spec =
     tie.close
     (tie.spec

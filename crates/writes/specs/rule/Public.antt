@@ -15,14 +15,14 @@ use Rattle.writes.specs.declared.Wrote.{Wrote}
 use Rattle.writes.specs.declared.Wrote.the-variants.{Done, NotWellFormed, NoRow, TooShort, OtherType, NotLegal, TooMany}
 
 -- document 01's number for each answer, and 0 for a write that is done
-unfoldable pub numberOf : Wrote → ℕ
-numberOf Done = 0
-numberOf NotWellFormed = 20
-numberOf NoRow = 21
-numberOf TooShort = 22
-numberOf OtherType = 26
-numberOf NotLegal = 27
-numberOf TooMany = 28
+unfoldable pub writeNumber : Wrote → ℕ
+writeNumber Done = 0
+writeNumber NotWellFormed = 20
+writeNumber NoRow = 21
+writeNumber TooShort = 22
+writeNumber OtherType = 26
+writeNumber NotLegal = 27
+writeNumber TooMany = 28
 
 -- the numbers of a value that does not fit
 unfoldable pub fitNumber : Fit → ℕ

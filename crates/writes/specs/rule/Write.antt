@@ -7,9 +7,9 @@ use Rattle.writes.specs.declared.Value.{Value}
 use Rattle.writes.specs.declared.Value.the-variants.{Missing, Number, Set, Text, Truth}
 
 -- what is given: a set is the list beside it, a text the bytes beside it
-unfoldable pub valueOf : Value → List ℤ → List ℕ → field.Value
-valueOf Missing list bytes = field.missing
-valueOf (Number z) list bytes = field.number z
-valueOf Set list bytes = field.members list
-valueOf Text list bytes = field.text bytes
-valueOf (Truth b) list bytes = field.truth b
+unfoldable pub lentValue : Value → List ℤ → List ℕ → field.Value
+lentValue Missing list bytes = field.missing
+lentValue (Number z) list bytes = field.number z
+lentValue Set list bytes = field.members list
+lentValue Text list bytes = field.text bytes
+lentValue (Truth b) list bytes = field.truth b

@@ -15,9 +15,10 @@ use Rattle.survey.specs.rule.Survey.{Amount, Range, Line, Block}
 use Rattle.survey.specs.rule.Width.{scaled}
 use Rattle.reading.specs.rule.Result.{Result, Is, Not, Reader, _>>=_, _>>_, give, repeat, bind}
 use Rattle.reading.specs.rule.Least.{Charge, _when_, judged}
-use Rattle.reading.specs.rule.Values.{formIs, large, unlike, lineCharges, withLine, rangeFrom, unlisted}
+use Rattle.reading.specs.rule.Values.{formIs, large, unlikeAmounts, lineCharges, withLine, rangeFrom, unlisted}
 use Rattle.xml_reading.specs.rule.Word.{VALUES, RANGE, VALUE, FROM, TO, CODE}
-use Rattle.xml_reading.specs.rule.Open.{Open, start, shut, within, either, due, refuse, unknownAt, onTag, nothing, enter}
+use Rattle.xml_reading.specs.rule.Open.{Open, start, shut, withinElement, eitherElement, due, refuse, unknownAt, onTag, nothing}
+use Rattle.xml_reading.specs.rule.Open.{enter}
 use Rattle.xml_reading.specs.rule.Element.{amountIn, body}
 
 -- the mode of a text that may hold breaks: where the file has languages, texts in other languages too
@@ -31,7 +32,7 @@ pairCharges quantity a b =
     let both = formIs quantity a && formIs quantity b in
     fault 6 (a .place) when not (formIs quantity a)
     ∷ fault 6 (b .place) when not (formIs quantity b)
-    ∷ fault 6 (b .place) when (both && unlike a b)
+    ∷ fault 6 (b .place) when (both && unlikeAmounts a b)
     ∷ fault 6 (b .place) when (both && ltZ (scaled b) (scaled a))
     ∷ fault 8 (a .place) when large quantity a
     ∷ fault 8 (b .place) when large quantity b
@@ -67,14 +68,14 @@ module _ (bad : Bool) (d : List ℕ) where
     onOpen b (start p) = due bad d VALUE (start p) (λ p. lined b p >>= λ c. give (Again c))
     onOpen b (shut p) = give (Done b)
 
-    unfoldable pub another : Block → Reader (Next Block Block)
-    another b = within bad d VALUES >>= onOpen b
+    unfoldable pub anotherLine : Block → Reader (Next Block Block)
+    anotherLine b = withinElement bad d VALUES >>= onOpen b
 
     -- a range, or the first line
     unfoldable pub first : Reader Block
     first = do
-      o ← within bad d VALUES
-      either bad d RANGE o (λ p. range quantity p >>= λ r. give (unlisted (some r))) (due bad d VALUE o (lined (unlisted none)))
+      o ← withinElement bad d VALUES
+      eitherElement bad d RANGE o (λ p. range quantity p >>= λ r. give (unlisted (some r))) (due bad d VALUE o (lined (unlisted none)))
 
     -- "4,096 value lines in all": the 4,097th is refused
     unfoldable pub values : ℕ → Reader Block
@@ -83,4 +84,4 @@ module _ (bad : Bool) (d : List ℕ) where
         do
           enter bad d (unknownAt (h .unknown) ∷ []) empty q
           b ← first
-          repeat (suc mostLines) another b
+          repeat (suc mostLines) anotherLine b

@@ -19,10 +19,10 @@ use Rattle.contents.specs.rule.Content.{contentOf}
 use Rattle.contents.specs.declared.Content.{Content}
 use Rattle.contents.specs.declared.Content.the-variants as content
 use Rattle.tokens.specs.rule.Gap.{fault}
-use Rattle.survey.specs.rule.Survey.{Figure, Amount, Text, Spread}
+use Rattle.survey.specs.rule.Survey.{Figure, Amount, KeptText, Spread}
 use Rattle.reading.specs.rule.Result.{Result, Is, Not, Reader, _>>=_, bind}
 use Rattle.reading.specs.rule.Least.{Charge, _when_, judged}
-use Rattle.reading.specs.rule.Token.{amountOf}
+use Rattle.reading.specs.rule.Token.{amountRead}
 use Rattle.reading.specs.rule.Statement.{Position, positionCharges, spreadCharges, sizeCharges}
 use Rattle.xml_reading.specs.rule.Word.{POSITION, START, FINISH, SPREAD, SUBFIELDS, WIDTH, SIZE}
 use Rattle.xml_reading.specs.rule.Open.{unknownAt, onTag, nothing}
@@ -40,7 +40,7 @@ unfoldable pub figureOf : List ℕ → ℕ → ℕ → Figure
 figureOf d v e = let cs = charsOf d v e in record { place = v; end = e; digits = length cs; value = decimalOf 0 cs }
 
 unfoldable pub amountIn : List ℕ → ℕ → ℕ → Amount
-amountIn d v e = amountOf v e (charsOf d v e)
+amountIn d v e = amountRead v e (charsOf d v e)
 
 -- an attribute that may be left out: place 0 is none
 abbrev pub givenAt : {A : Type 0} → ℕ → A → Option A
@@ -48,7 +48,7 @@ givenAt v a = cond (eqb v 0) none (some a)
 
 -- ---- a text, and what is wrong with it: attributes that aren't known; a cut ends it, and it is not judged then
 pub record Body : Type 0 where
-  pub text : Text
+  pub text : KeptText
   pub whole : Bool
   pub charges : List Charge
 
@@ -66,7 +66,7 @@ module _ (bad : Bool) (d : List ℕ) where
   body w m empty n = cond empty (Is (bodyOf n n Bool.true []) n) (onContent n (contentOf bad d m w n))
 
   -- an element that is only a text
-  unfoldable pub text : List ℕ → ℕ → ℕ → Reader Text
+  unfoldable pub text : List ℕ → ℕ → ℕ → Reader KeptText
   text w m p e =
       onTag bad d (bareOf bad d p e) λ h empty q.
       do

@@ -47,8 +47,8 @@ module _ (bad : Bool) (d : List ℕ) where
   opened w (stand.Broken p) = Not (fault 50 p)
 
   -- inside an element w
-  unfoldable pub within : List ℕ → Reader Open
-  within w n = opened w (standOf bad d n)
+  unfoldable pub withinElement : List ℕ → Reader Open
+  withinElement w n = opened w (standOf bad d n)
 
   abbrev pub onBare : {A : Type 0} → ℕ → Tag → Result A
   onBare p (tag.Read h empty q n) = Not (fault 51 p)
@@ -59,9 +59,9 @@ module _ (bad : Bool) (d : List ℕ) where
   misplaced p e = onBare p (bareOf bad d p e)
 
   -- the start tag of an element w, and k behind its name; or else q
-  abbrev pub either : {A : Type 0} → List ℕ → Open → (ℕ → Reader A) → Reader A → Reader A
-  either w (start p) k q n = cond (isNamed d (p + 1) n w) (k p n) (q n)
-  either w (shut p) k q n = q n
+  abbrev pub eitherElement : {A : Type 0} → List ℕ → Open → (ℕ → Reader A) → Reader A → Reader A
+  eitherElement w (start p) k q n = cond (isNamed d (p + 1) n w) (k p n) (q n)
+  eitherElement w (shut p) k q n = q n
 
   -- something else was due
   abbrev pub refuse : {A : Type 0} → Open → Reader A
@@ -69,7 +69,7 @@ module _ (bad : Bool) (d : List ℕ) where
   refuse (shut p) n = Not (fault 2 p)
 
   abbrev pub due : {A : Type 0} → List ℕ → Open → (ℕ → Reader A) → Reader A
-  due w o k = either w o k (refuse o)
+  due w o k = eitherElement w o k (refuse o)
 
   -- the end tag of the element around
   abbrev pub over : Open → Reader Unit

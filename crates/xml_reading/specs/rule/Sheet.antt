@@ -13,12 +13,12 @@ use Rattle.markup.specs.rule.Bytes.{stands}
 use Rattle.markup.specs.declared.Skip.{Skip}
 use Rattle.markup.specs.declared.Skip.the-variants as skip
 use Rattle.spans.specs.rule.Heard.{heard}
-use Rattle.spans.specs.rule.Says.{wordOf}
+use Rattle.spans.specs.rule.Says.{heardWord}
 use Rattle.tags.specs.rule.Tag.{tagOf, isNamed}
 use Rattle.pairs.specs.rule.Stand.{standAt, shutOf, bareOf}
 use Rattle.pairs.specs.declared.Stand.{Stand}
 use Rattle.pairs.specs.declared.Stand.the-variants as stand
-use Rattle.prologs.specs.rule.Told.{headOf, tailOf}
+use Rattle.prologs.specs.rule.Told.{headOf, tailFrom}
 use Rattle.prologs.specs.declared.Prolog.{Prolog}
 use Rattle.prologs.specs.declared.Prolog.the-variants as prolog
 use Rattle.prologs.specs.declared.Tail.{Tail}
@@ -28,19 +28,20 @@ use Rattle.reading.specs.rule.Result.{Result, Is, Not, Reader, _>>=_, _>>_, giv
 use Rattle.reading.specs.rule.Least.{Charge, _when_, judged}
 use Rattle.xml_reading.specs.rule.Word.{SSS, VERSION, OPTIONS, LANGUAGES, DATE, TIME, ORIGIN, USER, SURVEY, NAME, TITLE, RECORD}
 use Rattle.xml_reading.specs.rule.Word.{IDENT, HREF, VARIABLE, ONE-ONE, ONE-TWO}
-use Rattle.xml_reading.specs.rule.Open.{Open, start, shut, within, misplaced, either, due, over, unknownAt, onTag, entered, enter}
+use Rattle.xml_reading.specs.rule.Open.{Open, start, shut, withinElement, misplaced, eitherElement, due, over, unknownAt, onTag}
+use Rattle.xml_reading.specs.rule.Open.{entered, enter}
 use Rattle.xml_reading.specs.rule.Element.{text}
 use Rattle.xml_reading.specs.rule.Block.{rich}
-use Rattle.xml_reading.specs.rule.Role.{Entry}
+use Rattle.xml_reading.specs.rule.Role.{XmlEntry}
 use Rattle.xml_reading.specs.rule.Variable.{Manner, variable}
 
-pub record Survey : Type 0 where
+pub record XmlSurvey : Type 0 where
   pub manner : Manner
-  pub entries : List Entry
+  pub entries : List XmlEntry
 
 -- the stretch of d from v to e is the word w
 unfoldable pub saysWord : List ℕ → ℕ → ℕ → List ℕ → Bool
-saysWord d v e w = wordOf w (heard (take (e - v) (drop v d)) 0)
+saysWord d v e w = heardWord w (heard (take (e - v) (drop v d)) 0)
 
 module _ (bad : Bool) (d : List ℕ) where
   -- ---- the root
@@ -74,16 +75,16 @@ module _ (bad : Bool) (d : List ℕ) where
       (record { old = old; languages = not (eqb (h .c) 0); standard = not (eqb (h .b) 0); latin = latin }) empty q
 
   -- ---- texts that may be left out, inside an element `around`; what stands behind
-  unfoldable pub perhaps : List ℕ → List ℕ → ℕ → Open → Reader Open
-  perhaps around w k o = either bad d w o (λ p. text bad d w k p >> within bad d around) (give o)
+  unfoldable pub perhapsElement : List ℕ → List ℕ → ℕ → Open → Reader Open
+  perhapsElement around w k o = eitherElement bad d w o (λ p. text bad d w k p >> withinElement bad d around) (give o)
 
   unfoldable pub heading : Reader Open
   heading = do
-    o ← within bad d SSS
-    o ← perhaps SSS DATE 0 o
-    o ← perhaps SSS TIME 0 o
-    o ← perhaps SSS ORIGIN 0 o
-    perhaps SSS USER 0 o
+    o ← withinElement bad d SSS
+    o ← perhapsElement SSS DATE 0 o
+    o ← perhapsElement SSS TIME 0 o
+    o ← perhapsElement SSS ORIGIN 0 o
+    perhapsElement SSS USER 0 o
 
   -- `<survey>` or `<record ..>`: a start tag with these charges
   unfoldable pub survey : ℕ → Reader Unit
@@ -93,9 +94,9 @@ module _ (bad : Bool) (d : List ℕ) where
 
   unfoldable pub titles : Manner → Reader Open
   titles m = do
-    o ← within bad d SURVEY
-    o ← cond (m .old) (give o) (perhaps SURVEY NAME 0 o >>= perhaps SURVEY VERSION 0)
-    perhaps SURVEY TITLE (rich (m .languages)) o
+    o ← withinElement bad d SURVEY
+    o ← cond (m .old) (give o) (perhapsElement SURVEY NAME 0 o >>= perhapsElement SURVEY VERSION 0)
+    perhapsElement SURVEY TITLE (rich (m .languages)) o
 
   -- `<record ident [href]>`
   unfoldable pub record-tag : Manner → ℕ → Reader Unit
@@ -115,36 +116,36 @@ module _ (bad : Bool) (d : List ℕ) where
     give m
 
   -- ---- "variable+"
-  abbrev pub onOpen : Manner → List Entry → Open → Reader (Next (List Entry) (List Entry))
+  abbrev pub onOpen : Manner → List XmlEntry → Open → Reader (Next (List XmlEntry) (List XmlEntry))
   onOpen m l (start p) = due bad d VARIABLE (start p) (λ p. variable bad d m l p >>= λ v. give (Again (l ++ v ∷ [])))
   onOpen m l (shut p) = give (Done l)
 
-  unfoldable pub another : Manner → List Entry → Reader (Next (List Entry) (List Entry))
-  another m l = within bad d RECORD >>= onOpen m l
+  unfoldable pub anotherElement : Manner → List XmlEntry → Reader (Next (List XmlEntry) (List XmlEntry))
+  anotherElement m l = withinElement bad d RECORD >>= onOpen m l
 
   -- "512 variables": the 513th is refused
-  unfoldable pub variables : Manner → Reader (List Entry)
+  unfoldable pub variables : Manner → Reader (List XmlEntry)
   variables m = do
-    o ← within bad d RECORD
+    o ← withinElement bad d RECORD
     v ← due bad d VARIABLE o (variable bad d m [])
-    repeat (suc mostRows) (another m) (v ∷ [])
+    repeat (suc mostRows) (anotherElement m) (v ∷ [])
 
   -- ---- `</survey>`, `</sss>`, and what follows
   abbrev pub cleared : Tail → ℕ → Result Unit
   cleared tail.Clean n = Is tt n
   cleared (tail.Foul number p) n = Not (fault number p)
 
-  unfoldable pub closing : Reader Unit
-  closing = do
-    o ← within bad d SURVEY
+  unfoldable pub sheetClosed : Reader Unit
+  sheetClosed = do
+    o ← withinElement bad d SURVEY
     over bad d o
-    o ← within bad d SSS
+    o ← withinElement bad d SSS
     over bad d o
-    λ n. cleared (tailOf bad d n) n
+    λ n. cleared (tailFrom bad d n) n
 
-  unfoldable pub sheet : Bool → Reader Survey
+  unfoldable pub sheet : Bool → Reader XmlSurvey
   sheet latin = do
     m ← preface latin
     l ← variables m
-    closing
+    sheetClosed
     give (record { manner = m; entries = l })

@@ -5,16 +5,16 @@ use mathlib.Core.List.{List, [], _∷_}
 use mathlib.Core.Option.{Option, none, some}
 use Prim.Native.Nat.{ℕ}
 use lib.Dec.{eqb}
-use Rattle.survey.specs.rule.Survey.{Text, Content, single, multiple, quantity, character, logical, Spread, Block}
+use Rattle.survey.specs.rule.Survey.{KeptText, Content, single, multiple, quantity, character, logical, Spread, Block}
 use Rattle.survey.specs.rule.Table.{linesAll}
 use Rattle.reading.specs.rule.Result.{Result, Is, Not, Reader, _>>=_, _>>_, give, bind}
 use Rattle.reading.specs.rule.Statement.{Position}
 use Rattle.reading.specs.rule.Variable.{room, variableOf, held}
 use Rattle.xml_reading.specs.rule.Word.{VARIABLE, NAME, LABEL, POSITION, FILTER, SPREAD, VALUES, SIZE}
-use Rattle.xml_reading.specs.rule.Open.{Open, within, either, due, over}
+use Rattle.xml_reading.specs.rule.Open.{Open, withinElement, eitherElement, due, over}
 use Rattle.xml_reading.specs.rule.Element.{text, position, spread, size}
 use Rattle.xml_reading.specs.rule.Block.{rich, values}
-use Rattle.xml_reading.specs.rule.Role.{Entry, Title, variablesOf, title, naming, filter}
+use Rattle.xml_reading.specs.rule.Role.{XmlEntry, Title, variablesOf, title, naming, filter}
 
 -- what the preface says that the variables go by: version 1.1, languages, standardnames; and the file's encoding
 pub record Manner : Type 0 where
@@ -33,20 +33,20 @@ with a o = record { it = a; behind = o }
 
 module _ (bad : Bool) (d : List ℕ) (m : Manner) where
   abbrev pub inside : Reader Open
-  inside = within bad d VARIABLE
+  inside = withinElement bad d VARIABLE
 
   -- a filter or none, and what stands behind it
-  unfoldable pub filtered : List Entry → Text → ℕ → Open → Reader (Then ℕ)
+  unfoldable pub filtered : List XmlEntry → KeptText → ℕ → Open → Reader (Then ℕ)
   filtered earlier name usage o =
       cond (m .old) (give (with 0 o))
-      (either bad d FILTER o
+      (eitherElement bad d FILTER o
       (λ p. filter bad d (m .latin) (m .standard) earlier name usage p >>= λ f. inside >>= λ o. give (with f o))
       (give (with 0 o)))
 
   -- a spread or none
   unfoldable pub spreading : ℕ → Open → Reader (Then (Option Spread))
   spreading room o =
-      either bad d SPREAD o
+      eitherElement bad d SPREAD o
       (λ p. spread bad d room p >>= λ s. inside >>= λ o. give (with (some s) o))
       (give (with none o))
 
@@ -66,7 +66,7 @@ module _ (bad : Bool) (d : List ℕ) (m : Manner) where
       (over bad d o >> give logical))))
 
   -- from behind the name of its start tag on
-  unfoldable pub variable : List Entry → ℕ → Reader Entry
+  unfoldable pub variable : List XmlEntry → ℕ → Reader XmlEntry
   variable earlier q = do
     t ← title bad d (m .old) earlier q
     o ← inside

@@ -18,10 +18,10 @@ use Rattle.names.specs.rule.Standard.{nameFault}
 use Rattle.prologs.specs.rule.Told.{declarationOf}
 use Rattle.prologs.specs.declared.Prolog.{Prolog}
 use Rattle.prologs.specs.declared.Prolog.the-variants as prolog
-use Rattle.survey.specs.rule.Table.{columnsOf, linesOf, linesAll, highestIn, allLines}
+use Rattle.survey.specs.rule.Table.{variableColumns, linesOf, linesAll, highestIn, allLines}
 use Rattle.reading.specs.rule.Result.{Result, Is, Not}
-use Rattle.xml_reading.specs.rule.Role.{Entry, variablesOf, signsIn}
-use Rattle.xml_reading.specs.rule.Sheet.{Survey, sheet}
+use Rattle.xml_reading.specs.rule.Role.{XmlEntry, variablesOf, signsIn}
+use Rattle.xml_reading.specs.rule.Sheet.{XmlSurvey, sheet}
 
 -- ---- the table
 abbrev pub usedBy : ℕ → ℕ → Columns → Columns
@@ -49,11 +49,11 @@ usedBy usage filter c = record {
 }
 
 -- the row of a variable; `before` lines stand before its own
-unfoldable pub columnsFor : ℕ → Entry → Columns
-columnsFor before v = usedBy (v .usage) (v .filter) (columnsOf before (v .variable))
+unfoldable pub columnsFor : ℕ → XmlEntry → Columns
+columnsFor before v = usedBy (v .usage) (v .filter) (variableColumns before (v .variable))
 
-unfoldable pub headerFor : List Entry → Header
-headerFor l = record {
+unfoldable pub xmlHeader : List XmlEntry → Header
+xmlHeader l = record {
   mark = markXml;
   rows = length l;
   lines = linesAll (variablesOf l);
@@ -62,49 +62,49 @@ headerFor l = record {
   «lines_at» = linesBase (length l);
 }
 
-unfoldable pub rowsFrom : ℕ → List Entry → List ℤ
-rowsFrom before [] = []
-rowsFrom before (v ∷ l) = rowCells (columnsFor before v) ++ rowsFrom (before + length (linesOf (v .variable))) l
+unfoldable pub xmlRows : ℕ → List XmlEntry → List ℤ
+xmlRows before [] = []
+xmlRows before (v ∷ l) = rowCells (columnsFor before v) ++ xmlRows (before + length (linesOf (v .variable))) l
 
-unfoldable pub tableOf : List Entry → List ℤ
-tableOf l = headerCells (headerFor l) ++ rowsFrom 0 l ++ allLines (variablesOf l)
+unfoldable pub xmlTable : List XmlEntry → List ℤ
+xmlTable l = headerCells (xmlHeader l) ++ xmlRows 0 l ++ allLines (variablesOf l)
 
 -- ---- the outcome
-pub data Outcome : Type 0 where
-  Built : List Entry → Outcome
-  Refusal : ℕ → ℕ → Outcome
+pub data XmlOutcome : Type 0 where
+  Built : List XmlEntry → XmlOutcome
+  Refusal : ℕ → ℕ → XmlOutcome
 
 -- "10 lent table too short": of n numbers
-unfoldable pub fitting : ℕ → List Entry → Outcome
-fitting n l = cond (ltb n (length (tableOf l))) (Refusal 10 0) (Built l)
+unfoldable pub xmlFitting : ℕ → List XmlEntry → XmlOutcome
+xmlFitting n l = cond (ltb n (length (xmlTable l))) (Refusal 10 0) (Built l)
 
-unfoldable pub namesOf : Bool → List ℕ → List Entry → List (List Sign)
-namesOf latin d l = map (λ v. signsIn latin d (v .variable .name)) l
+unfoldable pub xmlNames : Bool → List ℕ → List XmlEntry → List (List Sign)
+xmlNames latin d l = map (λ v. signsIn latin d (v .variable .name)) l
 
 -- the place of name i
-unfoldable pub placeOf : List Entry → ℕ → ℕ
-placeOf [] i = 0
-placeOf (v ∷ l) zero = v .variable .name .place
-placeOf (v ∷ l) (suc i) = placeOf l i
+unfoldable pub entryPlace : List XmlEntry → ℕ → ℕ
+entryPlace [] i = 0
+entryPlace (v ∷ l) zero = v .variable .name .place
+entryPlace (v ∷ l) (suc i) = entryPlace l i
 
-unfoldable pub judgeNames : Bool → List ℕ → ℕ → Bool → List Entry → Outcome
-judgeNames latin d n standard l =
-    let i = nameFault (namesOf latin d l) in
-    cond standard (cond (ltb i (length l)) (Refusal 9 (placeOf l i)) (fitting n l)) (fitting n l)
+unfoldable pub judgeXmlNames : Bool → List ℕ → ℕ → Bool → List XmlEntry → XmlOutcome
+judgeXmlNames latin d n standard l =
+    let i = nameFault (xmlNames latin d l) in
+    cond standard (cond (ltb i (length l)) (Refusal 9 (entryPlace l i)) (xmlFitting n l)) (xmlFitting n l)
 
-abbrev pub settled : Bool → List ℕ → ℕ → Result Survey → Outcome
-settled latin d n (Is s m) = judgeNames latin d n (s .manner .standard) (s .entries)
-settled latin d n (Not f) = Refusal (f .number) (f .place)
+abbrev pub xmlSettled : Bool → List ℕ → ℕ → Result XmlSurvey → XmlOutcome
+xmlSettled latin d n (Is s m) = judgeXmlNames latin d n (s .manner .standard) (s .entries)
+xmlSettled latin d n (Not f) = Refusal (f .number) (f .place)
 
 -- behind the declaration, up to the first character that is not legal
-unfoldable pub sheetOf : Bool → List ℕ → ℕ → ℕ → Outcome
+unfoldable pub sheetOf : Bool → List ℕ → ℕ → ℕ → XmlOutcome
 sheetOf latin d at n =
     let q = firstBad latin d at in
-    settled latin (take q d) n (sheet (ltb q (length d)) (take q d) latin at)
+    xmlSettled latin (take q d) n (sheet (ltb q (length d)) (take q d) latin at)
 
-abbrev pub declared : List ℕ → ℕ → Prolog → Outcome
+abbrev pub declared : List ℕ → ℕ → Prolog → XmlOutcome
 declared d n (prolog.Read latin at) = sheetOf latin d at n
 declared d n (prolog.Fault number p) = Refusal number p
 
-unfoldable pub outcomeOf : List ℕ → ℕ → Outcome
-outcomeOf d n = cond (ltb 1048576 (length d)) (Refusal 1 0) (declared d n (declarationOf d))
+unfoldable pub xmlOutcome : List ℕ → ℕ → XmlOutcome
+xmlOutcome d n = cond (ltb 1048576 (length d)) (Refusal 1 0) (declared d n (declarationOf d))

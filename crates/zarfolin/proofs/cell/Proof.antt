@@ -3,7 +3,7 @@ use native.Mathlib.Omega.{arith}
 use borrow.Author.Tests.{lt-ltb, le-ltb}
 use mir.Syntax.{w64}
 use mir.ValLaws.{toZ-pos}
-use Rattle.zarfolin.specs.rule.Face.{cellOf}
+use Rattle.record_values.specs.rule.Record.{cellOf}
 use borrow.Author.Needs.{needs}
 use Rattle.zarfolin.proofs.cell.Statement.{statement}
 use Rattle.zarfolin.proofs.cell.Tie as tie

@@ -1,5 +1,5 @@
 -- `zarfolin::flag` meets its contract.
-use Rattle.zarfolin.specs.rule.Face.{flagOf}
+use Rattle.record_values.specs.rule.Record.{flagOf}
 use Rattle.zarfolin.proofs.flag.Statement.{statement}
 use Rattle.zarfolin.proofs.flag.Tie as tie
 

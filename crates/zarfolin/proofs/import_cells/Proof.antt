@@ -2,7 +2,7 @@
 use borrow.Author.Needs.{needs, sfits-of}
 use mir.Facts.{toZ-ofZ}
 use Rattle.imports.specs.rule.Import.{importSaid}
-use Rattle.zarfolin.specs.rule.Face.{cellOf}
+use Rattle.record_values.specs.rule.Record.{cellOf}
 use Rattle.zarfolin.specs.rule.Import.{importCells}
 use Rattle.zarfolin.proofs.import_cells.Statement.{statement}
 use Rattle.zarfolin.proofs.import_cells.Tie as tie

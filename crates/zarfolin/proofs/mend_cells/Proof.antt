@@ -8,7 +8,7 @@ use Rattle.zarfolin.proofs.mend_cells.Statement.{statement}
 use Rattle.zarfolin.proofs.mend_cells.Tie as tie
 
 pub mend-cells-spec : {M : Type 1} → statement M
-unfolding mendCells mends.said
+unfolding mendCells mends.mendSaid
 mend-cells-spec =
     tie.close
     (tie.spec

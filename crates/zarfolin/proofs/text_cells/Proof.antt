@@ -8,7 +8,7 @@ use Rattle.zarfolin.proofs.text_cells.Statement.{statement}
 use Rattle.zarfolin.proofs.text_cells.Tie as tie
 
 pub text-cells-spec : {M : Type 1} → statement M
-unfolding textCells texts.said
+unfolding textCells texts.decodeSaid
 text-cells-spec =
     tie.close
     (tie.spec

@@ -61,7 +61,7 @@ use denote.Triple.Clauses.{ensured, lasts}
 use denote.Triple.Table.{entered, cited}
 use denote.Triple.Walked.{says, needs, Stays, stay-slice, stay-none-slice, walkOf, Walks, ends-at, walked, goes-slice, goes-none-slice}
 use denote.Triple.Walked.{walk-meets}
-use Rattle.corrections.specs.rule.Correction.{corrected, writtenBy, wholeRefusal, listAfter, recordLeft}
+use Rattle.corrections.specs.rule.Correction.{corrected, correctedBy, wholeRefusal, correctionsAfter, recordLeft}
 use Rattle.corrections.specs.Correction.{blank, turnsOf}
 use Rattle.corrections.specs.declared.Correction.{Correction}
 use Rattle.zarfolin.proofs.Again.{LentAgain, lends-again, comes-back}
@@ -188,7 +188,8 @@ module _ {M : Type 1} (𝓤 : URA M) (H : Heap 𝓤) (A : Atoms 𝓤) (W : Given
   Table = ‵ (ShrSlice (named 0) κ₀ i64 .own x₀ (s₀ ∷ []))
 
   -- from what is had at exit to the `post` of `walkOf`
-  exits : (ys : List Correction) (zs : List ℕ) → w₀ < 2 ^ 64 → Room R n → length ys ≡ n → length zs ≡ length ss → (ys ≡ listAfter t xs ss)
+  exits : (ys : List Correction) (zs : List ℕ) → w₀ < 2 ^ 64 → Room R n → length ys ≡ n → length zs ≡ length ss
+      → (ys ≡ correctionsAfter t xs ss)
       × (zs ≡ recordLeft t xs ss)
       → ent 𝓤 (⋆ 𝓤 H A (‵ (fobs γ (codedHoleys R .code (heres R ys))) ∷ ‵ (fbor κ (Held R (length ys) b o γ)) ∷ ‵ (flft κ q)
       ∷ Bytes zs (length ss) ∷ ‵ (flft κ′ q′) ∷ Table ∷ ‵ (flft κ₀ q₀) ∷ [])) (Post (vint w64 w₀))
@@ -354,8 +355,8 @@ module _ {M : Type 1} (𝓤 : URA M) (H : Heap 𝓤) (A : Atoms 𝓤) (W : Given
           split ! $ move ! (1 ∷ []) $ use1 W (some
           (λ (ws : Unit {0} × (List ℕ × (Unit {0} × Unit {0}))). ‵
           (lasts correct.ended (κ₀, (ν ∷ [], tt)) (x₀, (x′ δ (s .zs), (c s, tt))) ws) ⊛ raw
-          (fact 𝓤 ((r ≡ corrected t (s .zs) (c s)) × (ws .1 .0 ≡ writtenBy t (s .zs) (c s)))))) (id⊢ 𝓤 _) $ pick ! (λ ws.
-          split ! $ move ! (1 ∷ []) $ heard ! ((r ≡ corrected t (s .zs) (c s)) × (ws .1 .0 ≡ writtenBy t (s .zs) (c s)))
+          (fact 𝓤 ((r ≡ corrected t (s .zs) (c s)) × (ws .1 .0 ≡ correctedBy t (s .zs) (c s)))))) (id⊢ 𝓤 _) $ pick ! (λ ws.
+          split ! $ move ! (1 ∷ []) $ heard ! ((r ≡ corrected t (s .zs) (c s)) × (ws .1 .0 ≡ correctedBy t (s .zs) (c s)))
           (λ e. fsplit ! $ drop ! $ fsplit ! $ fsplit ! $ move ! (1 ∷ []) $ feqL ! (λ k.
           move ! (2 ∷ []) $ split ! $ move ! (1 ∷ []) $ peeks ! R (Is R) (shows 𝓤 H A R) r (w ∷ []) (λ is.
           land ! (from ! (stop !)) (init ! 11 refl (LL.lawful T.the-type T′.the-laws 𝓤 H A W .typed r _ is .0)) $

@@ -1,12 +1,12 @@
 -- `zarfolin::zarfolin_write_number` meets its contract.
 use mir.Facts.{toZ-ofZ}
-use Rattle.writes.specs.rule.Write.{valueOf}
+use Rattle.writes.specs.rule.Write.{lentValue}
 use borrow.Author.Needs.{needs}
 use Rattle.zarfolin.proofs.zarfolin_write_number.Statement.{statement}
 use Rattle.zarfolin.proofs.zarfolin_write_number.Tie as tie
 
 returns : tie.Need-returns
-unfolding valueOf
+unfolding lentValue
 returns c =
     let w = rw (toZ-ofZ (c .before .before .before .before .before .before .before .fits .number)) at
     (c .before .before .before .write-value .ensures) in

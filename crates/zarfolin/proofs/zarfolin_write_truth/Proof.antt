@@ -1,13 +1,13 @@
 -- `zarfolin::zarfolin_write_truth` meets its contract.
 use mathlib.Core.Path.{refl}
 use native.Mathlib.Omega.{arith}
-use Rattle.writes.specs.rule.Write.{valueOf}
+use Rattle.writes.specs.rule.Write.{lentValue}
 use borrow.Author.Needs.{needs}
 use Rattle.zarfolin.proofs.zarfolin_write_truth.Statement.{statement}
 use Rattle.zarfolin.proofs.zarfolin_write_truth.Tie as tie
 
 returns : tie.Need-returns
-unfolding valueOf
+unfolding lentValue
 returns c =
     let l = c .before .before .before .before .before .before .if1 .taken in
     record { given = λ h. rw (c .number-of .ensures) (c .before .before .before .write-value .ensures); other = λ h. absurd (omega arith) }

@@ -6,7 +6,8 @@ use Rattle.clean.specs.declared.Written.{Written}
 use Rattle.clean.specs.declared.Written.the-variants as written
 use Rattle.clean.specs.rule.Written.{DefinitionWritten}
 use Rattle.zarfolin.specs.declared.Told.{Told}
-use Rattle.zarfolin.specs.rule.Face.{cellOf, four, Telling}
+use Rattle.zarfolin.specs.rule.Face.{four, Telling}
+use Rattle.record_values.specs.rule.Record.{cellOf}
 
 unfoldable pub cleanCells : Written → Told
 cleanCells (written.Done n) = four 0 (pos 0) (cellOf n) (pos 0)

@@ -8,10 +8,11 @@ use lib.IntN.{ℤ, pos}
 use Rattle.exports.specs.rule.Text.{ExportVerdict, refused, written}
 use Rattle.exports.specs.rule.Export.{Exported}
 use Rattle.zarfolin.specs.declared.Told.{Told}
-use Rattle.zarfolin.specs.rule.Face.{cellOf, bare, fileCells}
+use Rattle.zarfolin.specs.rule.Face.{toldAlone, fileCells}
+use Rattle.record_values.specs.rule.Record.{cellOf}
 
 unfoldable pub exportCells : ExportVerdict → Told
-exportCells (refused k) = bare k
+exportCells (refused k) = toldAlone k
 exportCells (written v n) = fileCells v
 
 unfoldable pub exportLength : ExportVerdict → ℤ

@@ -7,7 +7,7 @@ use Prim.Native.Nat.{ℕ}
 use lib.Dec.{ltb}
 use lib.IntN.{ℤ, pos}
 use Rattle.faults.specs.rule.Fault.{faultNumber}
-use Rattle.record_values.specs.rule.Record.{faultCell}
+use Rattle.record_values.specs.rule.Record.{faultCell, cellOf, flagOf}
 use Rattle.records.specs.rule.Verdict as verdict
 use Rattle.records.specs.rule.Value as value
 use Rattle.files.specs.rule.File.{FileVerdict, soundWith, badTable, faultIn, FileJudged}
@@ -19,20 +19,12 @@ use Rattle.definition.specs.declared.Answer.{Answer}
 use Rattle.definition.specs.declared.Answer.the-variants as definition
 use Rattle.zarfolin.specs.declared.Told.{Told}
 
--- a count as a signed number: itself, up to the largest there is, which no place in a slice reaches
-unfoldable pub cellOf : ℕ → ℤ
-cellOf n = cond (ltb n 9223372036854775807) (pos n) (pos 9223372036854775807)
-
-unfoldable pub flagOf : Bool → ℤ
-flagOf true = pos 1
-flagOf false = pos 0
-
 abbrev pub four : ℕ → ℤ → ℤ → ℤ → Told
 four n a b c = record { number = n; first = a; second = b; third = c }
 
 -- a number with nothing beside it
-abbrev pub bare : ℕ → Told
-bare n = four n (pos 0) (pos 0) (pos 0)
+abbrev pub toldAlone : ℕ → Told
+toldAlone n = four n (pos 0) (pos 0) (pos 0)
 
 -- the answer holds the four numbers, and the first is given back
 pub record Telling (c : Told) (answer : List ℤ) (r : ℕ) : Type 0 where
@@ -71,12 +63,12 @@ verdictCells v = four (verdict.verdictNumber v) (besideCell v) (behindCell v) (p
 
 -- a row read: the number, the kind (0 missing, 1 number, 2 set, 3 text, 4 truth), and the value
 unfoldable pub outcomeCells : value.Outcome → Told
-outcomeCells value.nothing = bare 0
+outcomeCells value.nothing = toldAlone 0
 outcomeCells (value.numberIs z) = four 0 (pos 1) z (pos 0)
 outcomeCells (value.setOf n) = four 0 (pos 2) (cellOf n) (pos 0)
 outcomeCells (value.textAt p n) = four 0 (pos 3) (cellOf p) (cellOf n)
 outcomeCells (value.truthIs b) = four 0 (pos 4) (flagOf b) (pos 0)
-outcomeCells (value.refused k) = bare k
+outcomeCells (value.refused k) = toldAlone k
 outcomeCells (value.badField x) = four (faultNumber x) (faultCell x) (pos 0) (pos 0)
 
 -- record n of a file: the number, the record, the row of a field's fault, and the byte's place for 23, the fault's place or number for it
@@ -86,7 +78,7 @@ faultCells n v = four (verdict.verdictNumber v) (cellOf n) (rowCell v) (placeCel
 -- a file judged: a sound one comes with the count of its records
 unfoldable pub fileCells : FileVerdict → Told
 fileCells (soundWith n) = four 0 (cellOf n) (pos 0) (pos 0)
-fileCells badTable = bare 20
+fileCells badTable = toldAlone 20
 fileCells (faultIn n v) = faultCells n v
 
 -- a definition read: the number, the place, V and E
@@ -98,7 +90,7 @@ definitionCells (definition.Refused n p) = four n (cellOf p) (pos 0) (pos 0)
 unfoldable pub nextCells : Next → Told
 nextCells (Ended start end next) = four 1 (cellOf start) (cellOf end) (cellOf next)
 nextCells (Unended start end) = four 2 (cellOf start) (cellOf end) (cellOf end)
-nextCells Nothing = bare 0
+nextCells Nothing = toldAlone 0
 
 -- ---- THE PROMISES: that of the call, and its outcome told in four numbers. A write gives its number back, and promises just what the
 -- call does.

@@ -4,7 +4,8 @@ use Prim.Native.Nat.{ℕ}
 use lib.IntN.{ℤ, pos}
 use Rattle.imports.specs.rule.Import.{ImportVerdict, refused, written, Imported}
 use Rattle.zarfolin.specs.declared.Told.{Told}
-use Rattle.zarfolin.specs.rule.Face.{cellOf, four, Telling}
+use Rattle.zarfolin.specs.rule.Face.{four, Telling}
+use Rattle.record_values.specs.rule.Record.{cellOf}
 
 unfoldable pub importCells : ImportVerdict → Told
 importCells (refused k n c) = four k (cellOf n) (cellOf c) (pos 0)

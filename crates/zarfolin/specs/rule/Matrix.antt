@@ -4,11 +4,12 @@ use Prim.Native.Nat.{ℕ}
 use lib.IntN.{ℤ}
 use Rattle.matrices.specs.rule.Matrix.{MatrixVerdict, refusedAs, refused, written, MatrixWritten}
 use Rattle.zarfolin.specs.declared.Told.{Told}
-use Rattle.zarfolin.specs.rule.Face.{cellOf, four, bare, fileCells, Telling}
+use Rattle.zarfolin.specs.rule.Face.{four, toldAlone, fileCells, Telling}
+use Rattle.record_values.specs.rule.Record.{cellOf}
 
 unfoldable pub matrixCells : MatrixVerdict → Told
 matrixCells (refusedAs v) = fileCells v
-matrixCells (refused k) = bare k
+matrixCells (refused k) = toldAlone k
 matrixCells (written total records columns) = four 0 (cellOf total) (cellOf records) (cellOf columns)
 
 -- THE PROMISE of writing a matrix: that of the call, and its outcome told in four numbers

@@ -5,10 +5,10 @@ use Prim.Native.Nat.{ℕ}
 use lib.IntN.{ℤ}
 use Rattle.parts.specs.rule.Part.{PartVerdict, noTerminator, judgedAs, PartJudged}
 use Rattle.zarfolin.specs.declared.Told.{Told}
-use Rattle.zarfolin.specs.rule.Face.{bare, fileCells, Telling}
+use Rattle.zarfolin.specs.rule.Face.{toldAlone, fileCells, Telling}
 
 unfoldable pub partCells : PartVerdict → Told
-partCells noTerminator = bare 29
+partCells noTerminator = toldAlone 29
 partCells (judgedAs v) = fileCells v
 
 -- THE PROMISE of judging a part: that of the call, and its outcome told in four numbers

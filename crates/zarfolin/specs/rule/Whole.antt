@@ -4,15 +4,15 @@ use Prim.Native.Nat.{ℕ}
 use lib.IntN.{ℤ, pos}
 use Rattle.record_values.specs.declared.Whole.{Whole}
 use Rattle.record_values.specs.declared.Whole.the-variants as whole
-use Rattle.record_values.specs.rule.Record.{RecordRead}
+use Rattle.record_values.specs.rule.Record.{RecordRead, cellOf}
 use Rattle.zarfolin.specs.declared.Told.{Told}
-use Rattle.zarfolin.specs.rule.Face.{cellOf, four, bare, Telling}
+use Rattle.zarfolin.specs.rule.Face.{four, toldAlone, Telling}
 
 unfoldable pub wholeCells : Whole → Told
 wholeCells (whole.Read m k) = four 0 (cellOf m) (cellOf k) (pos 0)
-wholeCells whole.BadTable = bare 20
-wholeCells whole.ShortRecord = bare 22
-wholeCells whole.ShortRoom = bare 25
+wholeCells whole.BadTable = toldAlone 20
+wholeCells whole.ShortRecord = toldAlone 22
+wholeCells whole.ShortRoom = toldAlone 25
 
 -- THE PROMISE of reading a whole record: that of the call, and its outcome told in four numbers
 pub record WholeTold (t : List ℤ) (bytes : List ℕ) (out out′ list list′ answer : List ℤ) (r : ℕ) : Type 0 where

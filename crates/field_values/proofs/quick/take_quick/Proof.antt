@@ -1,7 +1,7 @@
 -- `field_values::quick::take_quick` meets its contract.
 use mathlib.Core.Path.{refl}
 use borrow.Author.Needs.{needs}
-use Rattle.writes.specs.rule.Write.{valueOf}
+use Rattle.writes.specs.rule.Write.{lentValue}
 use Rattle.field_values.specs.Steps.{isDone, wrote, guess-none, left-empty, text-is, text-left-is}
 use Rattle.field_values.specs.Quick.{quick-took}
 use Rattle.field_values.proofs.quick.take_quick.Statement.{statement}
@@ -11,7 +11,7 @@ blank-run-requires : tie.Need-blank-run-requires
 blank-run-requires c κs = c .before .before .before .before .pre .1 .0
 
 returns : tie.Need-returns
-unfolding valueOf isDone
+unfolding lentValue isDone
 returns c =
     let b = c .before .before .blank-run .ensures in
     let a = c .before .before .before .before .before .before .before .args in
@@ -55,7 +55,7 @@ returns-4 : tie.Need-returns-4
 returns-4 c = c .before .before .quick-amount .ensures
 
 returns-5 : tie.Need-returns-5
-unfolding valueOf
+unfolding lentValue
 returns-5 c =
     let a = c .before .before .before .before .before .before .before .before .before .before .args in
     let n = c .before .before .before .before .before .before .before .if1 .left in

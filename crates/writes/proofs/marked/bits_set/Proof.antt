@@ -6,7 +6,7 @@ use borrow.Author.Needs.{needs}
 use borrow.Author.Tests.{not-true, not-false}
 use Rattle.fields.specs.rule.Row.{fitsBy, bytesBy, placesBy}
 use Rattle.sets.specs.Full.{each-legal}
-use Rattle.writes.specs.rule.Write.{valueOf}
+use Rattle.writes.specs.rule.Write.{lentValue}
 use Rattle.writes.proofs.Cases.{accepted, illegal, legal-fits, legal-not, bits-rising}
 use Rattle.writes.proofs.marked.bits_set.Statement.{statement}
 use Rattle.writes.proofs.marked.bits_set.Tie as tie
@@ -18,7 +18,7 @@ set-fits-requires c κs =
     (s .pre .0 .lines, (m .mark-legal .ensures, rw (m .mark-legal .kept .1 .1 .1 .0) (s .pre .1)))
 
 returns : tie.Need-returns
-unfolding valueOf fitsBy
+unfolding lentValue fitsBy
 returns c = illegal (legal-not (sym (c .before .set-fits .ensures) ∙ not-true _ (c .if1 .taken)))
 
 put-all-requires : tie.Need-put-all-requires
@@ -33,7 +33,7 @@ put-all-requires c κs =
     )
 
 returns-2 : tie.Need-returns-2
-unfolding valueOf fitsBy placesBy bytesBy
+unfolding lentValue fitsBy placesBy bytesBy
 returns-2 c =
     let at-put-all = c .before .before in
     accepted (legal-fits (sym (at-put-all .before .before .before .before .before .set-fits .ensures)
@@ -55,7 +55,7 @@ put-bits-requires c κs =
     )
 
 returns-3 : tie.Need-returns-3
-unfolding valueOf fitsBy placesBy bytesBy
+unfolding lentValue fitsBy placesBy bytesBy
 returns-3 c =
     let at-put-bits = c .before .before in
     let at-if1 = at-put-bits .before .before .before .before .before in

@@ -3,7 +3,7 @@ use mathlib.Core.Path.{refl, _∙_}
 use native.Mathlib.Omega.{arith}
 use borrow.Author.Needs.{needs}
 use Rattle.fields.specs.rule.Row.{placesBy}
-use Rattle.writes.specs.rule.Write.{valueOf}
+use Rattle.writes.specs.rule.Write.{lentValue}
 use Rattle.writes.proofs.Cases.{blanked, as-given, each-blank}
 use Rattle.writes.proofs.marked.blank_categories.Statement.{statement}
 use Rattle.writes.proofs.marked.blank_categories.Tie as tie
@@ -18,7 +18,7 @@ returns c = blanked (c .before .before .blank .ensures
     _)
 
 returns-2 : tie.Need-returns-2
-unfolding valueOf
+unfolding lentValue
 returns-2 c = as-given refl (c .before .before .write-multiple .ensures)
 
 pub blank-categories-spec : {M : Type 1} → statement M

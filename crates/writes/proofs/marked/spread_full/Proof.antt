@@ -4,13 +4,13 @@ use native.Mathlib.Omega.{arith}
 use borrow.Author.Needs.{needs}
 use borrow.Author.Tests.{lt-ltb, le-ltb}
 use Rattle.fields.specs.rule.Row.{fitsBy, bytesBy, placesBy}
-use Rattle.writes.specs.rule.Write.{valueOf}
+use Rattle.writes.specs.rule.Write.{lentValue}
 use Rattle.writes.proofs.Cases.{accepted, many, set-many, set-fits, spread-small}
 use Rattle.writes.proofs.marked.spread_full.Statement.{statement}
 use Rattle.writes.proofs.marked.spread_full.Tie as tie
 
 returns : tie.Need-returns
-unfolding valueOf fitsBy
+unfolding lentValue fitsBy
 returns c = many (set-many (c .before .before .before .pre .1 .1) (lt-ltb _ _ (c .if1 .taken)))
 
 put-spread-requires : tie.Need-put-spread-requires
@@ -25,7 +25,7 @@ put-spread-requires c κs =
     )
 
 returns-2 : tie.Need-returns-2
-unfolding valueOf fitsBy placesBy bytesBy
+unfolding lentValue fitsBy placesBy bytesBy
 returns-2 c =
     let p = c .before .before in
     let s = p .before .before .before .before .before in

@@ -7,7 +7,7 @@ use borrow.Author.Tests.{not-true, not-false, lt-ltb, le-ltb}
 use lib.Dec.{ltb}
 use lib.ListN.{length}
 use Rattle.fields.specs.rule.Row.{fitsBy, bytesBy, placesBy}
-use Rattle.writes.specs.rule.Write.{valueOf}
+use Rattle.writes.specs.rule.Write.{lentValue}
 use Rattle.writes.proofs.Cases.{accepted, illegal, many, set-not, set-many, set-fits, spread-small}
 use Rattle.writes.proofs.marked.spread_set.Statement.{statement}
 use Rattle.writes.proofs.marked.spread_set.Tie as tie
@@ -19,13 +19,13 @@ set-fits-requires c κs =
     (s .pre .1 .0 .lines, (m .mark-legal .ensures, rw (m .mark-legal .kept .1 .1 .1 .0) (s .pre .1 .1)))
 
 returns : tie.Need-returns
-unfolding valueOf fitsBy
+unfolding lentValue fitsBy
 returns c =
     let s = c .before .before .before .before .before .before .before .before .before .before in
     illegal (set-not (ltb (s .args .count) (length (s .args .list .now))) (sym (c .before .set-fits .ensures) ∙ not-true _ (c .if1 .taken)))
 
 returns-2 : tie.Need-returns-2
-unfolding valueOf fitsBy
+unfolding lentValue fitsBy
 returns-2 c = many (set-many (sym (c .before .before .set-fits .ensures) ∙ not-false _ (c .before .if1 .left)) (lt-ltb _ _ (c .if2 .taken)))
 
 put-spread-requires : tie.Need-put-spread-requires
@@ -41,7 +41,7 @@ put-spread-requires c κs =
     )
 
 returns-3 : tie.Need-returns-3
-unfolding valueOf fitsBy placesBy bytesBy
+unfolding lentValue fitsBy placesBy bytesBy
 returns-3 c =
     let p = c .before .before in
     let t = p .before .before in

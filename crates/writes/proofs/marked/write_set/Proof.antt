@@ -2,7 +2,7 @@
 use mathlib.Core.Path.{refl}
 use borrow.Author.Needs.{needs}
 use Rattle.fields.specs.rule.Row.{fitsBy}
-use Rattle.writes.specs.rule.Write.{valueOf}
+use Rattle.writes.specs.rule.Write.{lentValue}
 use Rattle.writes.proofs.Cases.{ready-as, written-as, other-kind}
 use Rattle.writes.proofs.marked.write_set.Statement.{statement}
 use Rattle.writes.proofs.marked.write_set.Tie as tie
@@ -16,7 +16,7 @@ returns : tie.Need-returns
 returns c = written-as (c .before .before .before .before .before .kind .given .1) (c .before .before .write-multiple .ensures)
 
 pub write-set-spec : {M : Type 1} → statement M
-unfolding valueOf fitsBy
+unfolding lentValue fitsBy
 write-set-spec =
     tie.close
     (tie.spec

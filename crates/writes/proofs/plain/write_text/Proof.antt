@@ -5,13 +5,13 @@ use borrow.Author.Needs.{needs}
 use borrow.Author.Tests.{not-true, not-false}
 use Rattle.fields.specs.rule.Row.{fitsBy, bytesBy, placesBy}
 use Rattle.fieldlaws.specs.TextLaws.{fitting}
-use Rattle.writes.specs.rule.Write.{valueOf}
+use Rattle.writes.specs.rule.Write.{lentValue}
 use Rattle.writes.proofs.Cases.{accepted, illegal, legal-fits, legal-not, ready-as, written-as, other-kind}
 use Rattle.writes.proofs.plain.write_text.Statement.{statement}
 use Rattle.writes.proofs.plain.write_text.Tie as tie
 
 returns : tie.Need-returns
-unfolding valueOf fitsBy
+unfolding lentValue fitsBy
 returns c = written-as (c .before .before .enum-told .given .1)
     (illegal (legal-not (sym (c .before .text-fits .ensures) ∙ not-true _ (c .if1 .taken))))
 
@@ -25,7 +25,7 @@ put-text-requires c κs =
     )
 
 returns-2 : tie.Need-returns-2
-unfolding valueOf fitsBy placesBy bytesBy
+unfolding lentValue fitsBy placesBy bytesBy
 returns-2 c =
     let k = c .before .before .before .before .before .before in
     written-as (k .before .enum-told .given .1) (accepted
@@ -33,7 +33,7 @@ returns-2 c =
     (c .before .before .put-text .ensures))
 
 pub write-text-spec : {M : Type 1} → statement M
-unfolding valueOf fitsBy
+unfolding lentValue fitsBy
 write-text-spec =
     tie.close
     (tie.spec

@@ -3,17 +3,17 @@ use mathlib.Core.Path.{refl}
 use borrow.Author.Needs.{needs}
 use Rattle.fields.specs.rule.Row.{fitsBy, bytesBy, placesBy}
 use Rattle.fields.specs.rule.Field.{truthBytes}
-use Rattle.writes.specs.rule.Write.{valueOf}
+use Rattle.writes.specs.rule.Write.{lentValue}
 use Rattle.writes.proofs.Cases.{accepted, written-as, other-kind}
 use Rattle.writes.proofs.plain.write_truth.Statement.{statement}
 use Rattle.writes.proofs.plain.write_truth.Tie as tie
 
 returns : tie.Need-returns
-unfolding valueOf fitsBy placesBy bytesBy truthBytes
+unfolding lentValue fitsBy placesBy bytesBy truthBytes
 returns c = written-as (c .before .enum-told .given .1) (accepted refl (rw (c .truth-byte .ensures)))
 
 pub write-truth-spec : {M : Type 1} → statement M
-unfolding valueOf fitsBy
+unfolding lentValue fitsBy
 write-truth-spec =
     tie.close
     (tie.spec
