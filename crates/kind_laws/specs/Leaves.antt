@@ -49,7 +49,8 @@ use Rattle.contents.specs.declared.Said.{Said}
 use Rattle.contents.proofs.Goes.{step-on, content-next, content-over}
 use Rattle.prologs.specs.rule.Form.{Form, done, white, room, word, value, encoding, literal, root, bracket, perhaps, which}
 use Rattle.prologs.specs.rule.Form.{XML, DOCTYPE, UTF-8, ISO-8859-1, sss, declaration, doctype}
-use Rattle.prologs.specs.rule.Told.{startBehindMark, amongOf, alikeOf, quotedString, missOf, blanks, onPassed, tellOf, declarationOf, gapTo}
+use Rattle.prologs.specs.rule.Told.{startBehindMark, amongOf, alikeOf, quotedString, missOf, blanks, onPassed, rootMissed, tellOf}
+use Rattle.prologs.specs.rule.Told.{declarationOf, gapTo}
 use Rattle.prologs.specs.rule.Told.{gapOn}
 use Rattle.prologs.specs.rule.Told.{headOf, endOfFile, behindRoot, tailFrom}
 use Rattle.prologs.specs.declared.Prolog.{Prolog}
@@ -245,7 +246,7 @@ skip-free (skip.Broken p) k h = refl
 
 module _ (bad : Bool) (d : List ℕ) (o : ℕ) where
   tell-free : (f : Form) (latin : Bool) (p : ℕ) → PrologFree (tellOf bad d o f latin p)
-  unfolding tellOf missOf
+  unfolding tellOf missOf rootMissed
   tell-free done latin p = tt
   tell-free (white f) latin p = either PrologFree (eqb (blanks d p) p) refl (tell-free f latin (blanks d p))
   tell-free (room f) latin p = tell-free f latin (blanks d p)
@@ -259,7 +260,8 @@ module _ (bad : Bool) (d : List ℕ) (o : ℕ) where
   tell-free (literal public f) latin p = skip-free (quotedString false public bad d o p) _ (λ k. tell-free f latin (k + 1))
   tell-free (root f) latin p =
       either PrologFree (bytes.stands sss (drop p d)) (tell-free f latin (p + 3))
-      (either PrologFree (leb (length d) p) refl (either PrologFree (bytes.startsName (getD d p 0)) refl refl))
+      (either PrologFree (leb (length d) p) refl
+      (either PrologFree (bytes.stands (drop p d) sss) refl (either PrologFree (bytes.startsName (getD d p 0)) refl refl)))
   tell-free (bracket f) latin p = either PrologFree (bytes.stands (91 ∷ []) (drop p d)) refl (tell-free f latin p)
   tell-free (perhaps w f g) latin p =
       either PrologFree (eqb (blanks d p) p) (tell-free g latin p)

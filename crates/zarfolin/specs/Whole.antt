@@ -12,7 +12,6 @@ use Rattle.sets.specs.rule.Sets.{filledOf}
 use Rattle.sound.specs.rule.Rows.{rowsOf}
 use Rattle.record_values.specs.declared.Whole.{Whole}
 use Rattle.record_values.specs.declared.Whole.the-variants as whole
-use Rattle.record_values.specs.rule.Record as rows
 use Rattle.record_values.specs.rule.Record.{membersOf, fourOf, RecordRead, cellOf, flagOf}
 use Rattle.record_values.specs.Room.{list-room}
 use Rattle.record_values.specs.Record.{startOf, row-numbers, row-members, usable}
@@ -28,7 +27,7 @@ pub data Same (start : ℕ) : List ℤ → List ℤ → Type 0 where
 -- the four numbers of an outcome, as the two calls tell them
 four-same : (start : ℕ) (o : Outcome) (c : Told) → c ≡ outcomeCells o
     → Same start (fourOf start o) (cellOf (c .number) ∷ c .first ∷ c .second ∷ c .third ∷ [])
-unfolding fourOf outcomeCells cellOf flagOf rows.cellOf rows.flagOf
+unfolding fourOf outcomeCells cellOf flagOf
 four-same start nothing c e = rw e alike
 four-same start (numberIs z) c e = rw e alike
 four-same start (setOf n) c e = rw e (set n)
