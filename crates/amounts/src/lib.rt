@@ -1,5 +1,7 @@
 // Values of VALUES over what a stretch says: sign, whole part, point and decimals, as 1.1 has them; and which of two numbers is the
 // smaller, by their true values. Above it stand the elements.
+#![tactic(auto)]
+
 ghost use Rattle.std.specs.Prelude.{◌≡◌, Bool, true, List, ℕ, ◌+◌, ◌-◌, ◌≤◌, ◌<◌, eqb, length};
 ghost use Rattle.scan.specs.Order.{order_then, is_less};
 ghost use Rattle.spans.specs.rule.Heard.{heard, All};
@@ -116,7 +118,7 @@ pub fn value_in(s: &[u8], place: usize, next: usize) -> Value
 }
 
 // The next digit from a place on, whatever else stands before it, and the place after it.
-#[derive(Drop)]
+#[derive(Clone, Copy)]
 pub enum Digit {
     One { code: u64, next: usize },
     Nothing,

@@ -1,12 +1,14 @@
 // What a < opens, where a tag, a comment or a text may stand and a comment doesn't: a start tag, an end tag, or what document 000 doesn't
 // name; and the end of an end tag. Above it stand contents and elements.
+#![tactic(auto)]
+
 ghost use Rattle.std.specs.Prelude.{◌≡◌, ◌+◌, ◌-◌, ◌≤◌, ◌<◌, length, drop};
 ghost use Rattle.angles.specs.rule.Angle.{close_of, bang_of, angle_of, end_of};
 
 use markup::Skip;
 
 // A start tag or an end tag, with the place where its name ends; a processing instruction or CDATA; or the place that is faulted with 50.
-#[derive(Drop)]
+#[derive(Clone, Copy)]
 pub enum Angle {
     Start(usize),
     Close(usize),

@@ -1,5 +1,7 @@
 // The classes of the 256 bytes, upper case, the powers of ten from 0 to 15 and the count of a number's digits. Above it stand
 // the scanners of a definition and everything that reads, writes or measures numbers.
+#![tactic(auto)]
+
 ghost use Rattle.std.specs.Prelude.{◌≡◌, ◌^◌, ◌<◌, ◌≤◌};
 ghost use Rattle.ascii.specs.rule.Class.{class_of, upper_of};
 ghost use Rattle.ascii.specs.Class.{Classes};

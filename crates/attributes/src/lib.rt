@@ -1,4 +1,6 @@
 // The attributes of a start tag, one at a time, each with its places; and the tag's end. Above it stand the tags.
+#![tactic(auto)]
+
 ghost use Rattle.std.specs.Prelude.{◌≡◌, ◌+◌, ◌-◌, ◌≤◌, ◌<◌, length, drop};
 ghost use Rattle.attributes.specs.rule.Attribute.{value_move, quoted_of, valued_of, equals_of, named_of, slash_of, behind_of, attribute_of};
 
@@ -6,7 +8,7 @@ use markup::{Char, Move, Skip};
 
 // An attribute: its name from `name` to `nameend`, its value from `value` to `valueend`; or the tag's end; or the place that is
 // faulted with 50.
-#[derive(Drop)]
+#[derive(Clone, Copy)]
 pub enum Attribute {
     One {
         name: usize,

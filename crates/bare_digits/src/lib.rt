@@ -1,4 +1,6 @@
 // The digits of a number as they stand, without the zeros in front: no number is made of them. Above it stands the export of a file.
+#![tactic(auto)]
+
 ghost use Rattle.std.specs.Prelude.{◌≡◌, ◌≤◌, length, drop};
 ghost use Rattle.fields.specs.rule.Number.{unspaced};
 ghost use Rattle.sink.specs.rule.Sent.{Sent};

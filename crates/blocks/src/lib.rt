@@ -1,5 +1,7 @@
 // `<values>` of a definition in XML: a range and lines, or lines, each read whole and then judged as those of 1.1 are, with 51 behind.
 // Above it stand the sheets.
+#![tactic(auto)]
+
 ghost use Rattle.std.specs.Prelude.{◌≡◌, true, List, ℕ, ◌+◌, ◌*◌, ◌-◌, ◌≤◌, ◌<◌, ℤ, length};
 ghost use Rattle.layout.specs.rule.Layout.{line_size, most_lines};
 ghost use Rattle.tags.specs.rule.Tag.{stretch_fits};
@@ -130,7 +132,7 @@ fn grown(b: Block, v: Value) -> Block
 }
 
 // A range or a line that was read: what the block has said with it, and the place after it.
-#[derive(Drop)]
+#[derive(Clone, Copy)]
 pub enum Lined {
     Is { block: Block, next: usize },
     Not(Fault),
@@ -217,7 +219,7 @@ pub fn range_at(bad: bool, d: &[u8], place: usize, end: usize, quantity: bool) -
 }
 
 // A line as it was read: its value and text, and what else was found in its element.
-#[derive(Drop)]
+#[derive(Clone, Copy)]
 pub enum Worded {
     Is { said: Said, found: Found },
     Not(Fault),

@@ -1,11 +1,13 @@
 // One number of a table: as a count, as a sign and a size, compared, read where it may not be there, and the one loop that
 // copies numbers into a table. Above it stand the layout of a table and the test of one.
+#![tactic(auto)]
+
 ghost use Rattle.std.specs.Prelude.{◌≡◌, ◌+◌, ◌≤◌, ◌<◌, length, pos};
 ghost use Rattle.std.specs.Int.Signed.{le_z};
 ghost use Rattle.cells.specs.rule.Cell.{cell, count_of, signed_of, number_of, eq_z, pasted};
 
 // A sign and a size. Zero has no minus.
-#[derive(Drop)]
+#[derive(Clone, Copy)]
 pub struct Signed {
     pub minus: bool,
     pub size: u64,

@@ -1,5 +1,7 @@
 // Clean definitions written into a lent buffer: the public call. The definition is read and held against the table; then one walk over it
 // writes the clean text, and where the buffer may be too short for it the same walk measures it before. Above it stands the face.
+#![tactic(auto)]
+
 ghost use Rattle.std.specs.Prelude.{◌≡◌, true, ◌*◌, ◌≤◌, length};
 ghost use Rattle.ascii.specs.Class.{Classes};
 ghost use Rattle.ascii.specs.rule.Tens.{Tens};
@@ -13,7 +15,7 @@ use laying::Rooms;
 use layout::{Header, Line, Row};
 
 // The outcome: how long the clean text is; or the refusal's number and place.
-#[derive(Drop)]
+#[derive(Clone, Copy)]
 pub enum Written {
     Done(usize),
     Refused { number: usize, place: usize },

@@ -1,5 +1,7 @@
 // The columns of a table, and what they hold of a record: counted, and written as presence bytes and values. The table was tested. Above it
 // stands the matrix of a file.
+#![tactic(auto)]
+
 ghost use Rattle.std.specs.Prelude.{◌≡◌, true, false, ℕ, ◌+◌, ◌-◌, ◌^◌, ◌≤◌, ◌<◌, List, [], ◌∷◌, pos, length, get_or};
 ghost use Rattle.below.specs.rule.Below.{any_below};
 ghost use Rattle.ascii.specs.rule.Tens.{Tens};
@@ -40,7 +42,7 @@ use numbers::Numeral;
 use readings::Answer;
 
 // What was made of a row's marks: the first gap in them behind 1, and how many columns the row has.
-#[derive(Drop)]
+#[derive(Clone, Copy)]
 pub struct Marking {
     pub gap: usize,
     pub count: usize,
@@ -48,7 +50,7 @@ pub struct Marking {
 
 // What was put of a row in a record: whether it holds a set, and whether that is one whose members all stand before the row's first gap, so
 // that they are marked besides those of the records before.
-#[derive(Drop)]
+#[derive(Clone, Copy)]
 pub struct Put {
     pub there: bool,
     pub near: bool,
@@ -562,7 +564,7 @@ fn put_far(
 }
 
 // What a list holds of a set: whether there is one, and in how many of its first numbers; zeros among them don't count.
-#[derive(Drop)]
+#[derive(Clone, Copy)]
 pub struct Listed {
     pub there: bool,
     pub count: usize,

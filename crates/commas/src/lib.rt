@@ -1,5 +1,7 @@
 // Comma-separated text sent to a lent buffer: fields, quoted where they need it, commas and line ends. Above it stands the export of a data
 // file.
+#![tactic(auto)]
+
 ghost use Rattle.std.specs.Prelude.{◌≡◌, ◌||◌, [], ◌∷◌, ◌+◌, ◌≤◌, length, drop};
 ghost use Rattle.commas.specs.rule.Csv.{is_special, holds_special, doubled_byte, doubled, field_bytes};
 ghost use Rattle.sink.specs.rule.Sent.{Sent};

@@ -1,5 +1,7 @@
 // The content of a text element: characters, references, comments, breaks and texts in other languages. One step serves the reader, which
 // looks for the end tag, and the decoder, which says the text's signs; so they agree. Above it stand elements.
+#![tactic(auto)]
+
 ghost use Rattle.std.specs.Prelude.{◌≡◌, Bool, true, false, cond, ◌&&◌, [], ◌∷◌, ◌+◌, ◌-◌, ◌≤◌, ◌<◌, length, drop, get_or};
 ghost use Rattle.contents.specs.rule.Step.{heard_of, go_on_saying, broken_at, bracket_at, return_at, refer_at, note_at, pair_at, break_at};
 ghost use Rattle.contents.specs.rule.Step.{language_at, other_at, mode_in, step_kind, start_at, close_at, mark_at, step_of};
@@ -16,7 +18,7 @@ use tags::Tag;
 
 // Where a reader stands in a text: whether inside <text>, the place of the first attribute that isn't known (0: none), and the place to
 // go on from.
-#[derive(Drop)]
+#[derive(Clone, Copy)]
 pub struct Going {
     pub inside: bool,
     pub unknown: usize,
@@ -24,7 +26,7 @@ pub struct Going {
 }
 
 // What a step says: nothing, a break, a byte of the file or a character.
-#[derive(Drop)]
+#[derive(Clone, Copy)]
 pub enum Said {
     Nothing,
     Break,
@@ -34,7 +36,7 @@ pub enum Said {
 
 // A text that was read up to its end tag's < at `end`, and the place after that tag; or one that a start tag, or something that document
 // 000 doesn't name, cuts, which is 51; or the first 2 or 50 met.
-#[derive(Drop)]
+#[derive(Clone, Copy)]
 pub enum Content {
     Read {
         end: usize,
@@ -51,7 +53,7 @@ pub enum Content {
     },
 }
 
-#[derive(Drop)]
+#[derive(Clone, Copy)]
 pub enum Step {
     More { going: Going, said: Said },
     Over(Content),
@@ -560,7 +562,7 @@ fn step_alone(d: &[u8], g: Going) -> Step
 }
 
 // What is said next, and where the reader stands behind it; or nothing more is.
-#[derive(Drop)]
+#[derive(Clone, Copy)]
 pub enum Heard {
     Break(Going),
     Byte { byte: u8, going: Going },
@@ -597,7 +599,7 @@ fn next_heard(d: &[u8], at: Going) -> Heard
 }
 
 // Where the decoder stands: in the text, and in a character of whose bytes so many were said.
-#[derive(Drop)]
+#[derive(Clone, Copy)]
 pub struct Cursor {
     pub inside: bool,
     pub unknown: usize,
@@ -607,7 +609,7 @@ pub struct Cursor {
 }
 
 // A sign, and where the decoder stands behind it; or the text is over.
-#[derive(Drop)]
+#[derive(Clone, Copy)]
 pub enum Part {
     One { sign: Sign, cursor: Cursor },
     Over,

@@ -1,5 +1,7 @@
 // One correction of a list: what it asks, the number that marks it, and its single write by a table that was tested before.
 // Above it stands the face, whose loop hands the corrections of a lent list to `correct`, one by one.
+#![tactic(auto)]
+
 ghost use Rattle.std.specs.Prelude.{◌≡◌, cond, [], leb, length};
 ghost use Rattle.sound.specs.rule.Rows.{rows_of};
 ghost use Rattle.writes.specs.rule.Write.{lent_value};
@@ -15,7 +17,7 @@ use writes::{Value, Wrote};
 
 // A value, as a caller lends it: its kind as it is read, 0 missing, 1 a number, 4 a truth; and the number or the truth.
 #[repr(C)]
-#[derive(Drop)]
+#[derive(Clone, Copy)]
 pub struct Given {
     pub kind: u64,
     pub number: i64,
@@ -23,7 +25,7 @@ pub struct Given {
 
 // A correction, as a caller lends it. What the mark held before is not looked at.
 #[repr(C)]
-#[derive(Drop)]
+#[derive(Clone, Copy)]
 pub struct Correction {
     pub row: u64,
     pub value: Given,
@@ -31,7 +33,7 @@ pub struct Correction {
 }
 
 // What a correction asks: a value to be written, or what no row takes.
-#[derive(Drop)]
+#[derive(Clone, Copy)]
 pub enum Request {
     Write(Value),
     OtherTruth,

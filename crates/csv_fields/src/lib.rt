@@ -1,4 +1,6 @@
 // Comma-separated text cut into fields: a field, what stops it, or that it is malformed. Above it stands the import of a text.
+#![tactic(auto)]
+
 ghost use Rattle.std.specs.Prelude.{◌≡◌, ◌≤◌, length, drop};
 ghost use Rattle.csv_fields.specs.rule.Page.{page, fresh, inside, bare};
 ghost use Rattle.csv_fields.specs.Page.{BareTo, QuoteTo, StopsAs, CutAs, CutFrom, Ahead, SpanOf, cut_of, quote_at};
@@ -6,7 +8,7 @@ ghost use Rattle.csv_fields.specs.Page.{BareTo, QuoteTo, StopsAs, CutAs, CutFrom
 // A field in the text: its bytes, in which a quote is written as two, from a place to another; whether there is none; and where what
 // follows
 // begins. It has a comma behind it, or ends its line, or is malformed.
-#[derive(Drop)]
+#[derive(Clone, Copy)]
 pub enum Cut {
     Comma {
         from: usize,
@@ -24,7 +26,7 @@ pub enum Cut {
 }
 
 // The same without its case, for whoever treats every field alike: one call in a loop, which the compiler then puts into it.
-#[derive(Drop)]
+#[derive(Clone, Copy)]
 pub struct Span {
     pub from: usize,
     pub to: usize,
@@ -35,7 +37,7 @@ pub struct Span {
 }
 
 // What stands where a field has ended.
-#[derive(Drop)]
+#[derive(Clone, Copy)]
 pub enum Stop {
     Comma(usize),
     Last(usize),

@@ -1,4 +1,6 @@
 // A data file cut into records: its terminator, and the next record from a place on. Above it stands the judge of a file.
+#![tactic(auto)]
+
 ghost use Rattle.std.specs.Prelude.{◌≡◌, true, ◌+◌, ◌≤◌, ◌<◌, length, drop};
 ghost use Rattle.cuts.specs.rule.Cut.{terminator_at, terminator_of, whole_at, begins_at, next_from, NextFound, Found};
 ghost use Rattle.lows.specs.Lows.{Clear};
@@ -6,7 +8,7 @@ ghost use Rattle.cuts.specs.Cut.{FirstLow, Unbroken, Ending};
 ghost use Rattle.cuts.specs.Records.{PlainNext, PlainRun};
 
 // A file's terminator: one byte or two, and how many; none where the file has no CR and no LF.
-#[derive(Drop)]
+#[derive(Clone, Copy)]
 pub struct Terminator {
     pub first: u8,
     pub second: u8,
@@ -14,7 +16,7 @@ pub struct Terminator {
 }
 
 // The next record: where it starts and ends, and where the one after it starts; a record with no terminator; or none.
-#[derive(Drop)]
+#[derive(Clone, Copy)]
 pub enum Next {
     Ended {
         start: usize,

@@ -1,4 +1,6 @@
 // A text of a definition of either kind, decoded for a caller. Above it stands the face.
+#![tactic(auto)]
+
 ghost use Rattle.decoding.specs.rule.Both.{BothDecoded};
 
 use texts::Decoded;

@@ -1,6 +1,8 @@
 // A Triple-S 1.1 definition read into a lent table: the public call. The text is read once, into rows and lines of the call's own,
 // so that every refusal keeps the table; they are laid into it at the end, or held against it where a caller asks whether a table is the
 // definition's own. Above it stand the face, the lister and the writers of texts.
+#![tactic(auto)]
+
 ghost use Rattle.std.specs.Prelude.{◌≡◌, [], ◌+◌, ◌-◌, ◌*◌, ◌≤◌, ◌<◌, length};
 ghost use Rattle.ascii.specs.Class.{Classes};
 ghost use Rattle.ascii.specs.rule.Tens.{Tens};
@@ -24,14 +26,14 @@ use layout::{Header, Row};
 use tokens::{Choice, Fault, Reading};
 
 // The outcome: how many variables and value lines were read; or the refusal's number and place.
-#[derive(Drop)]
+#[derive(Clone, Copy)]
 pub enum Answer {
     Read { rows: usize, lines: usize },
     Refused { number: usize, place: usize },
 }
 
 // What follows a variable: another one, or END and the place after it.
-#[derive(Drop)]
+#[derive(Clone, Copy)]
 pub enum Turn {
     More {
         ident: usize,
@@ -109,7 +111,7 @@ fn one_variable(
 }
 
 // The variables and the END behind them, with the place after it.
-#[derive(Drop)]
+#[derive(Clone, Copy)]
 pub enum Run {
     Is { tally: Tally, next: usize },
     Not(Fault),
@@ -306,7 +308,7 @@ pub fn read_definition(d: &[u8], table: &mut [i64]) -> Answer
 }
 
 // Whether a table is the one that a definition yields; or the definition's refusal, 1 to 9.
-#[derive(Drop)]
+#[derive(Clone, Copy)]
 pub enum Against {
     Same,
     Other,

@@ -2,3 +2,5 @@
 // and
 // filters, texts of both kinds, and comma-separated text. What their statements cite is held to the rule (tools/believe). Nothing stands
 // above it.
+#![tactic(auto)]
+

@@ -1,5 +1,7 @@
 // Numbers back to bytes: the digits of a number, zeros in front, with its minus and its point, put straight at a run of places, from
 // the last digit to the minus. Above it stand the writer of records and whatever prints numbers.
+#![tactic(auto)]
+
 ghost use Rattle.std.specs.Prelude.{◌≡◌, ◌+◌, ◌^◌, ◌≤◌, ◌<◌, length};
 ghost use Rattle.places.specs.rule.Places.{put, run};
 ghost use Rattle.ascii.specs.rule.Tens.{Tens};

@@ -1,5 +1,7 @@
 // The elements of a definition in XML that hold no others, and what stands where a tag is due: texts, position, spread, size, each read
 // whole and then judged as 1.1's statements are, with 51 behind. Above it stand blocks, prefaces, filters and sheets.
+#![tactic(auto)]
+
 ghost use Rattle.std.specs.Prelude.{◌≡◌, Bool, true, false, cond, List, [], ◌∷◌, ◌++◌, ℕ, ◌+◌, ◌-◌, ◌≤◌, ◌<◌, eqb, ltb, length};
 ghost use Rattle.std.proofs.Math.Option.{none, some};
 ghost use Rattle.tokens.specs.rule.Gap.{fault};
@@ -29,7 +31,7 @@ use tokens::{Fault, Figures, Number, Phrase, Quoted};
 
 // What stands inside an element where a tag is due: a start tag, with the place of its < and of its name's end; the end tag of the element
 // around, with the place of its < and the place after it; or what is refused.
-#[derive(Drop)]
+#[derive(Clone, Copy)]
 pub enum Open {
     Start { place: usize, end: usize },
     Shut { place: usize, next: usize },
@@ -102,7 +104,7 @@ pub fn is_start(d: &[u8], o: Open, w: &[u8]) -> bool
 }
 
 // The start tag that is due, with the place of its < and of its name's end; or what is refused since another thing stands there.
-#[derive(Drop)]
+#[derive(Clone, Copy)]
 pub enum Due {
     At { place: usize, end: usize },
     Not(Fault),
@@ -131,7 +133,7 @@ pub fn tag_due(bad: bool, d: &[u8], o: Open, w: &[u8]) -> Due
 }
 
 // The end of an element that holds nothing: the least fault behind its start tag, and the place to go on from.
-#[derive(Drop)]
+#[derive(Clone, Copy)]
 pub enum Passed {
     Is { found: Found, next: usize },
     Not(Fault),
@@ -160,7 +162,7 @@ pub fn pass_pair(bad: bool, d: &[u8], at: usize, empty: bool, w: &[u8]) -> Passe
 }
 
 // A text behind its start tag: where it lies, whether nothing cuts it, the least fault in it, and the place to go on from.
-#[derive(Drop)]
+#[derive(Clone, Copy)]
 pub struct Body {
     pub place: usize,
     pub length: usize,
@@ -169,7 +171,7 @@ pub struct Body {
     pub next: usize,
 }
 
-#[derive(Drop)]
+#[derive(Clone, Copy)]
 pub enum Bodied {
     Is(Body),
     Not(Fault),

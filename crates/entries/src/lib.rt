@@ -1,4 +1,6 @@
 // A variable from VARIABLE to END VARIABLE, as a row of the table. Above it stands the definition as a whole.
+#![tactic(auto)]
+
 ghost use Rattle.std.specs.Prelude.{◌≡◌, ◌+◌, ◌*◌, ◌≤◌, ◌<◌, length};
 ghost use Rattle.ascii.specs.Class.{Classes};
 ghost use Rattle.ascii.specs.rule.Tens.{Tens};
@@ -15,7 +17,7 @@ use tokens::{Fault, Reading};
 use variables::{Head, Headed, Rest, Rested};
 
 // A variable that stands: its columns, how many value lines there are then in all, and the place after END VARIABLE.
-#[derive(Drop)]
+#[derive(Clone, Copy)]
 pub enum Stood {
     Is {
         columns: Columns,

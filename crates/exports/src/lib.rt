@@ -1,5 +1,7 @@
 // A data file as comma-separated text: a line of names, and a line for each record before the first fault. The table is tested and held
 // against the definition, the data judged, the text measured, and only then is a byte of it written. Above it stands the face.
+#![tactic(auto)]
+
 ghost use Rattle.std.specs.Prelude.{◌≡◌, true, false, ◌++◌, ◌≤◌, ◌<◌, leb, length, drop};
 ghost use Rattle.ascii.specs.Class.{Classes};
 ghost use Rattle.cuts.specs.rule.Cut.{Found};
@@ -22,7 +24,7 @@ use files::Judgement;
 use layout::Header;
 
 // What becomes of an export: it is refused, or written, with what the data were judged to be and the length of the text.
-#[derive(Drop)]
+#[derive(Clone, Copy)]
 pub enum Export {
     BadTable,
     OtherTable,

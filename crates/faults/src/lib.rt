@@ -1,5 +1,7 @@
 // What is wrong with a row: the leftmost byte that cannot stand, or the first number that is not legal. Asked only where the quick
 // judges say that a row is illegal, so it is plain and not quick. Above it stand the public calls on records.
+#![tactic(auto)]
+
 ghost use Rattle.std.specs.Prelude.{◌≡◌, not, List, [], ℕ, ◌+◌, ◌-◌, ◌*◌, ◌≤◌, ◌<◌, length};
 ghost use Rattle.places.specs.rule.Places.{pick, run};
 ghost use Rattle.fields.specs.rule.Legal.{legal};
@@ -21,7 +23,7 @@ use numbers::Numeral;
 
 // No fault; a byte at a place of the record that cannot stand there; a number that is not legal; no point at the place of a quantity's
 // point, or a point elsewhere in it.
-#[derive(Drop)]
+#[derive(Clone, Copy)]
 pub enum Fault {
     Sound,
     Stray(usize),
@@ -30,7 +32,7 @@ pub enum Fault {
 }
 
 // Which bytes a kind of field without numbers holds.
-#[derive(Drop)]
+#[derive(Clone, Copy)]
 pub enum Test {
     Space,
     Bit,

@@ -2,6 +2,8 @@
 // to the row's places. No field is cut, and nothing is written before the whole field is judged. It may give up, and then keeps the record.
 // These are the functions of `field_judges` once more, with a write in each: a judge that both passes of an import call has the row in
 // memory for every field, and is slower than both. Above it stand the lines of an import.
+#![tactic(auto)]
+
 ghost use Rattle.std.specs.Prelude.{◌≡◌, true, ◌≤◌, length};
 ghost use Rattle.ascii.specs.rule.Tens.{Tens};
 ghost use Rattle.layout.specs.declared.Kind.TheVariants as kind;
@@ -14,7 +16,7 @@ ghost use Rattle.field_builds.specs.Built.{BuiltAt, CodesIn};
 use layout::{Format, Kind, Row, Spread};
 
 // Codes that were read: how many, and the place behind them.
-#[derive(Drop)]
+#[derive(Clone, Copy)]
 struct Codes {
     count: usize,
     at: usize,

@@ -1,6 +1,8 @@
 // A field judged where it stands in a text: what export writes is read in one walk, up to the comma or the CR behind it, and asked of the
 // row. Nothing is cut, listed or written. It may give up, and then says nothing: the field is cut and taken then. Above it stands the
 // judgement of a line.
+#![tactic(auto)]
+
 ghost use Rattle.std.specs.Prelude.{◌≡◌, true, ◌≤◌, length};
 ghost use Rattle.fields.specs.Facts.{LineFacts};
 ghost use Rattle.layout.specs.declared.Kind.TheVariants as kind;

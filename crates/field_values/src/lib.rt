@@ -1,4 +1,6 @@
 // A field of a text as a value of its row, written to a record if the row's write accepts it. Above it stands the import of a text.
+#![tactic(auto)]
+
 ghost use Rattle.std.specs.Prelude.{◌≡◌, true, cond, ◌+◌, ◌-◌, ◌*◌, ◌≤◌, min, length};
 ghost use Rattle.ascii.specs.rule.Tens.{Tens};
 ghost use Rattle.layout.specs.declared.Kind.TheVariants as kind;

@@ -1,4 +1,6 @@
 // A whole data file judged by a table: record after record, up to the first fault. Above it stand the lister and the face.
+#![tactic(auto)]
+
 ghost use Rattle.std.specs.Prelude.{◌≡◌, true, ◌+◌, ◌≤◌, ◌<◌, length, drop};
 ghost use Rattle.lows.specs.Lows.{Clear};
 ghost use Rattle.cuts.specs.Cut.{FirstLow, Ending};
@@ -20,7 +22,7 @@ use readings::many::Batch;
 use records::{Found, Judged};
 
 // What a file is judged to be: sound, with the count of its records; or the first fault, with its record from 1.
-#[derive(Drop)]
+#[derive(Clone, Copy)]
 pub enum Judgement {
     Sound(usize),
     BadTable,
@@ -30,7 +32,7 @@ pub enum Judgement {
 }
 
 // A place of a file, how far no byte below 32 stands behind it as far as is known, and how many records end before it.
-#[derive(Drop)]
+#[derive(Clone, Copy)]
 struct Place {
     from: usize,
     clear: usize,

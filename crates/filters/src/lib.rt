@@ -1,5 +1,7 @@
 // The start tag of a variable with its use, and names compared: those that have served as filters, the filter that a text names, and the
 // names of all variables. Above it stands the sheet.
+#![tactic(auto)]
+
 ghost use Rattle.std.specs.Prelude.{◌≡◌, true, cond, ◌+◌, ◌*◌, ◌≤◌, ◌<◌, eqb, length};
 ghost use Rattle.ascii.specs.Class.{Classes};
 ghost use Rattle.ascii.specs.rule.Class.{upper_of};
@@ -48,7 +50,7 @@ fn like(standard: bool, x: Sign, y: Sign) -> bool
 }
 
 // Two names a sign on, which they share; or whether they are one.
-#[derive(Drop)]
+#[derive(Clone, Copy)]
 pub enum Met {
     On { a: Cursor, b: Cursor },
     Over(bool),
@@ -85,7 +87,7 @@ fn is_plain(b: u8) -> bool
 }
 
 // How many bytes that say themselves two texts share at their start; or that they differ there. It answers for most names.
-#[derive(Drop)]
+#[derive(Clone, Copy)]
 pub enum Lead {
     Shared(usize),
     Apart,
@@ -190,7 +192,7 @@ fn folded(sign: Sign) -> u64
 }
 
 // The sum of a text's first bytes that say themselves, and the place behind them.
-#[derive(Drop)]
+#[derive(Clone, Copy)]
 pub struct Summed {
     pub sum: u16,
     pub next: usize,
@@ -543,7 +545,7 @@ pub fn use_wrong(rows: &[i64], count: usize, usage: usize, kind: usize) -> bool
 
 // ---- the start tag of a variable
 // Its ident, its type, its use, and the place behind it.
-#[derive(Drop)]
+#[derive(Clone, Copy)]
 pub enum Titled {
     Is {
         ident: u64,
@@ -708,7 +710,7 @@ pub fn naming_at(
 }
 
 // The row, plus one, that filters a variable, and the place behind `</filter>`.
-#[derive(Drop)]
+#[derive(Clone, Copy)]
 pub enum Filtered {
     Is { filter: usize, next: usize },
     Not(Fault),

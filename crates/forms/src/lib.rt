@@ -1,5 +1,7 @@
 // The forms of attributes' values: a number, a value, a letter, a type, a use, an option. Above it stand the tags, which ask them in the
 // order of the attributes, and the elements, which take the types and uses from here.
+#![tactic(auto)]
+
 ghost use Rattle.std.specs.Prelude.{◌≡◌};
 ghost use Rattle.spans.specs.rule.Heard.{heard};
 ghost use Rattle.forms.specs.rule.Form.{form_kind, use_of, fits_of};

@@ -1,6 +1,8 @@
 // All that stands before the first variable of a definition that was read before: where its texts are, whatever their order; and the clean
 // text
 // as a whole, sent to be measured or stored. Above it stands the call that writes clean definitions.
+#![tactic(auto)]
+
 ghost use Rattle.std.specs.Prelude.{◌≡◌, true, cond, ◌<◌};
 ghost use Rattle.ascii.specs.Class.{Classes};
 ghost use Rattle.ascii.specs.rule.Tens.{Tens};
@@ -18,7 +20,7 @@ use tokens::Reading;
 
 // A statement of the heading: 0 DATE, 1 TIME, 2 ORIGIN, 3 USER, 4 STANDARD, and the place behind its word; 5 another, and where it was
 // looked for.
-#[derive(Drop)]
+#[derive(Clone, Copy)]
 pub struct Item {
     pub which: usize,
     pub next: usize,
@@ -81,7 +83,7 @@ fn item_past(classes: &[u8; 256], d: &[u8], i: Item) -> usize
 }
 
 // A letter, and the place behind it.
-#[derive(Drop)]
+#[derive(Clone, Copy)]
 pub struct Letter {
     pub byte: u8,
     pub next: usize,
@@ -130,7 +132,7 @@ fn past_opening(classes: &[u8; 256], d: &[u8]) -> usize
 }
 
 // Where the statements of the heading are, and the place behind them.
-#[derive(Drop)]
+#[derive(Clone, Copy)]
 pub struct Items {
     pub date: Found,
     pub time: Found,
@@ -243,7 +245,7 @@ fn either_place(q: bool, a: usize, b: usize) -> usize
 }
 
 // What stands before the first variable.
-#[derive(Drop)]
+#[derive(Clone, Copy)]
 pub struct Front {
     pub items: Items,
     pub title: Found,

@@ -1,5 +1,7 @@
 // What stands between VERSION and SURVEY: DATE, TIME, ORIGIN, USER and STANDARD NAMES, in any order and each at most once. Above it
 // stands the definition as a whole.
+#![tactic(auto)]
+
 ghost use Rattle.std.specs.Prelude.{◌≡◌};
 ghost use Rattle.ascii.specs.Class.{Classes};
 ghost use Rattle.heading.specs.Heading.{entry_of, again, text_at, with_text, once_of, kept_of, text_entry, name_entry, no_heading};
@@ -8,7 +10,7 @@ ghost use Rattle.heading.specs.Heading.{entries_on, front_of, front_on};
 use tokens::{Choice, Fault, Phrase, Quoted, Reading};
 
 // The texts of the heading, each 0 where it was not given, and whether STANDARD NAMES was.
-#[derive(Drop)]
+#[derive(Clone, Copy)]
 pub struct Heading {
     pub date: Quoted,
     pub time: Quoted,
@@ -18,7 +20,7 @@ pub struct Heading {
 }
 
 // The statement that begins here: the text with a number, 0 DATE, 1 TIME, 2 ORIGIN, 3 USER; STANDARD; or another.
-#[derive(Drop)]
+#[derive(Clone, Copy)]
 pub enum Entry {
     Text { which: usize, next: usize },
     Standard(usize),
@@ -117,7 +119,7 @@ fn kept_text(q: Quoted, p: Phrase) -> Quoted
 }
 
 // The heading so far, and where reading stands, behind the notes before the next statement.
-#[derive(Drop)]
+#[derive(Clone, Copy)]
 pub struct Entered {
     pub heading: Heading,
     pub next: Reading,
@@ -215,7 +217,7 @@ pub fn entries_on(classes: &[u8; 256], d: &[u8], t: Reading) -> Entered
 
 // All that stands before the first variable: the heading, the title, 0 where there is none, and where reading stands behind RECORD
 // and its letter.
-#[derive(Drop)]
+#[derive(Clone, Copy)]
 pub struct Front {
     pub heading: Heading,
     pub title: Quoted,

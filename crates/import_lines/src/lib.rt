@@ -1,5 +1,7 @@
 // A line of a text that is imported: its fields cut, each taken as a value of its row, and what the line then says. Above it stand the name
 // line and the passes of an import.
+#![tactic(auto)]
+
 ghost use Rattle.std.specs.Prelude.{◌≡◌, false, cond, ◌+◌, ◌-◌, ◌≤◌, ◌<◌, min, length, drop};
 ghost use Rattle.ascii.specs.rule.Tens.{Tens};
 ghost use Rattle.fields.specs.rule.Field.{spaces};
@@ -21,7 +23,7 @@ use layout::Row;
 
 // How a line ends: with a record in the slot, and where the next line begins; with a refusal's number and column; or with the column of a
 // field that is malformed.
-#[derive(Drop)]
+#[derive(Clone, Copy)]
 pub enum LineEnd {
     Good(usize),
     Refused(usize, usize),

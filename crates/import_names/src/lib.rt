@@ -1,4 +1,6 @@
 // The name line of a text that is imported, compared column by column with the names of a definition. Above it stands the import of a text.
+#![tactic(auto)]
+
 ghost use Rattle.std.specs.Prelude.{◌≡◌, false, ◌+◌, ◌≤◌, ◌<◌, length};
 ghost use Rattle.ascii.specs.Class.{Classes};
 ghost use Rattle.layout.specs.rule.Layout.{row_base, most_rows};
@@ -13,7 +15,7 @@ use marks::{Inside, Part};
 
 // How the name line ends: as is due, and where the next line begins; with the first column that differs; or with the column of a field that
 // is malformed.
-#[derive(Drop)]
+#[derive(Clone, Copy)]
 pub enum NamesEnd {
     Same(usize),
     Differs(usize),

@@ -1,5 +1,7 @@
 // The lines behind the name line, twice: judged, which tells how many records they build or the first refusal, and then built. Above it
 // stands the import of a text.
+#![tactic(auto)]
+
 ghost use Rattle.std.specs.Prelude.{◌≡◌, ◌++◌, ◌+◌, ◌*◌, ◌≤◌, ◌<◌, length, drop};
 ghost use Rattle.ascii.specs.rule.Tens.{Tens};
 ghost use Rattle.sound.specs.rule.Rows.{rows_of, length_of};
@@ -12,7 +14,7 @@ ghost use Rattle.import_passes.specs.Passes.{LineEnded, Accepted, JudgedAs};
 use import_lines::LineEnd;
 
 // So many records; or a refusal's number, line and column.
-#[derive(Drop)]
+#[derive(Clone, Copy)]
 pub enum Judged {
     Done(usize),
     Refused {

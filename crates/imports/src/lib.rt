@@ -1,5 +1,7 @@
 // A comma-separated text imported into a data file by a table and its definition. The table is tested and held against the definition, the
 // text judged to its end, and only then is a byte of the data written. Above it stands the face.
+#![tactic(auto)]
+
 ghost use Rattle.std.specs.Prelude.{◌≡◌, ◌≤◌, length, drop};
 ghost use Rattle.ascii.specs.rule.Tens.{Tens};
 ghost use Rattle.sound.specs.rule.Rows.{rows_of, length_of};
@@ -16,7 +18,7 @@ use import_passes::Judged;
 use layout::Header;
 
 // What becomes of an import: it is refused, 61 to 64 with line and column; or written, so many records, so many bytes.
-#[derive(Drop)]
+#[derive(Clone, Copy)]
 pub enum Import {
     BadTable,
     OtherTable,

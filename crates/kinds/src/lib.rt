@@ -1,6 +1,8 @@
 // A definition of either kind, 1.1 or XML, read into a lent table or held against one: the public calls. The rooms for rows and lines
 // are made here, whichever reader fills them: few for a short definition of 1.1, so that little has to be cleared, and where they prove
 // too few, or for any other, those of the most rows and lines. Above it stand the face, the lister and the export.
+#![tactic(auto)]
+
 ghost use Rattle.std.specs.Prelude.{◌≡◌, false, ◌≤◌, length};
 ghost use Rattle.values.specs.Room.{Unless};
 ghost use Rattle.definition.specs.Code.{Lacking};

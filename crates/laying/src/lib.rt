@@ -1,6 +1,8 @@
 // What the two kinds of a definition have in common once their variables are read: rows and lines in rooms of the call's own, laid into a
 // lent table or held against one. Nothing here knows a text; the kind is told by the mark, a table's first number. Above it stand the
 // reader of 1.1, the reader of XML and the call for both.
+#![tactic(auto)]
+
 ghost use Rattle.std.specs.Prelude.{◌≡◌, ◌&&◌, ◌+◌, ◌*◌, ◌≤◌, ◌<◌, length, drop};
 ghost use Rattle.cells.specs.rule.Cell.{pasted};
 ghost use Rattle.layout.specs.rule.Layout.{mark_xml, row_size, line_size, line_base, most_rows, most_lines};
@@ -15,7 +17,7 @@ pub const ROWS_ROOM: usize = Row::SIZE * Header::MOST_ROWS;
 pub const LINES_ROOM: usize = Line::SIZE * Header::MOST_LINES;
 
 // What the variables so far come to: how many they are, their value lines in all, and the highest finish.
-#[derive(Drop)]
+#[derive(Clone, Copy)]
 pub struct Tally {
     pub rows: usize,
     pub lines: usize,
@@ -24,7 +26,7 @@ pub struct Tally {
 
 // What the rooms of a call hold, once a definition is read and judged but for the lent table's length: so many rows and lines; or the
 // refusal's number and place.
-#[derive(Drop)]
+#[derive(Clone, Copy)]
 pub enum Rooms {
     Held(Tally),
     Refused { number: usize, place: usize },

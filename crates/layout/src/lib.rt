@@ -1,25 +1,27 @@
 // The layout of a table: its header, rows and lines, the numbers of their columns and sizes, each named once, and what the
 // numbers of a row mean. Above it stand the widths of numbers, the test of a table and everything that reads a row.
+#![tactic(auto)]
+
 ghost use Rattle.std.specs.Prelude.{◌≡◌, ◌+◌, ◌≤◌, length};
 ghost use Rattle.layout.specs.rule.Layout.{row_size, line_size, row_base, line_base, most_rows, most_lines, header_of, columns_at, line_at};
 ghost use Rattle.layout.specs.rule.Row.{spread_of, kind_of, row_of, row_at};
 
 // How a quantity's numbers stand in the data: how many decimals, and the code of its point: 0 none, 1 a point, 2 a point that needs no
 // digit before it.
-#[derive(Drop)]
+#[derive(Clone, Copy)]
 pub struct Format {
     pub decimals: usize,
     pub point: usize,
 }
 
 // How a multiple's set stands in the data: a byte for each category, or so many subfields of so many bytes.
-#[derive(Drop)]
+#[derive(Clone, Copy)]
 pub enum Spread {
     Bits,
     Fields { count: usize, width: usize },
 }
 
-#[derive(Drop)]
+#[derive(Clone, Copy)]
 pub enum Kind {
     Single,
     Multiple(Spread),
@@ -29,7 +31,7 @@ pub enum Kind {
 }
 
 // The header's numbers, as counts.
-#[derive(Drop)]
+#[derive(Clone, Copy)]
 pub struct Header {
     pub mark: usize,
     pub rows: usize,
@@ -40,7 +42,7 @@ pub struct Header {
 }
 
 // A row's numbers as they stand, as counts but for from and to.
-#[derive(Drop)]
+#[derive(Clone, Copy)]
 pub struct Columns {
     pub ident: usize,
     pub kind: usize,
@@ -65,7 +67,7 @@ pub struct Columns {
 }
 
 // A line's numbers, as counts but for its value.
-#[derive(Drop)]
+#[derive(Clone, Copy)]
 pub struct Line {
     pub value: i64,
     pub special: usize,
@@ -74,7 +76,7 @@ pub struct Line {
 }
 
 // A row as what its numbers mean. Use and filter are not among them: no reading, judgement or write goes by these.
-#[derive(Drop)]
+#[derive(Clone, Copy)]
 pub struct Row {
     pub ident: usize,
     pub kind: Kind,

@@ -1,4 +1,6 @@
 // Whether a row allows a number: its range first, then its lines. Above it stand the readings and the writes of fields.
+#![tactic(auto)]
+
 ghost use Rattle.std.specs.Prelude.{◌≡◌, true, ◌+◌};
 ghost use Rattle.fields.specs.rule.Legal.{in_range, on_line, legal};
 ghost use Rattle.fields.specs.Facts.{LineFacts};

@@ -1,11 +1,13 @@
 // CHARACTER and LOGICAL fields: a text without the spaces at its end, and a truth. Above it stand the calls on records.
+#![tactic(auto)]
+
 ghost use Rattle.std.specs.Prelude.{◌≡◌, [], ◌∷◌, ◌≤◌, eqb, length, take};
 ghost use Rattle.fields.specs.rule.Number.{all_spaces};
 ghost use Rattle.fields.specs.rule.Field.{all_plain, unended, text_field, truth_field};
 ghost use Rattle.letters.specs.Letters.{text_said, truth_said};
 
 // What a text's bytes say: nothing, so many bytes up to the spaces at the end, or that a byte below 32 is among them.
-#[derive(Drop)]
+#[derive(Clone, Copy)]
 pub enum Text {
     Blank,
     Length(usize),
@@ -13,7 +15,7 @@ pub enum Text {
 }
 
 // What a truth's byte says.
-#[derive(Drop)]
+#[derive(Clone, Copy)]
 pub enum Truth {
     Blank,
     Says(bool),

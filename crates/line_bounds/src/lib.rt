@@ -1,6 +1,8 @@
 // How long a record's line can get, by the table alone: so that an export need not measure its text where there is room for the longest
 // lines.
 // Above it stands the export of a file.
+#![tactic(auto)]
+
 ghost use Rattle.std.specs.Prelude.{◌≡◌, ◌≤◌};
 ghost use Rattle.sound.specs.rule.Rows.{rows_of};
 ghost use Rattle.files.specs.rule.Tested.{Tested};

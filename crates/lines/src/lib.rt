@@ -1,5 +1,7 @@
 // The text of what is listed, appended to a lent buffer: numbers, sets, texts, the line of a value, the last lines. `at` is how many
 // bytes the buffer holds so far, and each call answers how many it holds then. Above it stands the listing of a file.
+#![tactic(auto)]
+
 ghost use Rattle.std.specs.Prelude.{◌≡◌, cond, [], ◌∷◌, ◌+◌, ◌^◌, ◌≤◌, ◌<◌, length, take, drop};
 ghost use Rattle.ascii.specs.rule.Tens.{Tens};
 ghost use Rattle.cells.specs.rule.Cell.{signed_of};

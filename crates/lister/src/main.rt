@@ -1,5 +1,7 @@
 // The lister: lists `survey.asc` by the definition `survey.sss`, both in the folder that it is run in, value by value. What it lists is
 // the library's; here files are opened, read and measured, and full buffers written out.
+#![tactic(auto)]
+
 ghost use Rattle.std.specs.Prelude.{◌≡◌, ◌^◌, ◌≤◌, ◌<◌, length};
 ghost use Rattle.ascii.specs.rule.Tens.{Tens};
 ghost use Rattle.cuts.specs.rule.Cut.{Found};
@@ -30,7 +32,7 @@ const MARKS: usize = 10_000;
 const OUT: usize = 131_072;
 
 // A file as it was read: so many bytes of it came, or it can't be opened or read.
-#[derive(Drop)]
+#[derive(Clone, Copy)]
 enum Loaded {
     Bytes(usize),
     Nothing,
@@ -108,7 +110,7 @@ fn write(bytes: &[u8]) -> bool {
 }
 
 // Where the buffer is filled on: behind what it holds while another line fits, or from the start once that is written out.
-#[derive(Drop)]
+#[derive(Clone, Copy)]
 enum Space {
     From(usize),
     Closed,

@@ -1,5 +1,7 @@
 // What is listed of a data file by a table, a part at a time into a lent buffer: whoever lends it writes it out when it has no room for
 // another line and goes on from the place that was answered. Above it stands the lister.
+#![tactic(auto)]
+
 ghost use Rattle.std.specs.Prelude.{◌≡◌, ◌+◌, ◌-◌, ◌^◌, ◌≤◌, ◌<◌, length};
 ghost use Rattle.ascii.specs.rule.Tens.{Tens};
 ghost use Rattle.cuts.specs.rule.Cut.{Found};
@@ -21,7 +23,7 @@ use records::Judged;
 
 // Where the listing of a file stands: the next record starts at `from`, n came before it, the first of them has `first` bytes, and of
 // the next one so many rows are listed.
-#[derive(Drop)]
+#[derive(Clone, Copy)]
 pub struct Place {
     pub from: usize,
     pub n: usize,
@@ -30,14 +32,14 @@ pub struct Place {
 }
 
 // How far the rows of a record are listed, and how much the buffer holds.
-#[derive(Drop)]
+#[derive(Clone, Copy)]
 pub struct Listed {
     pub row: usize,
     pub end: usize,
 }
 
 // What became of a record: some rows are left for want of room, or it is listed whole, or the last line is written.
-#[derive(Drop)]
+#[derive(Clone, Copy)]
 pub enum Took {
     Part {
         first: usize,
@@ -54,7 +56,7 @@ pub enum Took {
 }
 
 // The listing goes on from a place, or is over.
-#[derive(Drop)]
+#[derive(Clone, Copy)]
 pub enum Turn {
     On { place: Place, end: usize },
     Over { end: usize },

@@ -1,4 +1,6 @@
 // Numbers as little-endian bytes at a place of a lent list. Above it stands the matrix.
+#![tactic(auto)]
+
 ghost use Rattle.std.specs.Prelude.{◌≡◌, not, ◌+◌, ◌%◌, ◌≤◌, T, length};
 ghost use Rattle.std.specs.Float.{binary64};
 ghost use Rattle.std.specs.Float.Ieee.{is_nan, nan_bits, of_bits, to_bits};

@@ -1,5 +1,7 @@
 // What stands in a definition just as it is to be written, found at a look: a word, a number or a string with the literals around it. Where
 // something else stands nothing is said. Above it stand the clean lines.
+#![tactic(auto)]
+
 ghost use Rattle.std.specs.Prelude.{◌≡◌, true, ◌+◌, ◌≤◌, ◌<◌, length, get_or};
 ghost use Rattle.ascii.specs.Class.{Classes};
 ghost use Rattle.scan.specs.rule.Text.{text};
@@ -286,7 +288,7 @@ pub fn number_line(d: &[u8], g: usize, w: &[u8]) -> usize
 }
 
 // Two numbers of a line, and where it ends; 0 if it does not stand so.
-#[derive(Drop)]
+#[derive(Clone, Copy)]
 pub struct Pair {
     pub first: Span,
     pub second: Span,

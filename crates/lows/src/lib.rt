@@ -1,5 +1,7 @@
 // How far bytes go on with none below 32: sixty-four are looked at together, then sixteen, so that long stretches of text cost little.
 // Above it stand the records of a file and the judge of a record.
+#![tactic(auto)]
+
 ghost use Rattle.std.specs.Prelude.{◌≡◌, true, ◌+◌, ◌≤◌, length};
 ghost use Rattle.lows.specs.Lows.{low_among, Clear};
 

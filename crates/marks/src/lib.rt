@@ -1,5 +1,7 @@
 // Strings and comments: what stands between two marks is skipped, or for a string decoded, one sign at a time. Above it stand the
 // tokens of a definition, and whoever reads a text of it.
+#![tactic(auto)]
+
 ghost use Rattle.std.specs.Prelude.{◌≡◌, ◌+◌, ◌<◌, ◌≤◌, length, true};
 ghost use Rattle.ascii.specs.Class.{Classes};
 ghost use Rattle.scan.specs.rule.Text.{text};
@@ -13,7 +15,7 @@ use signs::Sign;
 
 // Where a string's reader stands: in plain text, or in a brace form that opened at a place: just opened, before its closing
 // brace, after an N, before a pair's first digit or its end, before a pair's second digit.
-#[derive(Drop)]
+#[derive(Clone, Copy)]
 pub enum Inside {
     Plain,
     Opened(usize),
@@ -23,7 +25,7 @@ pub enum Inside {
     Low(usize),
 }
 
-#[derive(Drop)]
+#[derive(Clone, Copy)]
 pub enum Move {
     Go(Inside),
     Closed,
@@ -119,7 +121,7 @@ pub fn move_inside(classes: &[u8; 256], s: Inside, b: u8, place: usize) -> Move
 }
 
 // The end of what is skipped: the place after it; that no end comes; or a form that is bad, and its place.
-#[derive(Drop)]
+#[derive(Clone, Copy)]
 pub enum Skip {
     Past(usize),
     Unclosed,
@@ -288,7 +290,7 @@ pub fn hex_value(classes: &[u8; 256], b: u8) -> u8
 }
 
 // What a string's byte completes.
-#[derive(Drop)]
+#[derive(Clone, Copy)]
 pub enum Given {
     One(Sign),
     Nothing,
@@ -327,7 +329,7 @@ fn completed(classes: &[u8; 256], s: Inside, a: u8, b: u8) -> Given
 }
 
 // What stands next in a string: a sign that it says, with the place and the state to read on from; or its end.
-#[derive(Drop)]
+#[derive(Clone, Copy)]
 pub enum Part {
     Said {
         sign: Sign,

@@ -1,5 +1,7 @@
 // White space, names, references, comments and gaps, byte by byte. The text ends where the characters do (utf::first_bad); `bad` says
 // that a bad character cuts it there, and not the file's end.
+#![tactic(auto)]
+
 ghost use Rattle.std.specs.Prelude.{◌≡◌, true, cond, [], ◌∷◌, ◌+◌, ◌-◌, ◌≤◌, ◌<◌, leb, eqb, length, drop};
 ghost use Rattle.markup.specs.rule.Bytes.{is_white, is_digit, is_hex, starts_name, is_name, of_kind, run_of, stands, end_fault};
 ghost use Rattle.markup.specs.rule.Reference.{digit_of, push_of, held_below, reference_figure, closed_reference, named_character};
@@ -108,7 +110,7 @@ pub fn end_fault(bad: bool, q: usize, opened: usize) -> usize
 }
 
 // What a run of digits says, at most CAP, and the place after it.
-#[derive(Drop)]
+#[derive(Clone, Copy)]
 pub struct Figure {
     pub value: u64,
     pub next: usize,
@@ -169,7 +171,7 @@ pub fn number(hex: bool, d: &[u8], at: usize) -> Figure
 }
 
 // A character that a reference says, with the place after it; or that it is bad: 50 at its &.
-#[derive(Drop)]
+#[derive(Clone, Copy)]
 pub enum Char {
     Is { code: u64, next: usize },
     Bad,
@@ -274,7 +276,7 @@ pub fn reference(d: &[u8], at: usize) -> Char
 }
 
 // The place after what was skipped; or the place that is faulted with 50.
-#[derive(Drop)]
+#[derive(Clone, Copy)]
 pub enum Skip {
     Past(usize),
     Broken(usize),
@@ -317,7 +319,7 @@ fn dashes_close(d: &[u8], at: usize) -> bool
 }
 
 // One step of a value or a gap.
-#[derive(Drop)]
+#[derive(Clone, Copy)]
 pub enum Move {
     Go(usize),
     Stop(Skip),

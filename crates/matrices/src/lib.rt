@@ -1,5 +1,7 @@
 // A data file as a matrix of 64-bit floats: judged first, then counted, then written record by record, and the columns' summaries from what
 // was written. Nothing in memory grows with records or columns. Above it stands the face.
+#![tactic(auto)]
+
 ghost use Rattle.std.specs.Prelude.{◌≡◌, true, cond, [], ℕ, ◌+◌, ◌*◌, ◌≤◌, ◌<◌, ltb, length, get_or};
 ghost use Rattle.little.specs.rule.Bytes.{put_at};
 ghost use Rattle.cuts.specs.rule.Records.{records_of, length_of_first};
@@ -34,7 +36,7 @@ use layout::{Header, Row};
 use summary::Summary;
 
 // What becomes of the matrix of a file: it is refused as the file is, or for its size, or written.
-#[derive(Drop)]
+#[derive(Clone, Copy)]
 pub enum Matrix {
     Refused(Judgement),
     NoColumn,
@@ -51,14 +53,14 @@ pub enum Matrix {
 const MOST: usize = 16_777_216;
 
 // Where a file's records stand that are all of one length: how many bytes each has, and how far behind it the next one starts.
-#[derive(Drop)]
+#[derive(Clone, Copy)]
 struct Step {
     first: usize,
     step: usize,
 }
 
 // Some of them, one behind the other: at which byte the first starts, and how many they are.
-#[derive(Drop)]
+#[derive(Clone, Copy)]
 struct Part {
     from: usize,
     count: usize,
@@ -84,7 +86,7 @@ fn step_of(d: &[u8]) -> Step
 }
 
 // What was put of a row: how many records hold a set, and whether the members of all of them are marked.
-#[derive(Drop)]
+#[derive(Clone, Copy)]
 struct Tally {
     count: u64,
     near: bool,

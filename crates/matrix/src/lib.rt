@@ -1,5 +1,7 @@
 // The bytes of a matrix: its header, a column's summary, the presence byte and the eight bytes of an entry, and a column's summary from
 // the bytes that stand there. Nothing here knows a table. Above it stand the columns of a table.
+#![tactic(auto)]
+
 ghost use Rattle.std.specs.Prelude.{◌≡◌, not, [], ◌∷◌, ◌+◌, ◌*◌, ◌≤◌, ◌<◌, T, length};
 ghost use Rattle.std.specs.Float.{binary64};
 ghost use Rattle.std.specs.Float.Ieee.{is_nan, nan_bits};
@@ -20,14 +22,14 @@ ghost use Rattle.matrix.specs.Ones.{AllThere, AllFew, AllCounted, AllTold, told_
 const ONE: u64 = 4_607_182_418_800_017_408;
 
 // What a column holds of a record: nothing, or a scaled number and its power of ten.
-#[derive(Drop)]
+#[derive(Clone, Copy)]
 pub enum Entry {
     Absent,
     Scaled(i64, u64),
 }
 
 // An entry as it is written: missing has presence 0 and value zero.
-#[derive(Drop)]
+#[derive(Clone, Copy)]
 pub struct Cell {
     pub present: u8,
     pub value: f64,
@@ -231,7 +233,7 @@ pub fn has_less(s: &[u8], flags: usize, values: usize, step: usize, records: usi
 
 // What sixteen columns side by side hold, where each record has all of them or none, and each value is 0 or 1: how many records have them,
 // and how many ones each column has. Else `full` is false.
-#[derive(Drop)]
+#[derive(Clone, Copy)]
 pub struct Block {
     pub full: bool,
     pub count: u64,

@@ -1,5 +1,7 @@
 // What a variable's statements say as the columns of its row: its value width, and whether its position holds it. Above it stands
 // the definition as a whole.
+#![tactic(auto)]
+
 ghost use Rattle.std.specs.Prelude.{◌≡◌, ◌≤◌};
 ghost use Rattle.ascii.specs.rule.Tens.{Tens};
 ghost use Rattle.measures.specs.Width.{flag_of, plain_columns, widened, lines_width, widest_of, width_of, full_columns};
@@ -100,7 +102,7 @@ fn with_width(c: Columns, w: usize) -> Columns
 }
 
 // A variable as its columns; or the refusal of a position that is too narrow, at its first number.
-#[derive(Drop)]
+#[derive(Clone, Copy)]
 pub enum Measured {
     Is(Columns),
     Not(Fault),

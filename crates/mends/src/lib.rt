@@ -1,5 +1,7 @@
 // A damaged data file mended: every record of one length, ended by one terminator, without bytes below 32; and the list of what was
 // changed. Above it stands the face.
+#![tactic(auto)]
+
 ghost use Rattle.std.specs.Prelude.{◌≡◌, ◌&&◌, cond, [], ◌∷◌, ◌++◌, map, ◌+◌, ◌-◌, ◌*◌, ◌≤◌, ◌<◌, leb, ltb, pos, length};
 ghost use Rattle.std.proofs.lemmas.List.Edits.{sets};
 ghost use Rattle.cuts.specs.Records.{part};
@@ -17,7 +19,7 @@ use layout::Header;
 use pieces::Span;
 
 // How a call ends: how many bytes and entries it wrote; or why it wrote none.
-#[derive(Drop)]
+#[derive(Clone, Copy)]
 pub enum Mended {
     Done { bytes: usize, entries: usize },
     BadTable,
@@ -25,7 +27,7 @@ pub enum Mended {
 }
 
 // What the first pass counts: records kept, their width so far, how many of them are shorter than that, and the entries that are no pads.
-#[derive(Drop)]
+#[derive(Clone, Copy)]
 pub struct Sizes {
     pub kept: usize,
     pub width: usize,

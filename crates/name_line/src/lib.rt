@@ -1,4 +1,6 @@
 // The first line of an export: the decoded names, of a 1.1 definition or of one in XML. Above it stands the export of a file.
+#![tactic(auto)]
+
 ghost use Rattle.std.specs.Prelude.{◌≡◌, ◌+◌, ◌≤◌, ◌<◌, length};
 ghost use Rattle.ascii.specs.Class.{Classes};
 ghost use Rattle.layout.specs.rule.Layout.{row_base, most_rows};

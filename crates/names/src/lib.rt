@@ -1,6 +1,8 @@
 // STANDARD NAMES: a decoded name has 1 to 8 letters or digits and begins with a letter, and no two names agree when case is set
 // aside. A name becomes one number, 0 where it is ill-formed, so that two names agree exactly when their numbers do. Above it stands
 // the definition as a whole.
+#![tactic(auto)]
+
 ghost use Rattle.std.specs.Prelude.{◌≡◌, cond, true, ◌≤◌, eqb};
 ghost use Rattle.ascii.specs.Class.{Classes};
 ghost use Rattle.scan.specs.rule.Text.{text};
@@ -21,7 +23,7 @@ fn may_stand(classes: &[u8; 256], count: usize, b: u8) -> bool
 }
 
 // The number of a name that is nothing but letters and digits up to its closing quote; of another it is not sure.
-#[derive(Drop)]
+#[derive(Clone, Copy)]
 pub struct Key {
     pub key: u64,
     pub sure: bool,

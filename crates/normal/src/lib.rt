@@ -1,4 +1,6 @@
 // One normal form of a record: every row is written back as it reads, where no two rows share a value place. Above it stands the face.
+#![tactic(auto)]
+
 ghost use Rattle.std.specs.Prelude.{◌≡◌, ◌⊎◌, ◌+◌, ◌≤◌, length};
 ghost use Rattle.ascii.specs.rule.Tens.{Tens};
 ghost use Rattle.layout.specs.rule.Layout.{most_rows, row_base, row_size};
@@ -26,7 +28,7 @@ const SHORT: usize = 128;
 const MIDDLING: usize = 1024;
 
 // Two rows share a value place; or as the record is judged.
-#[derive(Drop)]
+#[derive(Clone, Copy)]
 pub enum Normal {
     Shared,
     As(Judged),

@@ -1,25 +1,27 @@
 // Numbers and codes read where they stand in a text, as export writes them: what is read, and the place behind it. No field is cut for
 // them. Above it stand the judges of fields.
+#![tactic(auto)]
+
 ghost use Rattle.std.specs.Prelude.{◌≡◌, true, ◌+◌, ◌≤◌, ◌<◌, length};
 ghost use Rattle.lines.specs.rule.Text.{numeral};
 ghost use Rattle.number_fields.specs.Reads.{Reads, Digits, WholeAt, SizeAt, NumberAt, CodeAt};
 
 // Digits that were read: their number, and the place behind them. Where there are none it is the place where they were due.
-#[derive(Drop)]
+#[derive(Clone, Copy)]
 pub struct Whole {
     pub n: u64,
     pub at: usize,
 }
 
 // A number that was read, and the place behind it, likewise.
-#[derive(Drop)]
+#[derive(Clone, Copy)]
 pub struct Number {
     pub z: i64,
     pub at: usize,
 }
 
 // A code that was read, and the place behind it; 0 where there was none.
-#[derive(Drop)]
+#[derive(Clone, Copy)]
 pub struct Code {
     pub n: usize,
     pub at: usize,

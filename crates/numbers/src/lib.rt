@@ -1,5 +1,7 @@
 // What the bytes of a number say: a code (SINGLE, and a subfield of a spread) and a quantity by its format. The point has its
 // place from the right, so a quantity is digits, the point, digits, and no state is kept. Above it stand the readings of fields.
+#![tactic(auto)]
+
 ghost use Rattle.std.specs.Prelude.{◌≡◌, ◌+◌, ◌*◌, ◌^◌, ◌≤◌, ◌<◌, ltb, length, drop};
 ghost use Rattle.fields.specs.rule.Number.{code_of, quantity_of, amount_of, unspaced};
 ghost use Rattle.cells.specs.rule.Cell.{number_of};
@@ -10,7 +12,7 @@ ghost use Rattle.numbers.specs.rule.Format.{FormatFacts};
 use layout::Format;
 
 // What bytes say: nothing, where all are spaces; a number; or that they have no number's form.
-#[derive(Drop)]
+#[derive(Clone, Copy)]
 pub enum Numeral {
     Blank,
     Says(i64),
@@ -18,7 +20,7 @@ pub enum Numeral {
 }
 
 // What digits say: a number, or that they aren't all digits.
-#[derive(Drop)]
+#[derive(Clone, Copy)]
 enum Digits {
     Value(u64),
     Wrong,

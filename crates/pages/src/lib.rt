@@ -1,6 +1,8 @@
 // The clean lines of a definition that was read before, a statement at a time: each is walked anew, past its things, and its line is sent
 // to
 // be measured or stored. Above it stands the clean text as a whole.
+#![tactic(auto)]
+
 ghost use Rattle.std.specs.Prelude.{◌≡◌, true, false, [], ◌∷◌, ◌++◌, ◌+◌, ◌^◌, ◌≤◌, ◌<◌, length};
 ghost use Rattle.ascii.specs.Class.{Classes};
 ghost use Rattle.ascii.specs.rule.Tens.{Tens};
@@ -26,7 +28,7 @@ use scan::Step;
 use steps::{Found, Span};
 
 // Where what was sent ends, and where reading stands.
-#[derive(Drop)]
+#[derive(Clone, Copy)]
 pub struct Walked {
     pub at: usize,
     pub next: usize,
@@ -258,7 +260,7 @@ fn send_end(
 
 // ---- TYPE
 // The number of the type, and the place behind its word.
-#[derive(Drop)]
+#[derive(Clone, Copy)]
 pub struct Sort {
     pub kind: usize,
     pub next: usize,
@@ -366,7 +368,7 @@ fn send_type(bound: usize, out: &mut [u8], at: usize, kind: usize) -> usize
 }
 
 // ---- POSITION
-#[derive(Drop)]
+#[derive(Clone, Copy)]
 pub struct Places {
     pub start: Span,
     pub finish: Span,
@@ -398,7 +400,7 @@ fn position_at(classes: &[u8; 256], d: &[u8], n: usize) -> Places
 }
 
 // The statement, and where it begins and ends if it stands just as it is to be written; else it ends at 0.
-#[derive(Drop)]
+#[derive(Clone, Copy)]
 pub struct Position {
     pub places: Places,
     pub from: usize,
@@ -471,7 +473,7 @@ fn room_of(start: u64, finish: u64) -> u64
 }
 
 // ---- SPREAD
-#[derive(Drop)]
+#[derive(Clone, Copy)]
 pub struct Parts {
     pub there: bool,
     pub count: Span,
@@ -552,7 +554,7 @@ fn send_spread(
 }
 
 // ---- VALUES
-#[derive(Drop)]
+#[derive(Clone, Copy)]
 pub struct LineParts {
     pub value: Span,
     pub text: Span,
@@ -616,7 +618,7 @@ fn past_values(classes: &[u8; 256], d: &[u8], n: usize) -> usize
 }
 
 // How far lines of a block were sent, how many they are with those before, and whether the block is over.
-#[derive(Drop)]
+#[derive(Clone, Copy)]
 pub struct Run {
     pub at: usize,
     pub next: usize,
@@ -809,7 +811,7 @@ fn send_lines(
     Walked { at: p, next: n }
 }
 
-#[derive(Drop)]
+#[derive(Clone, Copy)]
 pub struct RangeParts {
     pub there: bool,
     pub from: Span,

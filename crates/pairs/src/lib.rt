@@ -1,5 +1,7 @@
 // What stands where a tag is due, behind white space and comments; end tags read whole and then compared; and the end of an element that
 // holds nothing. Above it stand contents and elements.
+#![tactic(auto)]
+
 ghost use Rattle.std.specs.Prelude.{◌≡◌, [], ◌+◌, ◌-◌, ◌≤◌, ◌<◌, length, drop};
 ghost use Rattle.pairs.specs.rule.Stand.{text_stand, stand_at, stand_of, shut_of, bare_of};
 ghost use Rattle.pairs.specs.rule.Pair.{missed_of, closed_of, pair_of};
@@ -10,7 +12,7 @@ use tags::Tag;
 
 // A start tag or an end tag, with the place of its < and the place where its name ends; the < of what document 000 doesn't name; the
 // first byte of a text; or the place that is faulted with 50.
-#[derive(Drop)]
+#[derive(Clone, Copy)]
 pub enum Stand {
     Start { place: usize, end: usize },
     Close { place: usize, end: usize },
@@ -99,7 +101,7 @@ pub fn read_bare(bad: bool, d: &[u8], opened: usize, at: usize) -> Tag
 }
 
 // The end of an element that holds nothing: the place after its end tag; or the < that cuts it, which is 51; or a 2 or 50.
-#[derive(Drop)]
+#[derive(Clone, Copy)]
 pub enum Pair {
     Past(usize),
     Cut(usize),

@@ -1,4 +1,6 @@
 // A part of a data file, judged apart from the rest: for files that are read in blocks, or judged on many cores. Above it stands the face.
+#![tactic(auto)]
+
 ghost use Rattle.std.specs.Prelude.{◌≡◌, Bool, length, ◌≤◌};
 ghost use Rattle.cuts.specs.Cut.{Ending};
 ghost use Rattle.cuts.specs.rule.Records.{records_from};
@@ -12,7 +14,7 @@ use files::Judgement;
 use layout::Header;
 
 // What a part is judged to be: by a number that no terminator has, nothing; else as a file is, its records counted in the part.
-#[derive(Drop)]
+#[derive(Clone, Copy)]
 pub enum Part {
     NoTerminator,
     Judged(Judgement),

@@ -1,4 +1,6 @@
 // A data file cut into pieces at every line end, whatever its kind: the mender's records. Above it stands the mender.
+#![tactic(auto)]
+
 ghost use Rattle.std.specs.Prelude.{◌≡◌, false, cond, ◌+◌, ◌≤◌, ◌<◌, ltb, length, drop};
 ghost use Rattle.std.specs.Int.Count.{count_trailing_zeros};
 ghost use Rattle.lows.specs.Lows.{Clear};
@@ -10,7 +12,7 @@ ghost use Rattle.pieces.specs.Pieces.{LowFrom, Spans};
 use cuts::Terminator;
 
 // A piece from a place on: where it stops, how many of its bytes are below 32, and the boundary behind it (of no size where there is none).
-#[derive(Drop)]
+#[derive(Clone, Copy)]
 pub struct Span {
     pub stop: usize,
     pub lows: usize,

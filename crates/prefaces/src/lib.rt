@@ -1,5 +1,7 @@
 // A definition in XML before its first variable and behind its last: the root with its version, the heading, the survey with its titles,
 // the record; then what follows the variables. Above it stands the sheet, which puts the variables between.
+#![tactic(auto)]
+
 ghost use Rattle.std.specs.Prelude.{◌≡◌, cond, [], ◌+◌, ◌≤◌, ◌<◌, length};
 ghost use Rattle.pairs.specs.declared.Stand.TheVariants as stand;
 ghost use Rattle.pairs.specs.rule.Stand.{stand_of};
@@ -23,7 +25,7 @@ use tags::{Held, Tag};
 use tokens::{Fault, Phrase, Reading};
 
 // What the preface says that the variables go by: version 1.1, languages, standardnames; and the file's encoding.
-#[derive(Drop)]
+#[derive(Clone, Copy)]
 pub struct Manner {
     pub old: bool,
     pub languages: bool,
@@ -32,7 +34,7 @@ pub struct Manner {
 }
 
 // The preface and the place behind it, or the refusal.
-#[derive(Drop)]
+#[derive(Clone, Copy)]
 pub enum Prefaced {
     Is { manner: Manner, next: usize },
     Not(Fault),

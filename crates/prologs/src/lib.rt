@@ -1,5 +1,7 @@
 // What stands before and behind the root of an XML file: the byte order mark, the declaration, the DOCTYPE, and what may follow. Which
 // file is XML. The declaration is read by its bytes, since it says what the characters are; all behind it up to the first bad character.
+#![tactic(auto)]
+
 ghost use Rattle.std.specs.Prelude.{◌≡◌, Bool, true, false, [], ◌∷◌, ◌+◌, ◌-◌, ◌≤◌, ◌<◌, length, drop};
 ghost use Rattle.markup.specs.rule.Bytes.{run_of, stands};
 ghost use Rattle.prologs.specs.rule.Form.{pair, close, standalone, naming_form, encoded, declaration};
@@ -14,7 +16,7 @@ ghost use Rattle.prologs.specs.Pair.{pair_of, latin_of};
 use markup::Skip;
 
 // What was read: whether the characters are those of ISO-8859-1, else UTF-8, and the place after it; or the refusal.
-#[derive(Drop)]
+#[derive(Clone, Copy)]
 pub enum Prolog {
     Read { latin: bool, next: usize },
     Fault { number: usize, place: usize },
@@ -176,7 +178,7 @@ fn is_encoding(d: &[u8], v: usize, e: usize, w: &[u8]) -> bool
 }
 
 // = and a value behind a word of the declaration: its stretch; or the place that is faulted with 50.
-#[derive(Drop)]
+#[derive(Clone, Copy)]
 pub enum Pair {
     Is { value: usize, end: usize },
     Off(usize),
@@ -540,7 +542,7 @@ pub fn read_head(bad: bool, latin: bool, d: &[u8], at: usize) -> Prolog
 }
 
 // What follows the root: white space and comments up to the file's end; or the refusal.
-#[derive(Drop)]
+#[derive(Clone, Copy)]
 pub enum Tail {
     Clean,
     Foul { number: usize, place: usize },

@@ -1,5 +1,7 @@
 // How far bytes go on with none of three or of two among them, as quotes, braces or angles: eight or sixteen bytes are looked at
 // together, so that a long string or comment costs little. Above it stand the strings and comments of a definition.
+#![tactic(auto)]
+
 ghost use Rattle.std.specs.Prelude.{◌≡◌, ◌+◌, ◌≤◌, length};
 ghost use Rattle.quotes.specs.Quotes.{is_mark, mark_among, Unmarked};
 

@@ -1,4 +1,6 @@
 // A scaled number over its power of ten, as one float. Above it stand the column summaries and the matrix.
+#![tactic(auto)]
+
 ghost use Rattle.std.specs.Prelude.{◌≡◌};
 ghost use Rattle.quotient.specs.rule.Value.{value_of};
 ghost use Rattle.quotient.specs.Limits.{Scaled, Power};

@@ -1,10 +1,12 @@
 // Which of the faults of a statement that was read whole is answered: the lowest number, of equal numbers the first place. Above it stand
 // the elements, which gather them.
+#![tactic(auto)]
+
 ghost use Rattle.std.specs.Prelude.{◌≡◌};
 ghost use Rattle.ranks.specs.rule.Rank.{found_at, precedes, lower_found};
 
 // A fault, or none: number 0.
-#[derive(Drop)]
+#[derive(Clone, Copy)]
 pub struct Found {
     pub number: usize,
     pub place: usize,

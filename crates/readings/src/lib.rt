@@ -1,5 +1,7 @@
 // What one row of a record says, by its kind, and whether it is illegal; the row's facts are given. Above it stand the public calls on
 // records, which test the table once, and every request that reads many rows of a tested table.
+#![tactic(auto)]
+
 ghost use Rattle.std.specs.Prelude.{◌≡◌, [], ◌∷◌, ℕ, ◌+◌, ◌-◌, ◌≤◌, ◌<◌, length};
 ghost use Rattle.layout.specs.rule.Layout.{row_size, row_base, most_rows};
 ghost use Rattle.layout.specs.rule.Row.{row_at};
@@ -23,7 +25,7 @@ use sets::SetRead;
 pub mod many;
 
 // A row's value: a scaled number, a set's count, a text's place and length, a truth; or why there is none.
-#[derive(Drop)]
+#[derive(Clone, Copy)]
 pub enum Answer {
     Missing,
     Number(i64),

@@ -14,7 +14,7 @@ use super::{is_illegal, quantity_illegal, single, truth};
 use layout::{Format, Kind, Row, Spread};
 
 // Records of one length: where the first begins, how long they are, from one's begin to the next's, and how many.
-#[derive(Drop)]
+#[derive(Clone, Copy)]
 pub struct Batch {
     pub from: usize,
     pub size: usize,

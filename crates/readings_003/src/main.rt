@@ -2,6 +2,8 @@
 // reads one row and compared with the document's column of data values. A line a case: what the document has, and whether the call
 // says the same. `x` stands in the bytes that are ignored, and all round the field. Behind them the same tables with a byte, a point or a
 // number that may not stand there, each with the number of its fault and the place, or the number that is not legal.
+#![tactic(auto)]
+
 use faults::Fault;
 use layout::{Header, Line, Row};
 use records::Reading;

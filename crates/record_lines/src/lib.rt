@@ -1,4 +1,6 @@
 // The lines of a data file's records as they are exported. Above it stands the export of a file.
+#![tactic(auto)]
+
 ghost use Rattle.std.specs.Prelude.{◌≡◌, ◌-◌, ◌≤◌, length};
 ghost use Rattle.cuts.specs.rule.Records.{records_from};
 ghost use Rattle.files.specs.rule.File.{file_said};

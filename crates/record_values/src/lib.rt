@@ -1,5 +1,7 @@
 // All rows of a record at once, by a table that is tested once: four numbers a row, and the members of all sets one after another. Above
 // it stands the face; whoever has tested a table calls the inner function, record by record.
+#![tactic(auto)]
+
 ghost use Rattle.std.specs.Prelude.{◌≡◌, true, List, ℕ, ◌*◌, ◌≤◌, leb, length};
 ghost use Rattle.layout.specs.rule.Layout.{most_rows, lines_base};
 ghost use Rattle.fields.specs.rule.Row.{reading_of};
@@ -17,7 +19,7 @@ use readings::Answer;
 use records::Reading;
 
 // What reading a whole record answers: how many members the list holds, and how many rows are refused; or why nothing was read.
-#[derive(Drop)]
+#[derive(Clone, Copy)]
 pub enum Whole {
     Read(usize, usize),
     BadTable,
@@ -26,7 +28,7 @@ pub enum Whole {
 }
 
 // What the rows of a record come to: the members in the list, and the rows refused.
-#[derive(Drop)]
+#[derive(Clone, Copy)]
 pub struct Tally {
     pub members: usize,
     pub refused: usize,

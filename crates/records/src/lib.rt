@@ -1,5 +1,7 @@
 // The public calls that read a record: one row's value, and a whole record judged. Each tests the table (refusal 20) and then calls an
 // inner function, which whoever has tested a table may call many times. Above it stand files, the lister and the face.
+#![tactic(auto)]
+
 ghost use Rattle.std.specs.Prelude.{◌≡◌, true, ℕ, ◌-◌, ◌≤◌, ◌<◌, length};
 ghost use Rattle.readings.specs.Ready.{Plain, RowReady};
 ghost use Rattle.readings.specs.Many.{Standing, AllPlain, bytes_of};
@@ -18,7 +20,7 @@ use readings::many::Batch;
 
 // What a record is judged to be: sound; or the test that it fails, with the place of the first byte below 32, or the lowest illegal row
 // and what is wrong with it.
-#[derive(Drop)]
+#[derive(Clone, Copy)]
 pub enum Judged {
     Sound,
     BadTable,
@@ -28,7 +30,7 @@ pub enum Judged {
 }
 
 // What a row says: its value, a set by its count, a text by its place and length; or why there is none.
-#[derive(Drop)]
+#[derive(Clone, Copy)]
 pub enum Reading {
     Missing,
     Number(i64),
@@ -42,7 +44,7 @@ pub enum Reading {
     Faulty(Fault),
 }
 
-#[derive(Drop)]
+#[derive(Clone, Copy)]
 pub enum Found {
     At(usize),
     Nothing,

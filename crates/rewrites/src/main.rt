@@ -1,5 +1,7 @@
 // Writes a value of each kind into a record of filler, prints the answer and the record after each, and reads each value back. Then
 // every refusal, after which the record is as it was.
+#![tactic(auto)]
+
 use faults::Fault;
 use records::Reading;
 use writes::{Value, Wrote};

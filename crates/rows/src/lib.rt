@@ -1,5 +1,7 @@
 // A row and a header back to their numbers: what the reader of a definition writes to a table. Above it stands the definition as
 // a whole.
+#![tactic(auto)]
+
 ghost use Rattle.std.specs.Prelude.{◌≡◌, ◌+◌, ◌≤◌, length};
 ghost use Rattle.cells.specs.rule.Cell.{pasted};
 ghost use Rattle.layout.specs.rule.Layout.{row_size, header_size};

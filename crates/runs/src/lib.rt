@@ -1,4 +1,6 @@
 // Bytes put at a run of places of a record: copied from elsewhere, or spaces. Above it stand the writers of sets, texts and lines.
+#![tactic(auto)]
+
 ghost use Rattle.std.specs.Prelude.{◌≡◌, ◌+◌, ◌≤◌, length, take};
 ghost use Rattle.places.specs.rule.Places.{put, run};
 ghost use Rattle.fields.specs.rule.Field.{spaces};

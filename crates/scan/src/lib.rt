@@ -1,5 +1,7 @@
 // The definition as kept text: its bytes of 32 and above with their places. Keywords, runs of digits and of value bytes, and
 // numbers of any length. Above it stand the strings and comments, and every token of a definition.
+#![tactic(auto)]
+
 ghost use Rattle.std.specs.Prelude.{◌≡◌, true, ◌+◌, ◌-◌, ◌≤◌, length, ltb};
 ghost use Rattle.ascii.specs.Class.{Classes};
 ghost use Rattle.ascii.specs.rule.Class.{upper_of};
@@ -13,7 +15,7 @@ ghost use Rattle.scan.specs.Order.{figure_of, stripped, order_then, is_less};
 ghost use Rattle.scan.specs.Order.{digits_to, value_of};
 
 // The next byte that is not dropped, with its place and the place after it; or the end.
-#[derive(Drop)]
+#[derive(Clone, Copy)]
 pub enum Step {
     Byte { byte: u8, place: usize, next: usize },
     End { place: usize },
@@ -54,7 +56,7 @@ pub fn place_at(classes: &[u8; 256], d: &[u8], at: usize) -> usize
 }
 
 // Whether a keyword, in capitals, stands from a place on, and the place after it.
-#[derive(Drop)]
+#[derive(Clone, Copy)]
 pub enum Word {
     Matched(usize),
     Not,
@@ -216,7 +218,7 @@ pub fn value_run(classes: &[u8; 256], d: &[u8], at: usize) -> usize
 }
 
 // A run of digits: the number that they say, at most CAP, how many they are, and the place after them.
-#[derive(Drop)]
+#[derive(Clone, Copy)]
 pub struct Digits {
     pub size: u64,
     pub count: usize,
@@ -280,7 +282,7 @@ pub fn read_digits(classes: &[u8; 256], d: &[u8], at: usize, v: u64) -> Digits
 }
 
 // The next digit before a place, and the place after it.
-#[derive(Drop)]
+#[derive(Clone, Copy)]
 pub enum Figure {
     One { digit: u8, next: usize },
     Nothing,
@@ -331,7 +333,7 @@ fn significant(classes: &[u8; 256], d: &[u8], at: usize, end: usize) -> usize
 }
 
 // How two numbers of as many digits compare, as far as they are read.
-#[derive(Drop)]
+#[derive(Clone, Copy)]
 pub enum Order {
     Less,
     Same,

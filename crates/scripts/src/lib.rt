@@ -1,11 +1,13 @@
 // Which kind of definition a file is, and how an XML one writes its characters. Above it stand the calls that decode texts of both kinds.
+#![tactic(auto)]
+
 ghost use Rattle.std.specs.Prelude.{◌≡◌};
 ghost use Rattle.scripts.specs.rule.Script.{latin_of, script_of};
 
 use prologs::Prolog;
 
 // Which kind of definition it is; and of one in XML whether it is in ISO-8859-1.
-#[derive(Drop)]
+#[derive(Clone, Copy)]
 pub struct Script {
     pub xml: bool,
     pub latin: bool,

@@ -1,5 +1,7 @@
 // Both forms of a set, bitstring and spread: judged, counted, and filled into a lent list in rising order. A row's legal numbers are
 // marked once where that pays, so that no line is searched for each byte or subfield. Above it stand the calls on records.
+#![tactic(auto)]
+
 ghost use Rattle.std.specs.Prelude.{◌≡◌, ◌-◌, ◌^◌, ◌≤◌, length};
 ghost use Rattle.fields.specs.rule.Legal.{legal};
 ghost use Rattle.fields.specs.rule.Row.{categories};
@@ -15,7 +17,7 @@ pub mod marks;
 pub mod spread;
 
 // What was read: nothing, so many members in the list, a field that isn't legal, or a set longer than the list.
-#[derive(Drop)]
+#[derive(Clone, Copy)]
 pub enum SetRead {
     Missing,
     Count(usize),
@@ -24,7 +26,7 @@ pub enum SetRead {
 }
 
 // How many members, or that a byte stands there that cannot.
-#[derive(Drop)]
+#[derive(Clone, Copy)]
 pub enum Counted {
     Members(usize),
     Wrong,

@@ -1,6 +1,8 @@
 // Whether two rows of a table share a value place (refusal 90), in steps that grow with the places, rows and lines alone: each row
 // stamps its places, and a place with another row's stamp is shared. Rows that follow one another, as they mostly do, are not stamped at
 // all. Above it stand the normal form of a record and the import.
+#![tactic(auto)]
+
 ghost use Rattle.std.specs.Prelude.{◌≡◌, true, [], ◌∷◌, ℕ, ◌+◌, ◌-◌, ◌*◌, ◌≤◌, ◌<◌, length, get_or};
 ghost use Rattle.places.specs.rule.Places.{run};
 ghost use Rattle.fields.specs.rule.Row.{categories, bit_places, spread_places, places_of};

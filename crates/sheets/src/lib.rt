@@ -1,5 +1,7 @@
 // A variable of a definition in XML, from behind the name of its start tag on: its columns into a room for rows, its value lines into one
 // for lines. Above it stands the definition as a whole (`xml_files`).
+#![tactic(auto)]
+
 ghost use Rattle.std.specs.Prelude.{◌≡◌, List, ◌+◌, ◌*◌, ◌≤◌, ◌<◌, length};
 ghost use Rattle.ascii.specs.Class.{Classes};
 ghost use Rattle.ascii.specs.rule.Tens.{Tens};
@@ -128,7 +130,7 @@ fn name_in_lem(
 }
 
 // What a variable's statements up to its position say, its use, and the place behind.
-#[derive(Drop)]
+#[derive(Clone, Copy)]
 pub enum Fronted {
     Is {
         head: Head,
@@ -218,7 +220,7 @@ fn front_at(
 
 // ---- a filter or none
 // The filter (0 none), and what stands behind it.
-#[derive(Drop)]
+#[derive(Clone, Copy)]
 pub struct Sifted {
     pub filter: usize,
     pub tag: Open,
@@ -532,7 +534,7 @@ fn placeless(r: Rest) -> Rest
 
 // ---- a variable
 // With one variable more: its ident, the counts, and the place behind it.
-#[derive(Drop)]
+#[derive(Clone, Copy)]
 pub enum Entered {
     Is {
         ident: usize,
@@ -646,7 +648,7 @@ pub fn variable_at(
 }
 
 // ---- all variables
-#[derive(Drop)]
+#[derive(Clone, Copy)]
 pub enum Turn {
     More {
         ident: usize,
@@ -661,7 +663,7 @@ pub enum Turn {
 }
 
 // All variables, and the place behind the record's end tag.
-#[derive(Drop)]
+#[derive(Clone, Copy)]
 pub enum Run {
     Is { tally: Tally, next: usize },
     Not(Fault),

@@ -1,9 +1,11 @@
 // A sign of a decoded text: a byte, or a break, which is no byte. Above it stand the decoder of a definition's texts, and whoever takes
 // texts from another form.
+#![tactic(auto)]
+
 ghost use Rattle.std.specs.Prelude.{◌≡◌, ◌≤◌};
 ghost use Rattle.signs.specs.rule.Sign.{sign_number};
 
-#[derive(Drop)]
+#[derive(Clone, Copy)]
 pub enum Sign {
     Byte(u8),
     Break,

@@ -1,6 +1,8 @@
 // Bytes sent to a lent buffer one behind the other: to be measured where the buffer has no room, to be stored where it has. Above it stand
 // the
 // texts that are written: the export of a data file, the clean text of a definition.
+#![tactic(auto)]
+
 ghost use Rattle.std.specs.Prelude.{◌≡◌, [], ◌∷◌, ◌+◌, ◌≤◌, length, drop};
 ghost use Rattle.std.proofs.lemmas.List.Edits.{sets};
 ghost use Rattle.sink.specs.rule.Sent.{Sent};

@@ -1,5 +1,7 @@
 // The test behind refusal 20: is a table well formed? It asks nothing of the table. Above it stand all calls on records and files,
 // which test the table by it and then use what it gives.
+#![tactic(auto)]
+
 ghost use Rattle.std.specs.Prelude.{◌≡◌, ◌+◌, ◌*◌, ◌≤◌, ◌<◌, min, max, leb, length, true, ◌&&◌};
 ghost use Rattle.ascii.specs.rule.Tens.{Tens, digits_of};
 ghost use Rattle.below.specs.rule.Below.{◌and◌};
@@ -136,7 +138,7 @@ fn line_plain_lem(l: Line) -> bool
 }
 
 // What the numbers of some lines make, one over the other: none is above that.
-#[derive(Drop)]
+#[derive(Clone, Copy)]
 struct Laid {
     special: usize,
     text: usize,

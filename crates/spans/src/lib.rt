@@ -1,5 +1,7 @@
 // What a stretch of bytes says, as the value of an attribute or a text without tags has it: each byte itself, a reference its character,
 // a comment nothing. Numbers, values, words and a letter are read over these characters. Above it stand tags and elements.
+#![tactic(auto)]
+
 ghost use Rattle.std.specs.Prelude.{◌≡◌, true, ◌+◌, ◌*◌, ◌-◌, ◌≤◌, ◌<◌, length, []};
 ghost use Rattle.markup.specs.rule.Bytes.{is_digit};
 ghost use Rattle.scan.specs.Number.{push_of};
@@ -11,7 +13,7 @@ ghost use Rattle.spans.specs.rule.Says.{is_letter, is_value, of_class, heard_cou
 use markup::{Char, Skip};
 
 // The first character of what is left, with the place after it; or nothing is left; or what stands there says nothing.
-#[derive(Drop)]
+#[derive(Clone, Copy)]
 pub enum First {
     One { code: u64, next: usize },
     End,
@@ -19,7 +21,7 @@ pub enum First {
 }
 
 // What stands at a place: a comment, and the place after it; or an answer.
-#[derive(Drop)]
+#[derive(Clone, Copy)]
 pub enum Part {
     Passed(usize),
     Stop(First),
@@ -110,7 +112,7 @@ pub fn next_char(s: &[u8], at: usize) -> First
 }
 
 // The number that digits say, at most 10 ^ 15, and how many they are; or that there is another character, or none.
-#[derive(Drop)]
+#[derive(Clone, Copy)]
 pub enum Figures {
     Good { size: u64, count: usize },
     Wrong,

@@ -1,5 +1,7 @@
 // The statements of a definition but for its values, each read whole and then judged: notes, the opening, texts, the type,
 // POSITION, SPREAD, SIZE. Above it stand the values and the definition as a whole.
+#![tactic(auto)]
+
 ghost use Rattle.std.specs.Prelude.{◌≡◌, true, ◌<◌, length, get_or};
 ghost use Rattle.ascii.specs.Class.{Classes};
 ghost use Rattle.scan.specs.Number.{capped};
@@ -157,7 +159,7 @@ pub fn record_on(classes: &[u8; 256], d: &[u8], t: Reading) -> Reading
 }
 
 // The type, 1 SINGLE, 2 MULTIPLE, 3 QUANTITY, 4 CHARACTER, 5 LOGICAL, and the place after its word.
-#[derive(Drop)]
+#[derive(Clone, Copy)]
 pub enum Typed {
     Is { kind: usize, next: usize },
     Not(Fault),
@@ -196,7 +198,7 @@ pub fn type_on(classes: &[u8; 256], d: &[u8], t: Reading) -> Typed
 }
 
 // POSITION a [TO b]: the first and the last location, the first number's place, and the place after the statement.
-#[derive(Drop)]
+#[derive(Clone, Copy)]
 pub struct Position {
     pub start: u64,
     pub finish: u64,
@@ -204,7 +206,7 @@ pub struct Position {
     pub next: usize,
 }
 
-#[derive(Drop)]
+#[derive(Clone, Copy)]
 pub enum Stated {
     Is(Position),
     Not(Fault),
@@ -303,14 +305,14 @@ pub fn position_on(classes: &[u8; 256], d: &[u8], t: Reading) -> Stated
 }
 
 // SPREAD n [OF w]: how many subfields, of how many bytes each, and the place after the statement.
-#[derive(Drop)]
+#[derive(Clone, Copy)]
 pub struct Subfields {
     pub count: u64,
     pub width: u64,
     pub next: usize,
 }
 
-#[derive(Drop)]
+#[derive(Clone, Copy)]
 pub enum Spreading {
     Is(Subfields),
     Not(Fault),

@@ -2,6 +2,8 @@
 // the stretch of bytes that it is. Nothing is judged anew: where something else stands, the place stays. Above it stands the writer of
 // clean
 // definitions.
+#![tactic(auto)]
+
 ghost use Rattle.std.specs.Prelude.{◌≡◌, ◌-◌};
 ghost use Rattle.ascii.specs.Class.{Classes};
 ghost use Rattle.scan.specs.rule.Word.{word_at};
@@ -13,7 +15,7 @@ use scan::Word;
 use tokens::{Number, Phrase, Reading};
 
 // A stretch of the definition, the place where reading goes on behind it, and of a number what it says.
-#[derive(Drop)]
+#[derive(Clone, Copy)]
 pub struct Span {
     pub from: usize,
     pub end: usize,
@@ -22,7 +24,7 @@ pub struct Span {
 }
 
 // Whether a word stands here, and the place behind it, or here.
-#[derive(Drop)]
+#[derive(Clone, Copy)]
 pub struct Found {
     pub there: bool,
     pub next: usize,

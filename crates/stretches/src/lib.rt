@@ -1,5 +1,7 @@
 // A stretch of an XML definition decoded for a caller. It is judged and counted first, so that a refusal keeps the list, and then written.
 // Above it stands the face.
+#![tactic(auto)]
+
 ghost use Rattle.std.specs.Prelude.{◌≡◌, ◌++◌, ◌+◌, ◌-◌, ◌≤◌, ◌<◌, length, drop};
 ghost use Rattle.texts.specs.rule.Decode.{numbers_of};
 ghost use Rattle.contents.specs.rule.Content.{begun, signs_from};
@@ -10,7 +12,7 @@ use contents::Part;
 use texts::Decoded;
 
 // How many signs a text has, where there is room for them.
-#[derive(Drop)]
+#[derive(Clone, Copy)]
 pub enum Room {
     Signs(usize),
     Short,

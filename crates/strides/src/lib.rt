@@ -1,5 +1,7 @@
 // Numbers of a table at equal steps, as the idents of its rows or the values of a row's lines: whether they rise, whether they differ,
 // the least and the most of them. Above it stands the test of a table.
+#![tactic(auto)]
+
 ghost use Rattle.std.specs.Prelude.{◌≡◌, cond, true, ℕ, ◌+◌, ◌*◌, ◌≤◌, ◌<◌, length};
 ghost use Rattle.std.specs.Int.Signed.{le_z};
 ghost use Rattle.cells.specs.rule.Cell.{count_of};
@@ -8,14 +10,14 @@ ghost use Rattle.strides.specs.rule.Stride.{stride_at, number_new, all_differ};
 ghost use Rattle.strides.specs.Hull.{hull_with, Hulled, Blocked};
 
 // The least and the most of some numbers.
-#[derive(Drop)]
+#[derive(Clone, Copy)]
 pub struct Hull {
     pub least: i64,
     pub most: i64,
 }
 
 // Whether some numbers differ, and the least and the most of them.
-#[derive(Drop)]
+#[derive(Clone, Copy)]
 pub struct Block {
     pub differ: bool,
     pub hull: Hull,

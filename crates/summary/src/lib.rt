@@ -1,9 +1,11 @@
 // A column's summary: how many values are present, the smallest and the largest of them. By value, extended record by record. Above it
 // stands the matrix.
+#![tactic(auto)]
+
 ghost use Rattle.std.specs.Prelude.{◌≡◌, ◌<◌};
 ghost use Rattle.summary.specs.rule.Summary.{none_summed, extend_of, lower_of, higher_of};
 
-#[derive(Drop)]
+#[derive(Clone, Copy)]
 pub struct Summary {
     pub count: u64,
     pub least: f64,

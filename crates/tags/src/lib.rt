@@ -1,6 +1,8 @@
 // Start tags: the attributes that an element knows, each by its name and the form of its value, in whatever order they stand; the first 2
 // or 50 met ends the tag, a required one that is missing is 2 at the tag's end, the first that isn't known is kept for 51. Above it stand
 // contents and elements.
+#![tactic(auto)]
+
 ghost use Rattle.std.specs.Prelude.{◌≡◌, true, false, cond, eqb, ◌+◌, ◌-◌, ◌≤◌, ◌<◌, length, drop};
 ghost use Rattle.tags.specs.rule.Tag.{is_named, slot_of, form_of, stretch_fits, placed_of, put_of, misses_of, shut_tag, turn_of, turns_of};
 ghost use Rattle.tags.specs.rule.Tag.{tag_of};
@@ -12,7 +14,7 @@ use attributes::Attribute;
 
 // What is held of a tag: the values of its element's three attributes, each by its place and its end; the place of the third one's
 // name; the place of the first attribute that isn't known; and the place to go on from. Place 0 is none.
-#[derive(Drop)]
+#[derive(Clone, Copy)]
 pub struct Held {
     pub a: usize,
     pub ae: usize,
@@ -26,7 +28,7 @@ pub struct Held {
 }
 
 // A tag that was read, up to the end mark at `place`; or the first 2 or 50 met.
-#[derive(Drop)]
+#[derive(Clone, Copy)]
 pub enum Tag {
     Read {
         held: Held,
@@ -40,7 +42,7 @@ pub enum Tag {
     },
 }
 
-#[derive(Drop)]
+#[derive(Clone, Copy)]
 pub enum Turn {
     More(Held),
     Over(Tag),

@@ -1,5 +1,7 @@
 // A text of a definition decoded for a caller: the public call behind names, labels and the texts of lines. The stretch is measured
 // first, so that a refusal keeps the list, and then written. Above it stands the face.
+#![tactic(auto)]
+
 ghost use Rattle.std.specs.Prelude.{◌≡◌, ◌+◌, ◌≤◌, length, drop, ◌++◌, ltb, cond, true};
 ghost use Rattle.ascii.specs.Class.{Classes};
 ghost use Rattle.scan.specs.rule.Text.{text};
@@ -12,21 +14,21 @@ use scan::Step;
 use signs::Sign;
 
 // A run of bytes passed at once: the place after it, and how many signs were said before that.
-#[derive(Drop)]
+#[derive(Clone, Copy)]
 pub struct Run {
     pub next: usize,
     pub count: usize,
 }
 
 // What a stretch measures: so many signs; or it is not the inside of a text.
-#[derive(Drop)]
+#[derive(Clone, Copy)]
 pub enum Extent {
     Signs(usize),
     NotText,
 }
 
 // The answer of the call.
-#[derive(Drop)]
+#[derive(Clone, Copy)]
 pub enum Decoded {
     Signs(usize),
     NotText,
@@ -190,7 +192,7 @@ fn ended(inside: Inside, count: usize) -> Extent
 
 // One byte of a stretch read: how many signs it completes, the place after it, and where the reader then stands; or it can't stand
 // there; or the stretch is over.
-#[derive(Drop)]
+#[derive(Clone, Copy)]
 pub enum Pace {
     On {
         count: usize,

@@ -1,5 +1,7 @@
 // The tokens of a definition, each with the spaces and comments before it: words, numbers, values, strings, a letter. A refusal
 // passes through every reader, so that a statement is a row of calls. Above it stand the statements.
+#![tactic(auto)]
+
 ghost use Rattle.std.specs.Prelude.{◌≡◌, true, false, ◌+◌, ◌-◌, ◌≤◌, ◌<◌, length, get_or};
 ghost use Rattle.ascii.specs.Class.{Classes};
 ghost use Rattle.scan.specs.rule.Text.{text};
@@ -17,21 +19,21 @@ use marks::Skip;
 use scan::{Step, Word};
 
 // A refusal: its number, and the place of the token at fault.
-#[derive(Drop)]
+#[derive(Clone, Copy)]
 pub struct Fault {
     pub number: usize,
     pub place: usize,
 }
 
 // Where reading stands, or the refusal that ended it.
-#[derive(Drop)]
+#[derive(Clone, Copy)]
 pub enum Reading {
     At(usize),
     Refused(Fault),
 }
 
 // What stands at a place of a gap: a space or a comment, and the place after it; or the gap is over.
-#[derive(Drop)]
+#[derive(Clone, Copy)]
 pub enum Pace {
     On(usize),
     Over(Reading),
@@ -260,7 +262,7 @@ pub fn word_on(classes: &[u8; 256], d: &[u8], t: Reading, w: &[u8]) -> Reading
 }
 
 // A word that may stand right here, and the place after it.
-#[derive(Drop)]
+#[derive(Clone, Copy)]
 pub enum Choice {
     Taken(usize),
     Left,
@@ -280,7 +282,7 @@ pub fn perhaps(classes: &[u8; 256], d: &[u8], t: Reading, w: &[u8]) -> Choice
 }
 
 // Digits that stand side by side: what they say, and the place after them.
-#[derive(Drop)]
+#[derive(Clone, Copy)]
 pub struct Lead {
     pub size: u64,
     pub end: usize,
@@ -353,7 +355,7 @@ fn over_soon(d: &[u8], at: usize) -> bool
 }
 
 // A number that was read: what it says, at most 10 ^ 15, how many digits it has, its place and the place after it.
-#[derive(Drop)]
+#[derive(Clone, Copy)]
 pub struct Figures {
     pub size: u64,
     pub count: usize,
@@ -361,7 +363,7 @@ pub struct Figures {
     pub next: usize,
 }
 
-#[derive(Drop)]
+#[derive(Clone, Copy)]
 pub enum Number {
     Is(Figures),
     Not(Fault),
@@ -428,7 +430,7 @@ pub fn past_number(n: Number) -> Reading
 }
 
 // Whether a byte stands at a place, and the place after it or the same place.
-#[derive(Drop)]
+#[derive(Clone, Copy)]
 pub struct Mark {
     pub there: bool,
     pub next: usize,
@@ -462,7 +464,7 @@ pub fn find_mark(classes: &[u8; 256], d: &[u8], at: usize, b: u8) -> Mark
 // A value that was read: whether a minus stands in front; what its digits say, the point left out, at most 10 ^ 15; how many of
 // them stand before the point and behind it; whether there is a point; whether all of it is so: a minus or none, digits, a point
 // or none, digits, at least one digit in all. Then its place, the places where its digits begin and end, and the place after it.
-#[derive(Drop)]
+#[derive(Clone, Copy)]
 pub struct Value {
     pub minus: bool,
     pub size: u64,
@@ -476,7 +478,7 @@ pub struct Value {
     pub next: usize,
 }
 
-#[derive(Drop)]
+#[derive(Clone, Copy)]
 pub enum Amount {
     Is(Value),
     Not(Fault),
@@ -570,14 +572,14 @@ pub fn past_value(v: Amount) -> Reading
 
 // A string that was read: the place just after its opening quote, how many bytes it has up to its closing quote, undecoded, and
 // the place after that quote.
-#[derive(Drop)]
+#[derive(Clone, Copy)]
 pub struct Quoted {
     pub place: usize,
     pub length: usize,
     pub next: usize,
 }
 
-#[derive(Drop)]
+#[derive(Clone, Copy)]
 pub enum Phrase {
     Is(Quoted),
     Not(Fault),

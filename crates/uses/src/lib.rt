@@ -1,5 +1,7 @@
 // The part of the test behind refusal 20 that asks for the kind of definition a table came from: use and filter of each row, and
 // SPECIAL of each line. It stands apart, since no reading, judgement or write goes by these. Above it stands the test of a table.
+#![tactic(auto)]
+
 ghost use Rattle.std.specs.Prelude.{◌≡◌, ◌+◌, ◌≤◌, ◌<◌, length};
 ghost use Rattle.layout.specs.rule.Layout.{most_rows, most_lines, row_base, line_base};
 ghost use Rattle.uses.specs.rule.Uses.{own_use, filter_good, use_good, is_use, uses_good, specials_none, xml_good, rows_unused};

@@ -1,5 +1,7 @@
 // Characters: the one pass over a file's bytes that finds the first place where no legal character stands. What comes before is read
 // byte by byte: the bytes of marks are below 128, and no byte of a longer sequence is.
+#![tactic(auto)]
+
 ghost use Rattle.std.specs.Prelude.{◌≡◌, ◌+◌, ◌-◌, ◌≤◌, ◌<◌, [], ◌∷◌, ◌/◌, ◌%◌, length, drop, get_or};
 ghost use Rattle.utf.specs.rule.Chars.{legal_character, encode};
 ghost use Rattle.utf.specs.rule.Cut.{plain_of, follows, valid_pair, triple_of, valid_four, two_in, three_in, four_in, long_of};

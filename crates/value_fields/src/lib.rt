@@ -1,6 +1,8 @@
 // The fields of a record as they are exported: numbers with their point, sets with semicolons, texts in quotes where they need them. Above
 // it
 // stands the export of a file.
+#![tactic(auto)]
+
 ghost use Rattle.std.specs.Prelude.{◌≡◌, Bool, true, false, cond, [], ◌∷◌, ◌+◌, ◌-◌, ◌*◌, ◌^◌, ◌≤◌, ◌<◌, eqb, ℤ, length, take, drop};
 ghost use Rattle.std.proofs.lemmas.List.Edits.{sets};
 ghost use Rattle.ascii.specs.rule.Tens.{Tens};

@@ -1,5 +1,7 @@
 // The values of a variable: a range, and the lines, each read whole and then judged. The numbers of the lines go into a lent list,
 // four a line. Above it stands the definition as a whole.
+#![tactic(auto)]
+
 ghost use Rattle.std.specs.Prelude.{◌≡◌, false, true, [], ◌+◌, ◌*◌, ◌-◌, ◌≤◌, ◌<◌, length, set};
 ghost use Rattle.std.specs.Int.Signed.{lt_z};
 ghost use Rattle.ascii.specs.Class.{Classes};
@@ -23,7 +25,7 @@ use tokens::{Amount, Choice, Fault, Phrase, Quoted, Reading, Value};
 
 // What the values of a variable have said so far: whether there is a range, and its ends; whether a number was read, and then how
 // many decimals all have; and the code of the point, 0 none, 1 one, 2 one that no number has a digit before.
-#[derive(Drop)]
+#[derive(Clone, Copy)]
 pub struct Block {
     pub ranged: bool,
     pub from: i64,
@@ -108,7 +110,7 @@ fn scaled(quantity: bool, v: Value) -> i64
     cells::number_of(v.minus, v.size)
 }
 
-#[derive(Drop)]
+#[derive(Clone, Copy)]
 pub enum Judged {
     Good(Block),
     Bad(Fault),
@@ -176,7 +178,7 @@ pub fn judge_range(below: bool, quantity: bool, a: Value, b: Value) -> Judged
 }
 
 // A range that was read: what it says, whether WITH follows, and the place after it.
-#[derive(Drop)]
+#[derive(Clone, Copy)]
 pub enum Ranged {
     Is {
         block: Block,
@@ -245,7 +247,7 @@ pub fn range_rest(classes: &[u8; 256], d: &[u8], quantity: bool, a: Amount, t: R
 }
 
 // A line that was read: its value, its text, whether it is special, 0 or 1, and the place after it.
-#[derive(Drop)]
+#[derive(Clone, Copy)]
 pub struct Said {
     pub value: Value,
     pub text: Quoted,
@@ -253,7 +255,7 @@ pub struct Said {
     pub next: usize,
 }
 
-#[derive(Drop)]
+#[derive(Clone, Copy)]
 pub enum Lined {
     Is(Said),
     Not(Fault),
@@ -364,7 +366,7 @@ fn line_fault(quantity: bool, b: Block, v: Value) -> usize
     if large(quantity, v) { 8 } else { 0 }
 }
 
-#[derive(Drop)]
+#[derive(Clone, Copy)]
 pub enum Verdict {
     Good(i64),
     Bad(Fault),
@@ -427,7 +429,7 @@ fn grown(b: Block, v: Value) -> Block
 }
 
 // What follows a line: another value, or END VALUES and the place after it.
-#[derive(Drop)]
+#[derive(Clone, Copy)]
 pub enum Turn {
     More { amount: Amount, block: Block },
     Over { block: Block, next: usize },
@@ -618,7 +620,7 @@ pub fn cramped(lines: &[i64], last: usize) -> bool
 }
 
 // Lines up to END VALUES: what the block has said, how many lines there are in all, and the place after END VALUES.
-#[derive(Drop)]
+#[derive(Clone, Copy)]
 pub enum Listed {
     Is {
         block: Block,

@@ -1,5 +1,7 @@
 // A variable: its ident, name, label, type and position, and what its type has behind them, up to END VARIABLE. Above it stands the
 // definition as a whole.
+#![tactic(auto)]
+
 ghost use Rattle.std.specs.Prelude.{◌≡◌, ◌*◌, ◌≤◌, ◌<◌, length};
 ghost use Rattle.ascii.specs.Class.{Classes};
 ghost use Rattle.layout.specs.rule.Layout.{line_size, most_lines};
@@ -79,7 +81,7 @@ fn past_type(k: Typed) -> Reading
 }
 
 // What every variable says: its ident, name, label, type and position.
-#[derive(Drop)]
+#[derive(Clone, Copy)]
 pub struct Head {
     pub ident: u64,
     pub name: Quoted,
@@ -91,21 +93,21 @@ pub struct Head {
     pub next: usize,
 }
 
-#[derive(Drop)]
+#[derive(Clone, Copy)]
 pub enum Headed {
     Is(Head),
     Not(Fault),
 }
 
 // The ident and the texts.
-#[derive(Drop)]
+#[derive(Clone, Copy)]
 pub struct Titles {
     pub ident: u64,
     pub name: Quoted,
     pub label: Quoted,
 }
 
-#[derive(Drop)]
+#[derive(Clone, Copy)]
 pub enum Titled {
     Is(Titles),
     Not(Fault),
@@ -197,7 +199,7 @@ pub fn head_on(classes: &[u8; 256], d: &[u8], i: Number) -> Headed
 
 // What the type of a variable has behind its position: its values, how many lines there are then in all, its subfields and their
 // width, its size, and the place after it. What a type lacks is 0.
-#[derive(Drop)]
+#[derive(Clone, Copy)]
 pub struct Rest {
     pub block: Block,
     pub last: usize,
@@ -207,7 +209,7 @@ pub struct Rest {
     pub next: usize,
 }
 
-#[derive(Drop)]
+#[derive(Clone, Copy)]
 pub enum Rested {
     Is(Rest),
     Not(Fault),

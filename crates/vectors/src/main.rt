@@ -2,6 +2,8 @@
 // the answer is printed with the table, and whether every other number of the table holds what it held. Where a place and a length stand
 // with the case, the text there is decoded into the room, and its signs are printed; where one number more stands there, the definition
 // is written clean into as many bytes, and its text is printed. `cases.py` beside this makes the cases and the answers.
+#![tactic(auto)]
+
 ghost use Rattle.std.specs.Prelude.{◌≤◌, ◌<◌, length};
 
 use clean::Written;
@@ -218,7 +220,7 @@ fn run_case(out: &mut [u8], at: usize, d: &[u8], h: Head, table: &mut [i64]) -> 
 }
 
 // A number from a place on, and the place behind the byte after it.
-#[derive(Drop)]
+#[derive(Clone, Copy)]
 struct Figure {
     value: usize,
     next: usize,
@@ -252,7 +254,7 @@ fn figure_at(text: &[u8], at: usize) -> Figure {
 }
 
 // Where the next case starts, and where output goes on.
-#[derive(Drop)]
+#[derive(Clone, Copy)]
 struct Progress {
     at: usize,
     out: usize,
@@ -268,7 +270,7 @@ fn behind(at: usize, end: usize, most: usize) -> usize
 
 // The first line of a case: how many bytes the definition has, the room, and the place and length of a text that is to be decoded, or the
 // length of the output that the definition is to be written into.
-#[derive(Drop)]
+#[derive(Clone, Copy)]
 struct Head {
     length: usize,
     room: usize,

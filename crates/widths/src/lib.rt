@@ -1,5 +1,7 @@
 // The bytes that a number takes in the data, by the kind of its row, and the limits of a row's numbers. Above it stand the test
 // of a table and the reader of a definition, which both compute the value width w from it.
+#![tactic(auto)]
+
 ghost use Rattle.std.specs.Prelude.{◌≡◌, ◌≤◌, cond, eqb};
 ghost use Rattle.ascii.specs.rule.Tens.{Tens};
 ghost use Rattle.ascii.specs.rule.Tens.{digits_of};

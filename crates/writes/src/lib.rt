@@ -1,5 +1,7 @@
 // One row's value written into a record: which values fit a row of each kind, and the bytes that they give at its value places.
 // Above it stand the face for C and Rust, and the lists of corrections.
+#![tactic(auto)]
+
 ghost use Rattle.std.specs.Prelude.{length};
 ghost use Rattle.ascii.specs.rule.Tens.{Tens};
 ghost use Rattle.writes.specs.Write.{WrittenBy, Ready};
@@ -13,7 +15,7 @@ pub mod plain;
 mod texts;
 
 // A row's value, as it is given: a set and a text stand beside it.
-#[derive(Drop)]
+#[derive(Clone, Copy)]
 pub enum Value {
     Missing,
     Number(i64),
@@ -23,7 +25,7 @@ pub enum Value {
 }
 
 // The answer to a write: done, or refused.
-#[derive(Drop)]
+#[derive(Clone, Copy)]
 pub enum Wrote {
     Done,
     NotWellFormed,

@@ -1,5 +1,7 @@
 // A definition in XML as a whole, read into rooms for rows and lines: all its variables, what stands before and behind them, and the names.
 // Above it stands the call for both kinds of a definition.
+#![tactic(auto)]
+
 ghost use Rattle.std.specs.Prelude.{◌≡◌, Bool, ◌+◌, ◌*◌, ◌≤◌, ◌<◌, length};
 ghost use Rattle.ascii.specs.Class.{Classes};
 ghost use Rattle.ascii.specs.rule.Tens.{Tens};
@@ -52,7 +54,7 @@ fn begin_variable(
 }
 
 // One more variable; the end of the record, at a place; or the refusal.
-#[derive(Drop)]
+#[derive(Clone, Copy)]
 pub enum Turn {
     More {
         ident: usize,
@@ -102,7 +104,7 @@ fn one_variable(
 }
 
 // The variables, and the place behind the end tag of their record.
-#[derive(Drop)]
+#[derive(Clone, Copy)]
 pub enum Run {
     Is { tally: Tally, next: usize },
     Not(Fault),

@@ -1,6 +1,8 @@
 // The face for C and Rust: each public call as an exported function on numbers and slices, with an answer of four numbers where one is
 // not enough. It holds no rule of its own but that of a truth given as a number. Nothing checks the declarations on the other side:
 // include/zarfolin.h has them.
+#![tactic(auto)]
+
 ghost use Rattle.std.specs.Prelude.{◌≡◌, false, pos};
 ghost use Rattle.fields.specs.rule.Field as field;
 ghost use Rattle.fields.specs.rule.Field.{missing, members};
@@ -53,7 +55,7 @@ use texts::Decoded;
 use writes::Value;
 
 // The four numbers of an answer; the first is given back.
-#[derive(Drop)]
+#[derive(Clone, Copy)]
 pub struct Told {
     pub number: u64,
     pub first: i64,

@@ -5,8 +5,8 @@ use mathlib.Core.Bool.{◌&&◌}
 use Prim.Native.Nat.{◌-◌, ◌≤◌, ◌+◌}
 use Rattle.below.specs.Below.{all_none, all_next}
 use Rattle.contents.specs.Pass.{all_plain}
-use Rattle.contents.proofs.all_plain_lem.Statement.{statement}
-use Rattle.contents.proofs.all_plain_lem.Tie as tie
+use Rattle.contents.proofs.all_plain.Statement.{statement}
+use Rattle.contents.proofs.all_plain.Tie as tie
 
 abbrev invariant-loop : tie.invariant-loop
 invariant-loop d i plain₀ k₀ plain k = (k ≤ 16) × (plain ≡ all_plain d i k)

@@ -11,8 +11,8 @@ use Rattle.xml_reading.specs.rule.Open.{unknown_at}
 use Rattle.xml_reading.specs.rule.Element.{figure_of, size_in}
 use Rattle.elements.proofs.Bodies.{behind_found}
 use Rattle.elements.proofs.Judging.{size_ruled}
-use Rattle.elements.proofs.size_in_lem.Statement.{statement}
-use Rattle.elements.proofs.size_in_lem.Tie as tie
+use Rattle.elements.proofs.size_in.Statement.{statement}
+use Rattle.elements.proofs.size_in.Tie as tie
 
 add-e : tie.Need-overflow-add-e
 add-e c = omega (arith, c.before.before.requires.0)

@@ -6,8 +6,8 @@ use Rattle.values.specs.Room.{holds}
 use Rattle.values.proofs.Rooms.{unless_on, unless_told}
 use Rattle.entries.proofs.Heads.{none}
 use Rattle.entries.proofs.Entries.{Known, known, measure_here, stood_here, stored_here, stood_not, stored_not}
-use Rattle.entries.proofs.rest_then_lem.Statement.{statement}
-use Rattle.entries.proofs.rest_then_lem.Tie as tie
+use Rattle.entries.proofs.rest_then.Statement.{statement}
+use Rattle.entries.proofs.rest_then.Tie as tie
 
 -- what was told, behind the call
 known_here : (c : tie.After-settle-arg)

@@ -1,7 +1,7 @@
 use borrow.Author.Rules.{rules}
 use Rattle.markup.specs.rule.Bytes.{is_digit}
-use Rattle.markup.proofs.is_digit_lem.Statement.{statement}
-use Rattle.markup.proofs.is_digit_lem.Tie as tie
+use Rattle.markup.proofs.is_digit.Statement.{statement}
+use Rattle.markup.proofs.is_digit.Tie as tie
 
 returns : tie.Need-returns
 unfolding is_digit

@@ -2,8 +2,8 @@
 -- Assumes nothing.
 use borrow.Author.Rules.{rules}
 use Rattle.files.specs.Tested.{tested_rows}
-use Rattle.matrices.proofs.columns_of_lem.Statement.{statement}
-use Rattle.matrices.proofs.columns_of_lem.Tie as tie
+use Rattle.matrices.proofs.columns_of.Statement.{statement}
+use Rattle.matrices.proofs.columns_of.Tie as tie
 
 returns : tie.Need-returns
 returns c = rw (tested_rows c.before.before.before.requires) at c.before.count-columns.ensures

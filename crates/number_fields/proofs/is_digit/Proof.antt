@@ -2,8 +2,8 @@
 use mathlib.Core.Path.{refl}
 use borrow.Author.Rules.{rules}
 use Rattle.below.specs.Below.{holds_not}
-use Rattle.number_fields.proofs.is_digit_lem.Statement.{statement}
-use Rattle.number_fields.proofs.is_digit_lem.Tie as tie
+use Rattle.number_fields.proofs.is_digit.Statement.{statement}
+use Rattle.number_fields.proofs.is_digit.Tie as tie
 
 returns : tie.Need-returns
 returns c = λ e. holds_not e refl

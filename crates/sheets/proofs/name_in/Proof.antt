@@ -4,8 +4,8 @@ use Rattle.xml_reading.specs.rule.Word.{NAME}
 use Rattle.xml_reading.specs.rule.Role.{naming}
 use Rattle.elements.specs.Code.{phrase_of}
 use Rattle.sheets.proofs.Parts.{due_goes, due_stops, name_ends}
-use Rattle.sheets.proofs.name_in_lem.Statement.{statement}
-use Rattle.sheets.proofs.name_in_lem.Tie as tie
+use Rattle.sheets.proofs.name_in.Statement.{statement}
+use Rattle.sheets.proofs.name_in.Tie as tie
 
 naming-at-requires : tie.Need-naming-at-requires
 naming-at-requires c κs = let v = rw c.before.place.given.1 at

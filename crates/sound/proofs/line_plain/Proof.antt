@@ -1,6 +1,6 @@
 use borrow.Author.Tests.{le-leb, lt-leb}
-use Rattle.sound.proofs.line_plain_lem.Statement.{statement}
-use Rattle.sound.proofs.line_plain_lem.Tie as tie
+use Rattle.sound.proofs.line_plain.Statement.{statement}
+use Rattle.sound.proofs.line_plain.Tie as tie
 
 returns : tie.Need-returns
 returns c = rw (lt-leb _ 1 c.if1.true)

@@ -4,8 +4,8 @@ use lib.ListN.{length, drop, get_or, length-drop}
 use borrow.Author.Rules.{rules}
 use native.Mathlib.Omega.{arith}
 use Rattle.markup.specs.rule.Bytes.{is_digit}
-use Rattle.spans.proofs.is_digit_lem.Statement.{statement}
-use Rattle.spans.proofs.is_digit_lem.Tie as tie
+use Rattle.spans.proofs.is_digit.Statement.{statement}
+use Rattle.spans.proofs.is_digit.Tie as tie
 
 returns : tie.Need-returns
 unfolding is_digit

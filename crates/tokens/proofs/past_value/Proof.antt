@@ -1,8 +1,8 @@
 use Rattle.tokens.specs.Token.{past_value}
 use mathlib.Core.Path.{◌∙◌, sym}
 use borrow.Author.Rules.{rules}
-use Rattle.tokens.proofs.past_value_lem.Statement.{statement}
-use Rattle.tokens.proofs.past_value_lem.Tie as tie
+use Rattle.tokens.proofs.past_value.Statement.{statement}
+use Rattle.tokens.proofs.past_value.Tie as tie
 
 returns : tie.Need-returns
 unfolding past_value

@@ -1,8 +1,8 @@
 use mathlib.Core.Path.{◌∙◌, sym}
 use borrow.Author.Rules.{rules}
 use Rattle.tokens.specs.Token.{value_here, value_on}
-use Rattle.tokens.proofs.value_on_lem.Statement.{statement}
-use Rattle.tokens.proofs.value_on_lem.Tie as tie
+use Rattle.tokens.proofs.value_on.Statement.{statement}
+use Rattle.tokens.proofs.value_on.Tie as tie
 
 returns : tie.Need-returns
 unfolding value_on

@@ -1,8 +1,8 @@
 use Rattle.tokens.specs.Token.{word_on}
 use mathlib.Core.Path.{◌∙◌, sym}
 use borrow.Author.Rules.{rules}
-use Rattle.tokens.proofs.word_on_lem.Statement.{statement}
-use Rattle.tokens.proofs.word_on_lem.Tie as tie
+use Rattle.tokens.proofs.word_on.Statement.{statement}
+use Rattle.tokens.proofs.word_on.Tie as tie
 
 returns : tie.Need-returns
 unfolding word_on

@@ -7,8 +7,8 @@ use lib.ListN.{get_or}
 use Rattle.below.specs.Below.{all_none, all_next}
 use Rattle.utf.specs.rule.Cut.{plain_of}
 use Rattle.utf.specs.Stride.{all_plain}
-use Rattle.utf.proofs.all_plain_lem.Statement.{statement}
-use Rattle.utf.proofs.all_plain_lem.Tie as tie
+use Rattle.utf.proofs.all_plain.Statement.{statement}
+use Rattle.utf.proofs.all_plain.Tie as tie
 
 abbrev invariant-loop : tie.invariant-loop
 invariant-loop latin d i plain₀ k₀ plain k = (k ≤ 16) × (plain ≡ all_plain latin d i k)

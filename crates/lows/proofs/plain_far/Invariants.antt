@@ -1,0 +1,10 @@
+-- `lows::plain_far` meets its contract. The invariant: no byte before i is below 32.
+use Prim.Native.Nat.{◌-◌, ◌≤◌}
+use Rattle.lows.specs.Lows.{Clear}
+use Rattle.lows.proofs.plain_far.Given as goal
+
+abbrev pub invariant-loop-i : goal.invariant-loop-i
+invariant-loop-i l = (l.i ≤ l.n) × Clear l.s l.from l.i
+
+abbrev pub decreases-loop-i : goal.decreases-loop-i
+decreases-loop-i l = l.n - l.i

@@ -1,0 +1,11 @@
+-- `quotes::skip_pair` meets its contract. The invariant: no byte before i is a mark.
+use Prim.Native.Nat.{◌-◌}
+use lib.ListN.{length}
+use Rattle.quotes.specs.Quotes.{is_mark, Unmarked}
+use Rattle.quotes.proofs.skip_pair.Given as goal
+
+abbrev pub invariant-loop-i : goal.invariant-loop-i
+invariant-loop-i l = Unmarked (is_mark l.x l.y l.y) l.s l.from l.i
+
+abbrev pub decreases-loop-i : goal.decreases-loop-i
+decreases-loop-i l = length l.s - l.i

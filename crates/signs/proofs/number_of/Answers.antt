@@ -1,0 +1,12 @@
+use native.Mathlib.Omega.{arith}
+use mathlib.Core.Path.{◌∙◌}
+use Rattle.signs.specs.rule.Sign.{sign_number}
+use Rattle.signs.proofs.number_of.Goals as goal
+
+pub returns-in-Byte : goal.returns-in-Byte
+unfolding sign_number
+returns-in-Byte c = (c.wide.ensures.0 ∙ rw c.in-Byte.is, c.wide.ensures.1)
+
+pub returns-in-Break : goal.returns-in-Break
+unfolding sign_number
+returns-in-Break c = (rw c.in-Break.is, omega arith)
