@@ -8,25 +8,22 @@ loop-x-init c = rw (c.significant-i.ensures, c.significant-j.ensures) (sym (less
 
 pub loop-x-smaller : goal.loop-x-smaller
 loop-x-smaller c =
-    let at_x = c in
-    let s = figure_one _ _ at_x.next_digit.ensures at_x.in-One.is in
+    let s = figure_one _ _ c.next_digit.ensures c.in-One.is in
     omega arith
 
 pub loop-x-preserved : goal.loop-x-preserved
 loop-x-preserved c =
-    let at-next-digit2 = c in
-    let s = figure_one _ _ at-next-digit2.next_digit.ensures
-    at-next-digit2.in-One.is in
-    let t = figure_one _ _ at-next-digit2.next_digit-in-One.ensures c.in-One-next_digit.is in
-    at-next-digit2.loop-x.invariant ∙ less_both _ s.split t.split c.then_order-o.ensures
+    let s = figure_one _ _ c.next_digit.ensures
+    c.in-One.is in
+    let t = figure_one _ _ c.next_digit-in-One.ensures c.in-One-next_digit.is in
+    c.loop-x.invariant ∙ less_both _ s.split t.split c.then_order-o.ensures
 
 pub returns-in-Nothing-next_digit : goal.returns-in-Nothing-next_digit
 returns-in-Nothing-next_digit c =
-    let at-next-digit2 = c in
-    let s = figure_one _ _ at-next-digit2.next_digit.ensures
-    at-next-digit2.in-One.is in
-    sym (at-next-digit2.loop-x.invariant
-    ∙ less_longer _ s.split (figure_none _ _ _ at-next-digit2.next_digit-in-One.ensures c.in-Nothing-next_digit.is))
+    let s = figure_one _ _ c.next_digit.ensures
+    c.in-One.is in
+    sym (c.loop-x.invariant
+    ∙ less_longer _ s.split (figure_none _ _ _ c.next_digit-in-One.ensures c.in-Nothing-next_digit.is))
 
 pub returns-in-One-next_digit-2 : goal.returns-in-One-next_digit-2
 returns-in-One-next_digit-2 c =
@@ -37,7 +34,6 @@ returns-in-One-next_digit-2 c =
 
 pub returns-in-Nothing-next_digit-2 : goal.returns-in-Nothing-next_digit-2
 returns-in-Nothing-next_digit-2 c =
-    let at-next-digit3 = c in
-    c.is_less.ensures ∙ sym (at-next-digit3.loop-x.invariant ∙ less_even _
-    (figure_none _ _ _ at-next-digit3.next_digit.ensures at-next-digit3.in-Nothing.is)
-    (figure_none _ _ _ at-next-digit3.next_digit-in-Nothing.ensures c.in-Nothing-next_digit-2.is))
+    c.is_less.ensures ∙ sym (c.loop-x.invariant ∙ less_even _
+    (figure_none _ _ _ c.next_digit.ensures c.in-Nothing.is)
+    (figure_none _ _ _ c.next_digit-in-Nothing.ensures c.in-Nothing-next_digit-2.is))

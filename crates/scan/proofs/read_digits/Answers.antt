@@ -12,11 +12,9 @@ loop-byte-init c = (refl, omega arith, omega arith)
 pub returns-then-class_of-ne-DIGIT : goal.returns-then-class_of-ne-DIGIT
 unfolding is_digit
 returns-then-class_of-ne-DIGIT c =
-    let at_byte = c in
-    let at-loop = at_byte in
-    let s = stepped _ _ at_byte.next_byte.ensures at_byte.in-Byte.is in
-    sym (at-loop.loop-byte.invariant.0 ∙ digits_over _ _ _ s.split (ne_eqb _ _ (λ e. c.if-class_of-ne-DIGIT.true (c.class_of.ensures ∙ e)))
-    at-loop.loop-byte.invariant.1)
+    let s = stepped _ _ c.next_byte.ensures c.in-Byte.is in
+    sym (c.loop-byte.invariant.0 ∙ digits_over _ _ _ s.split (ne_eqb _ _ (λ e. c.if-class_of-ne-DIGIT.true (c.class_of.ensures ∙ e)))
+    c.loop-byte.invariant.1)
 
 pub overflow_add-count : goal.overflow_add-count
 overflow_add-count c =
@@ -33,10 +31,9 @@ loop-byte-smaller c =
 pub loop-byte-preserved : goal.loop-byte-preserved
 unfolding is_digit
 loop-byte-preserved c =
-    let at-class-of = c in
-    let s = stepped _ _ at-class-of.next_byte.ensures at-class-of.in-Byte.is in (
-      at-class-of.loop-byte.invariant.0
-          ∙ digits_next _ _ _ s.split (eq-eqb _ _ (sym at-class-of.class_of.ensures ∙ c.if-class_of-ne-DIGIT.false))
+    let s = stepped _ _ c.next_byte.ensures c.in-Byte.is in (
+      c.loop-byte.invariant.0
+          ∙ digits_next _ _ _ s.split (eq-eqb _ _ (sym c.class_of.ensures ∙ c.if-class_of-ne-DIGIT.false))
           ∙ rw (s.next, c.pushed-size.ensures.0),
       c.pushed-size.ensures.1,
       omega arith,

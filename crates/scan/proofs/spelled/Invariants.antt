@@ -8,7 +8,8 @@ use Rattle.scan.specs.rule.Word.{word_of, word_at}
 use Rattle.scan.proofs.spelled.Given as goal
 
 abbrev pub invariant-loop-i : goal.invariant-loop-i
-invariant-loop-i l = (l.i ≤ length l.w) × (l.same ≡ true → word_at l.d l.at l.w ≡ word_of (l.at + l.i) (text l.d (l.at + l.i)) (drop l.i l.w))
+invariant-loop-i l = (l.i ≤ length l.w) × (l.same ≡ true → word_at l.d l.at l.w
+    ≡ word_of (l.at + l.i) (text l.d (l.at + l.i)) (drop l.i l.w))
 
 abbrev pub decreases-loop-i : goal.decreases-loop-i
 decreases-loop-i l = length l.w - l.i
