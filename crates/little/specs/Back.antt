@@ -24,6 +24,7 @@ bits_real x f h = rw (nan_bits_is binary64 (to_bits binary64 x), of_bits-to_bits
 
 pub float_back : (r : List ℕ) (a : ℕ) (x : Float) → a + 8 ≤ length r → T (fits binary64 x)
     → of_bits binary64 (number_at 8 a (put_at r a (little_bytes 8 (to_bits binary64 x)))) ≡ x
-float_back r a x h f = ap (of_bits binary64) (number_back r a 8 (to_bits binary64 x) h (to_bits-lt binary64 x f)) ∙ of_bits-to_bits binary64 x f
+float_back r a x h f = ap (of_bits binary64) (number_back r a 8 (to_bits binary64 x) h (to_bits-lt binary64 x f))
+    ∙ of_bits-to_bits binary64 x f
 
 -- ---- a put behind the bytes that are read
