@@ -5,11 +5,9 @@ use Rattle.std.proofs.Common.{sym, ap, ◌∙◌}
 use Rattle.std.specs.Float.{binary64}
 use Rattle.std.specs.Float.Ieee.{is_nan, fits, nan_bits, of_bits, to_bits}
 use Rattle.std.specs.Float.Ieee.Bits.{of_bits-to_bits, to_bits-lt, nan_bits_is}
-use Rattle.places.specs.rule.Places.{put, run}
-use Rattle.places.specs.Laws.{length_put, apart, pick_run}
 use Rattle.little.specs.rule.Bytes.{little_bytes, put_at, little_number}
 use Rattle.little.specs.Bytes.{number_at, bytes_count, bytes_back}
-use Rattle.little.specs.Runs.{put_back, apart_runs}
+use Rattle.little.specs.Runs.{put_back}
 
 pub number_back : (r : List ℕ) (a k n : ℕ) → a + k ≤ length r → n < 256 ^ k → number_at k a (put_at r a (little_bytes k n)) ≡ n
 unfolding number_at

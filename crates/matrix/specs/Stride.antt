@@ -57,7 +57,8 @@ unfolding value_bytes
 value_at_lem [] j rest h = absurd (omega arith)
 value_at_lem (e ∷ es) zero rest h =
     let b = little_bytes 8 (to_bits binary64 (float_of e)) in
-    ap (take 8) (append_assoc b (value_bytes es) rest) ∙ take_at b (value_bytes es ++ rest) 8 (bytes_count 8 (to_bits binary64 (float_of e)))
+    ap (take 8) (append_assoc b (value_bytes es) rest)
+    ∙ take_at b (value_bytes es ++ rest) 8 (bytes_count 8 (to_bits binary64 (float_of e)))
 value_at_lem (e ∷ es) (suc j) rest h =
     let b = little_bytes 8 (to_bits binary64 (float_of e)) in
     let d : 8 * suc j ≡ length b + 8 * j = omega (arith, bytes_count 8 (to_bits binary64 (float_of e))) in
@@ -89,7 +90,8 @@ module _ (r : List ℕ) (fl vl : ℕ) (es : List Entry) (behind : fl + length es
       let l = length_values es in
       let i : vl + length (value_bytes es) ≤ length (put_at r fl (flags_of es)) = rw (length_put_at r fl (flags_of es)) (omega arith) in
       sym (take-append-drop (length (value_bytes es)) (drop vl whole))
-      ∙ ap (λ (x : List ℕ). x ++ drop (length (value_bytes es)) (drop vl whole)) (put_back (put_at r fl (flags_of es)) vl (value_bytes es) i)
+      ∙ ap (λ (x : List ℕ). x ++ drop (length (value_bytes es)) (drop vl whole))
+      (put_back (put_at r fl (flags_of es)) vl (value_bytes es) i)
 
   -- THE EIGHT BYTES of an entry
   pub bytes_there : (j : ℕ) → j < length es → take 8 (drop (vl + 8 * j) whole)

@@ -151,7 +151,7 @@ head_standing t h e f =
     let few = head_few h e in
     let long =
     leb-true (line_base h.rows h.lines) (length t)
-    (and_right (eqb h.rows_at header_size && eqb h.lines_at_lem (lines_base h.rows))
+    (and_right (eqb h.rows_at header_size && eqb h.lines_at (lines_base h.rows))
     (leb (line_base h.rows h.lines) (length t)) f) in
     record { few-rows = few.0; few-lines = omega arith; stand = omega arith }
 

@@ -37,7 +37,7 @@ fn head_sums(h: Header, length: usize) -> bool
     ensures { result ≡ head_sums h length }
 {
     (h.rows_at == Header::SIZE)
-        & (h.lines_at_lem == Row::base(h.rows))
+        & (h.lines_at == Row::base(h.rows))
         & (Line::base(h.rows, h.lines) <= length)
 }
 
@@ -125,7 +125,7 @@ fn shared_good(e: usize, before: usize, c: Columns) -> bool
         & (c.lines <= e - before)
 }
 
-fn line_plain_lem(l: Line) -> bool
+fn line_plain(l: Line) -> bool
     ensures { result ≡ line_plain l }
 {
     if 1 < l.special {

@@ -25,21 +25,15 @@ grown n b w i h g l k = let d : w - (i - 1) ≡ suc (w - i) = omega arith in rw 
 room : (n w i : ℕ) → 0 < i → w ≤ 8 → n < 256 ^ (w - i) → n < 72057594037927936
 room n w i h g l = let d : w - i ≤ 7 = omega arith in le_trans l (pow-le-pow_right {n = 256} (zero-lt-suc 255) d)
 
-fits : (c : goal.In-loop-i) → c.loop-i.n < 72057594037927936
-fits c =
-    let l = c in
-    let start = l in
-    room l.loop-i.n start.args.width l.loop-i.i c.loop-i-test.true start.requires.width_bound l.loop-i.invariant.1
-
 pub loop-i-init : goal.loop-i-init
 unfolding number_at little_number
 loop-i-init c = let w = c.args.width in let d : w - w ≡ 0 = omega arith in rw d (omega arith, omega arith, refl)
 
 pub overflow_add-n : goal.overflow_add-n
 overflow_add-n c =
-    let l = c in
-    let r = fits c.before.before in
-    let b = c.shared_slice_known-in-loop-i-1.given (l.args.at + (l.loop-i.i - 1)) in
+    let l = c.loop-i in
+    let r = room l.n c.args.width l.i c.loop-i-test.true c.requires.width_bound l.invariant.1 in
+    let b = c.shared_slice_known-in-loop-i-1.given (c.args.at + (l.i - 1)) in
     omega arith
 
 pub loop-i-preserved : goal.loop-i-preserved
@@ -58,4 +52,7 @@ returns c =
     c.loop-i.invariant.2 ∙ rw (d, sub-zero, add-zero)
 
 pub overflow_mul-n : goal.overflow_mul-n
-overflow_mul-n c = let r = fits c in omega arith
+overflow_mul-n c =
+    let l = c.loop-i in
+    let r = room l.n c.args.width l.i c.loop-i-test.true c.requires.width_bound l.invariant.1 in
+    omega arith

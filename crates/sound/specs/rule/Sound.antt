@@ -189,7 +189,7 @@ head_counts h = mark_known h && leb 1 h.rows && leb h.rows most_rows && leb h.li
 
 abbrev pub head_sums : Header → ℕ → Bool
 head_sums h n =
-    eqb h.rows_at header_size && eqb h.lines_at_lem (lines_base h.rows) && leb (line_base h.rows h.lines) n
+    eqb h.rows_at header_size && eqb h.lines_at (lines_base h.rows) && leb (line_base h.rows h.lines) n
 
 -- every row good, the lines added up, L the highest finish
 unfoldable pub rows_good : List ℤ → Header → Bool
