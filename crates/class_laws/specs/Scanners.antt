@@ -1,7 +1,7 @@
 -- "Every byte is judged by its class; one table of 256 classes serves every scanner." Scanners of words, numbers and gaps read the table.
 -- Where a scanner compares a byte itself (strings, comments, digits side by side, quick passes over plain stretches), these laws say which
 -- class it asks for: the table and the comparison tell the same bytes.
-use Rattle.std.specs.Prelude.{ℕ, ◌<◌, ◌≡◌, refl, Bool, true, false, cond, not, ◌&&◌, ◌||◌, eqb, ltb}
+use Rattle.std.specs.Prelude.{ℕ, ◌<◌, ◌≡◌, refl, Bool, true, false, not, ◌&&◌, ◌||◌, eqb, ltb}
 use Rattle.below.specs.rule.Below.{all_below}
 use Rattle.below.specs.Below.{all_at_lem}
 use Rattle.ascii.specs.rule.Class.{class_of}

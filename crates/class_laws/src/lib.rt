@@ -2,4 +2,3 @@
 // for
 // bytes below 32 asks for a class. Laws only; nothing stands above it.
 #![tactic(auto)]
-

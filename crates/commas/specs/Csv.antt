@@ -1,6 +1,7 @@
 -- What follows from rule/Csv.antt, and what the code keeps.
-use Rattle.std.specs.Prelude.{◌≡◌, refl, Bool, true, false, cond, ◌||◌, List, [], ◌∷◌, ◌++◌, ℕ, zero, suc, ◌+◌, ◌-◌, ◌≤◌, ◌<◌, eqb, length, drop, get_or}
-use Rattle.std.proofs.Common.{sym, ap, ◌∙◌, add-one, arith, ne_eqb, drop_of_length-le, drop-cons}
+use Rattle.std.specs.Prelude.{◌≡◌, refl, Bool, true, false, cond, ◌||◌, List, [], ◌∷◌, ◌++◌, ℕ, zero, suc, ◌+◌, ◌-◌, ◌≤◌, ◌<◌, eqb, length}
+use Rattle.std.specs.Prelude.{drop, get_or}
+use Rattle.std.proofs.Common.{sym, ap, ◌∙◌, add-one, arith, drop_of_length-le, drop-cons}
 use Rattle.commas.specs.rule.Csv.{is_special, holds_special, doubled_byte, doubled, field_bytes, behind_first, line_bytes, each}
 
 -- ---- the bytes of a slice one by one
@@ -18,7 +19,8 @@ pub over_doubled : (s : List ℕ) (i : ℕ) → length s ≤ i → doubled (drop
 unfolding doubled
 over_doubled s i h = ap doubled (over_byte s i h)
 
-pub next_special : (s : List ℕ) (i : ℕ) → i < length s → holds_special (drop i s) ≡ (is_special (get_or s i 0) || holds_special (drop (i + 1) s))
+pub next_special : (s : List ℕ) (i : ℕ) → i < length s → holds_special (drop i s)
+    ≡ (is_special (get_or s i 0) || holds_special (drop (i + 1) s))
 unfolding holds_special
 next_special s i h = ap holds_special (next_byte s i h)
 

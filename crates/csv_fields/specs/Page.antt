@@ -1,6 +1,8 @@
 -- What follows from rule/Page.antt, and what the code keeps.
-use Rattle.std.specs.Prelude.{◌≡◌, refl, Bool, true, false, cond, not, ◌||◌, ℕ, zero, suc, ◌+◌, ◌-◌, ◌≤◌, ◌<◌, eqb, ltb, length, take, drop, get_or}
-use Rattle.std.proofs.Common.{sym, ◌∙◌, ⊎_elim, drop_of_length-le, length-drop, take-append-drop, drop-cons, drop-drop, take-suc, take-add, get_or-drop}
+use Rattle.std.specs.Prelude.{◌≡◌, refl, Bool, true, false, cond, not, ◌||◌, ℕ, suc, ◌+◌, ◌-◌, ◌≤◌, ◌<◌, eqb, ltb, length, take, drop}
+use Rattle.std.specs.Prelude.{get_or}
+use Rattle.std.proofs.Common.{sym, ◌∙◌, ⊎_elim, drop_of_length-le, length-drop, take-append-drop, drop-cons, drop-drop, take-suc, take-add}
+use Rattle.std.proofs.Common.{get_or-drop}
 use Rattle.std.proofs.Math.Path.{ap}
 use mathlib.Core.List.{List, [], ◌∷◌, ◌++◌, append-nil, append_assoc}
 use Rattle.std.proofs.Math.Numerals.{add-one}
@@ -12,8 +14,8 @@ use Rattle.csv_fields.specs.declared.Cut.{Cut}
 use Rattle.csv_fields.specs.declared.Cut.TheVariants.{Comma, Last, Torn}
 use Rattle.csv_fields.specs.declared.Stop.{Stop}
 use Rattle.csv_fields.specs.declared.Stop.TheVariants as stop
-use Rattle.csv_fields.specs.rule.Page.{Page, over, torn, more, last, PageMode, start, fresh, bare, ending, inside, closing}
-use Rattle.csv_fields.specs.rule.Page.{Step, skip, keep, comma, ended, wrong, bare_step, page_step, with_byte, taken, page_at_end, page}
+use Rattle.csv_fields.specs.rule.Page.{Page, over, torn, more, last, start, fresh, bare, ending, inside, closing}
+use Rattle.csv_fields.specs.rule.Page.{skip, keep, comma, wrong, bare_step, page_step, with_byte, taken, page_at_end, page}
 
 -- the bytes from one place to another
 abbrev pub part : List ℕ → ℕ → ℕ → List ℕ
@@ -186,7 +188,8 @@ unfolding doubled has_quote doubled_byte
 doubled_bare [] e = refl
 doubled_bare (b ∷ s) e = go (eqb b 34) e (λ h. doubled_bare s h)
   where
-    go : (q : Bool) → (q || has_quote s) ≡ false → (has_quote s ≡ false → doubled s ≡ s) → cond q (34 ∷ 34 ∷ []) (b ∷ []) ++ doubled s ≡ b ∷ s
+    go : (q : Bool) → (q || has_quote s) ≡ false → (has_quote s ≡ false → doubled s ≡ s) → cond q (34 ∷ 34 ∷ []) (b ∷ []) ++ doubled s ≡ b
+        ∷ s
     go true e k = holds_not refl e
     go false e k = ap (λ (l : List ℕ). b ∷ l) (k e)
 
@@ -322,7 +325,8 @@ unfolding page page_step taken
 fresh_other d i h n = rw (drop-cons d i 0 h, ne_eqb (get_or d i 0) 34 n)
 
 -- a field without quotes has ended
-pub bare_ends : {d : List ℕ} {from to : ℕ} → BareTo d from to → page bare (drop from d) ≡ with_bytes (part d from to) (stop_page (drop to d))
+pub bare_ends : {d : List ℕ} {from to : ℕ} → BareTo d from to → page bare (drop from d)
+    ≡ with_bytes (part d from to) (stop_page (drop to d))
 bare_ends {d} {from} {to} a = a.reads ∙ ap (with_bytes (part d from to)) (⊎_elim at_one (bare_over d to) (lt_or_le to (length d)))
   where
     at_one : to < length d → page bare (drop to d) ≡ stop_page (drop to d)
@@ -338,7 +342,8 @@ inside_quote : (d : List ℕ) (i : ℕ) → i < length d → get_or d i 0 ≡ 34
 unfolding page page_step taken
 inside_quote d i h e = rw (drop-cons d i 0 h, eq-eqb (get_or d i 0) 34 e, add-one i)
 
-closing_quote : (d : List ℕ) (i : ℕ) → i < length d → get_or d i 0 ≡ 34 → page closing (drop i d) ≡ with_byte 34 (page inside (drop (i + 1) d))
+closing_quote : (d : List ℕ) (i : ℕ) → i < length d → get_or d i 0 ≡ 34 → page closing (drop i d)
+    ≡ with_byte 34 (page inside (drop (i + 1) d))
 unfolding page page_step taken
 closing_quote d i h e = rw (drop-cons d i 0 h, eq-eqb (get_or d i 0) 34 e, add-one i)
 

@@ -3,7 +3,7 @@
 -- a
 -- quote inside an unquoted field, anything but a comma or CR LF behind a closing quote, a CR or LF outside quotes that is not CR LF, quotes
 -- that don't close, a text that ends within a line. 44 is the comma, 34 the quote, 13 CR, 10 LF. Beside it stands the grammar: csv_laws.
-use Rattle.std.specs.Prelude.{Bool, cond, ◌||◌, List, [], ◌∷◌, ℕ, suc, ◌+◌, eqb}
+use Rattle.std.specs.Prelude.{cond, ◌||◌, List, [], ◌∷◌, ℕ, ◌+◌, eqb}
 
 -- what is read: a field with a comma behind it and what follows, a field that ends its line and the lines behind it, nothing more, or a
 -- field that is malformed
