@@ -13,7 +13,8 @@ use lib.IntN.{ℤ, pos, negsuc}
 use lib.ListN.{get_or}
 use lib.Signed.{le_z}
 use Rattle.below.specs.rule.Below.{all_below}
-use Rattle.below.specs.Below.{same_bool, holds_not, and_true, and_left, and_right, all_at_lem, all_of, any_some, any_holds, either_true}
+use Rattle.below.specs.Below.{same_bool, holds_not, and_true, and_left, and_right, all_at_lem, all_of as all_so, any_some, any_holds}
+use Rattle.below.specs.Below.{either_true}
 use Rattle.below.specs.Below.{or_true}
 use Rattle.cells.specs.rule.Cell.{count_of, eq_z}
 use Rattle.cells.specs.Order.{le_join}
@@ -135,7 +136,7 @@ module _ (x y : ℕ) (r : List ℕ) (at : ℕ) where
           (λ e. all (λ z. on_line t v row z) (λ d p q g. any_some (λ k. eq_z (line_value t v row k) (pos d)) row.lines g
           (λ k h s. each (λ u. eq_z (line_value t v row k) u)
           (all_at_lem (λ k. all_at x y r at w (λ u. eq_z (line_value t v row k) u)) row.lines k h e) d p q s)))
-          (λ e. all_of (λ k. all_at x y r at w (λ u. eq_z (line_value t v row k) u)) row.lines
+          (λ e. all_so (λ k. all_at x y r at w (λ u. eq_z (line_value t v row k) u)) row.lines
           (λ k h. all (λ u. eq_z (line_value t v row k) u)
           (λ d p q s. each (λ z. on_line t v row z) e d p q (any_holds (λ k. eq_z (line_value t v row k) (pos d)) row.lines k h s))))
 
@@ -189,7 +190,7 @@ module _ (x y : ℕ) (r : List ℕ) (at : ℕ) where
             let o = leb-true d last (and_right (leb first d) (leb d last) b) in
             let i : first + (d - first) ≡ d = omega arith in
             ap good (sym i) ∙ sym (same_byte (d - first)) ∙ all_at_lem (λ k. byte k) (last + 1 - first) (d - first) (omega arith) e))
-            (λ e. all_of (λ k. byte k) (last + 1 - first) (λ k g. let i = f.low in let j = l.few in
+            (λ e. all_so (λ k. byte k) (last + 1 - first) (λ k g. let i = f.low in let j = l.few in
             same_byte k ∙ each (λ z. in_range row z) e (first + k) (omega arith) (omega arith)
             (within (first + k) (omega arith) (omega arith)
             ∙ and_true _ _ (le-leb first (first + k) (omega arith)) (le-leb (first + k) last (omega arith)))))
@@ -205,6 +206,6 @@ pub each_alike : (x y : ℕ) (r : List ℕ) (at w : ℕ) (ok : ℤ → Bool) →
 each_alike x y r at w ok h =
     same_bool _ _
     (any_alike x y r at w ok)
-    (λ e. all_of (λ k. one_of x y (get_or r (at + k) 0)) w (λ k l.
+    (λ e. all_so (λ k. one_of x y (get_or r (at + k) 0)) w (λ k l.
     let q : k + 1 - 1 ≡ k = omega arith in
     rw q at (each x y r at w ok e (k + 1) (omega arith) (omega arith) (h (k + 1) (omega arith) (omega arith)))))

@@ -42,13 +42,13 @@ pub gather_and_list-requires : goal.gather_and_list-requires
 gather_and_list-requires c =
     let p = c.requires in
     let few = worth (goal.at.gather_and_list-requires c).After-marks_worth-k in record {
-      line_facts = p.0.lines;
-      marks_len_bound = rw (length-take-le c.marks_worth-k.result c.args.scratch.now few) (omega (arith, p.1.0));
+      line_facts = p.fields_facts.lines;
+      marks_len_bound = rw (length-take-le c.marks_worth-k.result c.args.scratch.now few) (omega (arith, p.scratch_len_bound));
       spread_room = room (goal.at.gather_and_list-requires c).Start;
       present_len = (
         length-take-le c.reach-top.result c.args.present.now (reaches (goal.at.gather_and_list-requires c).After-reach-top)
             ∙ c.reach-top.ensures,
-        p.0.fields,
+        p.fields_facts.fields,
       );
       n_value = sym c.spread_blank.ensures ∙ c.if-spread_blank.false;
     }

@@ -3,6 +3,7 @@ use mathlib.Core.Path.{◌≡◌, ◌∙◌}
 use mathlib.Core.Bool.{true}
 use native.Mathlib.Omega.{arith}
 use borrow.Author.Rules.{rules}
+use borrow.Author.Tests.{not-true, not-false}
 use mir.Syntax.{w64}
 use mir.Val.{to_z, of_z}
 use Rattle.sets.specs.Alike.{FirstOf, LastOf}
@@ -27,12 +28,12 @@ last : (c : After-last_of-last) → LastOf c.args.row.to
 last c = rw (to_back c) at c.last_of-last.ensures
 
 has : (c : After-last_of-last) → c.args.row.range ≡ true
-has c = c.if-not-row.false
+has c = not-false _ c.if-not-row.false
 
 pub returns-then-not-row : goal.returns-then-not-row
 returns-then-not-row c = no_range c.args.x c.args.y c.args.bytes.now
     c.args.at c.args.w c.args.row
-    c.if-not-row.true
+    (not-true _ c.if-not-row.true)
 
 pub returns-then-last-first : goal.returns-then-last-first
 returns-then-last-first c =

@@ -5,9 +5,9 @@ use Rattle.sets.proofs.bits.list_set.Goals as goal
 pub bits_fill-requires : goal.bits_fill-requires
 bits_fill-requires c =
     let p = c.requires in record {
-      line_facts = p.0;
-      marks = p.1.0;
-      bits_room = p.1.1.0;
+      line_facts = p.line_facts;
+      marks = p.marks;
+      bits_room = p.bits_room;
       bytes_in_bounds = rw c.count_set-n.ensures at c.if-n-list.true;
     }
 
