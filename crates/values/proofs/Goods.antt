@@ -501,6 +501,7 @@ module _ (d : List ℕ) (quantity : Bool) (first : ℕ) (h : length d ≤ 104857
     by Left = lines_given a empty_block r (value_genuine d n) (none_good quantity) (λ q. holds_not q refl)
 
 -- VALUES that were read are good
-pub values_good_lem : (d : List ℕ) (quantity : Bool) (first : ℕ) (t : Reading) {b : Block} {l : List Said} {n : ℕ} → length d ≤ 1048576 → first
+pub values_good_lem : (d : List ℕ) (quantity : Bool) (first : ℕ) (t : Reading) {b : Block} {l : List Said} {n : ℕ} → length d ≤ 1048576
+    → first
     ≤ 4096 → values_on d quantity first t ≡ Is b l n → GoodValues quantity first b l
 values_good_lem d quantity first t h r e = (all_given d quantity first h r t).of e
