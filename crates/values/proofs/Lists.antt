@@ -110,7 +110,7 @@ module _ (d : List ℕ) (a : Amount) (s : Said) (h : length d ≤ 1048576) where
       × (s.special ≡ n) → GoodLine s
   within q n e l p =
       let k = quoted_within d (past_value a) s.text (sym e ∙ p.1) in
-      record { special = omega (arith, p.2); text-place = omega (arith, k.0); text-length = omega (arith, k.1) }
+      record { special = omega (arith, p.2); text_place = omega (arith, k.0); text_length = omega (arith, k.1) }
 
   pub line_good : line_rest d a ≡ lined.Is s → GoodLine s
   unfolding line_rest
