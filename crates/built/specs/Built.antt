@@ -93,9 +93,9 @@ module _ (t : List ℤ) (l : List Variable) where
   unfolding header_for
   rows_offset = ap (λ (h : Header). h.rows_at) (header_back t l)
 
-  pub lines_offset : (header_of (laid t l)).lines_at_lem ≡ 6 + 20 * length l
+  pub lines_offset : (header_of (laid t l)).lines_at ≡ 6 + 20 * length l
   unfolding header_for
-  lines_offset = ap (λ (h : Header). h.lines_at_lem) (header_back t l)
+  lines_offset = ap (λ (h : Header). h.lines_at) (header_back t l)
 
   -- "lines before is counted in every row": it is the number of lines of the rows before it
   pub lines_before_is : (i : ℕ) → Nth l i → (columns_of (laid t l) i).before ≡ lines_before (laid t l) i

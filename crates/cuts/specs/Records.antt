@@ -1,7 +1,7 @@
 -- What follows from rule/Records.antt, and what the code keeps.
 use Rattle.std.proofs.Math.Path.{◌≡◌, refl, sym, ap}
 use Rattle.std.proofs.Common.{◌∙◌, ⊎_elim, eqb-true, length-take, length-drop, drop-drop, take-suc, take_all, get_or-drop, get_or-take}
-use Rattle.std.specs.Prelude.{Bool, ◌&&◌, eqb, take, get_or}
+use Rattle.std.specs.Prelude.{Bool, eqb, take, get_or}
 use Rattle.std.proofs.Math.Bool.{true, false, cond}
 use mathlib.Core.List.{List, [], ◌∷◌, ◌++◌, append_assoc, append-nil}
 use Prim.Native.Nat.{ℕ, zero, suc, ◌+◌, ◌-◌, ◌*◌, ◌≤◌, ◌<◌}
@@ -13,7 +13,6 @@ use Rattle.below.specs.Below.{and_left, and_right, holds_not, lt_or_le}
 use Rattle.lows.specs.rule.Lows.{low_at}
 use Rattle.lows.specs.Lows.{Clear}
 use Rattle.cuts.specs.declared.Terminator.{Terminator}
-use Rattle.cuts.specs.declared.Next.{Next}
 use Rattle.cuts.specs.declared.Next.TheVariants.{Ended, Unended, Nothing}
 use Rattle.cuts.specs.rule.Cut.{begins_with, whole_at, begins_at, end_from, next_from, terminator_of}
 use Rattle.cuts.specs.Cut.{end_here, end_on, end_none, end_unbroken, next_some, next_none, unbroken_plain}

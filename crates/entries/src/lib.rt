@@ -57,7 +57,7 @@ fn settle(powers: &[u64; 16], lines: &[i64], h: Head, r: Rest, before: usize, en
 }
 
 // What stands behind the position of a variable, up to END VARIABLE. Its values are told apart by marks of the variable's own stamp.
-fn rest_then_lem(
+fn rest_then(
     classes: &[u8; 256],
     powers: &[u64; 16],
     d: &[u8],
@@ -120,7 +120,7 @@ pub fn variable_on(
 {
     let i = variables::ident_on(classes, d, t, seen, count);
     match variables::head_on(classes, d, i) {
-        Headed::Is(h) => rest_then_lem(classes, powers, d, h, before, lines, marks, stamp),
+        Headed::Is(h) => rest_then(classes, powers, d, h, before, lines, marks, stamp),
         Headed::Not(f) => Stood::Not(f),
     }
 }

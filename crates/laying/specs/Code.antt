@@ -24,7 +24,7 @@ header_by m y = record {
   lines = y.lines;
   length = y.length;
   rows_at = header_size;
-  lines_at_lem = lines_base y.rows;
+  lines_at = lines_base y.rows;
 }
 
 -- the table that the rooms hold

@@ -12,8 +12,11 @@ ghost use Rattle.lister.specs.Space.{Spacious};
 use cuts::Terminator;
 use definition::Answer;
 use layout::Header;
-use libc::STDOUT_FILENO;
 use listing::{Place, Turn};
+use std::fs;
+use std::fs::Files;
+use std::io;
+use std::io::{Read, Write};
 
 // The most bytes that a file may have.
 const MOST: usize = 65_536;
@@ -38,42 +41,30 @@ enum Loaded {
     Nothing,
 }
 
-// Reads on behind the bytes that are there, and answers how many there are then: no more at the end of the file, and more than fit
-// where it can't be read.
-fn read_on(fd: i32, buf: &mut [u8], done: usize) -> usize
-    requires { done ≤ length buf.old }
-{
-    let got = libc::read(fd, &mut buf[done..]);
-    if got < 0 {
-        return usize::MAX;
-    }
-    done + io::count(got, &buf[done..])
-}
-
-// Reads a file whose descriptor is open until it ends or the buffer is full.
-fn read_whole(fd: i32, buf: &mut [u8]) -> Loaded {
+// Reads a file that is open until it ends or the buffer is full.
+fn read_whole(file: &mut impl Read, buf: &mut [u8]) -> Loaded {
     let mut done: usize = 0;
     while done < buf.len() {
-        let next = read_on(fd, buf, done);
-        if next > buf.len() {
-            return Loaded::Nothing;
+        match file.read(&mut buf[done..]) {
+            Ok(got) => {
+                if got == 0 {
+                    return Loaded::Bytes(done);
+                }
+                done += got;
+            }
+            Err(_) => {
+                return Loaded::Nothing;
+            }
         }
-        if next <= done {
-            return Loaded::Bytes(done);
-        }
-        done = next;
     }
     Loaded::Bytes(done)
 }
 
-fn load(path: &[u8], buf: &mut [u8]) -> Loaded {
-    let fd = os::open_read(path);
-    if fd < 0 {
-        return Loaded::Nothing;
+fn load(rt: &impl Files, path: &str, buf: &mut [u8]) -> Loaded {
+    match fs::open(rt, path) {
+        Ok(mut file) => read_whole(&mut file, buf),
+        Err(_) => Loaded::Nothing,
     }
-    let l = read_whole(fd, buf);
-    libc::close(fd);
-    l
 }
 
 fn is_missing(l: Loaded) -> bool {
@@ -101,12 +92,14 @@ fn size_of(l: Loaded) -> usize
 }
 
 // Writes all of it, or says on standard error why not.
-fn write(bytes: &[u8]) -> bool {
-    let done = io::write_all(STDOUT_FILENO, bytes);
-    if !done {
-        os::fail(b"standard output");
+fn write(rt: &(impl Print + Eprint), bytes: &[u8]) -> bool {
+    match io::writer(rt).write_all(bytes) {
+        Ok(()) => true,
+        Err(e) => {
+            let _told = eprintln!(rt; "standard output: {e}").is_ok();
+            false
+        }
     }
-    done
 }
 
 // Where the buffer is filled on: behind what it holds while another line fits, or from the start once that is written out.
@@ -116,14 +109,14 @@ enum Space {
     Closed,
 }
 
-fn make_space(out: &[u8], end: usize) -> Space
+fn make_space(rt: &(impl Print + Eprint), out: &[u8], end: usize) -> Space
     requires { (end ≤ length out.now) × (line_room ≤ length out.now) }
     ensures { Spacious (length out.now) result }
 {
     if out.len() - end >= lines::LINE_ROOM {
         return Space::From(end);
     }
-    if write(&out[..end]) {
+    if write(rt, &out[..end]) {
         return Space::From(0);
     }
     Space::Closed
@@ -131,6 +124,7 @@ fn make_space(out: &[u8], end: usize) -> Space
 
 // Lists the data by a table that was tested.
 fn list_all(
+    rt: &(impl Print + Eprint),
     powers: &[u64; 16],
     t: &[i64],
     h: Header,
@@ -152,7 +146,7 @@ fn list_all(
     let mut at: usize = 0;
     loop {
         match listing::list_on(powers, t, h, d, w, p, list, scratch, out, at) {
-            Turn::On { place, end } => match make_space(out, end) {
+            Turn::On { place, end } => match make_space(rt, out, end) {
                 Space::From(free) => {
                     p = place;
                     at = free;
@@ -162,7 +156,7 @@ fn list_all(
                 }
             },
             Turn::Over { end } => {
-                write(&out[..end]);
+                write(rt, &out[..end]);
                 return;
             }
         }
@@ -170,7 +164,7 @@ fn list_all(
 }
 
 // Tests the table once and lists the data by it.
-fn list_by(powers: &[u64; 16], t: &[i64], d: &[u8], out: &mut [u8])
+fn list_by(rt: &(impl Print + Eprint), powers: &[u64; 16], t: &[i64], d: &[u8], out: &mut [u8])
     requires { Tens powers.now × (length d.now ≤ 65536) × (line_room ≤ length out.old) }
 {
     if sound::well_formed(t) {
@@ -178,11 +172,11 @@ fn list_by(powers: &[u64; 16], t: &[i64], d: &[u8], out: &mut [u8])
         let w = cuts::find_terminator(d);
         let mut list = [0i64; MEMBERS];
         let mut scratch = [0u8; MARKS];
-        list_all(powers, t, h, d, w, &mut list, &mut scratch, out);
+        list_all(rt, powers, t, h, d, w, &mut list, &mut scratch, out);
         return;
     }
     let end = lines::append_fault(powers, out, 0, 20, 0, 0);
-    write(&out[..end]);
+    write(rt, &out[..end]);
 }
 
 // A refusal's number or place as it is printed, which a line has room for: 0 for one of 10^16 or more. There is none, since a number is at
@@ -195,7 +189,7 @@ fn printed(n: usize) -> usize
 }
 
 // Reads the definition, of either kind, and lists the data by its table, or says why it is refused.
-fn list_files(definition: &[u8], d: &[u8])
+fn list_files(rt: &(impl Print + Eprint), definition: &[u8], d: &[u8])
     requires { (length definition.now ≤ 65536) × (length d.now ≤ 65536) }
 {
     let powers = ascii::powers();
@@ -203,31 +197,31 @@ fn list_files(definition: &[u8], d: &[u8])
     let mut out = [0u8; OUT];
     match kinds::read_definition(definition, &mut table) {
         Answer::Read { rows: _, lines: _ } => {
-            list_by(&powers, &table, d, &mut out);
+            list_by(rt, &powers, &table, d, &mut out);
         }
         Answer::Refused { number, place } => {
             let k = printed(number);
             let p = printed(place);
             let end = lines::append_definition(&powers, &mut out, 0, k, p);
-            write(&out[..end]);
+            write(rt, &out[..end]);
         }
     }
 }
 
-fn main() {
+fn main(rt: HostRuntime) {
     let mut sss = [0u8; ROOM];
     let mut asc = [0u8; ROOM];
-    let a = load(b"survey.sss", &mut sss);
-    let b = load(b"survey.asc", &mut asc);
+    let a = load(&rt, "survey.sss", &mut sss);
+    let b = load(&rt, "survey.asc", &mut asc);
     if is_missing(a) | is_missing(b) {
-        write(b"no file\n");
+        write(&rt, b"no file\n");
         return;
     }
     if is_long(a) | is_long(b) {
-        write(b"too long\n");
+        write(&rt, b"too long\n");
         return;
     }
     let n = size_of(a);
     let m = size_of(b);
-    list_files(&sss[..n], &asc[..m]);
+    list_files(&rt, &sss[..n], &asc[..m]);
 }

@@ -5,11 +5,9 @@ use Rattle.std.proofs.Common.{sym, ap, ◌∙◌}
 use Rattle.std.specs.Float.{binary64}
 use Rattle.std.specs.Float.Ieee.{is_nan, fits, nan_bits, of_bits, to_bits}
 use Rattle.std.specs.Float.Ieee.Bits.{of_bits-to_bits, to_bits-lt, nan_bits_is}
-use Rattle.places.specs.rule.Places.{put, run}
-use Rattle.places.specs.Laws.{length_put, apart, pick_run}
 use Rattle.little.specs.rule.Bytes.{little_bytes, put_at, little_number}
 use Rattle.little.specs.Bytes.{number_at, bytes_count, bytes_back}
-use Rattle.little.specs.Runs.{put_back, apart_runs}
+use Rattle.little.specs.Runs.{put_back}
 
 pub number_back : (r : List ℕ) (a k n : ℕ) → a + k ≤ length r → n < 256 ^ k → number_at k a (put_at r a (little_bytes k n)) ≡ n
 unfolding number_at
@@ -24,6 +22,7 @@ bits_real x f h = rw (nan_bits_is binary64 (to_bits binary64 x), of_bits-to_bits
 
 pub float_back : (r : List ℕ) (a : ℕ) (x : Float) → a + 8 ≤ length r → T (fits binary64 x)
     → of_bits binary64 (number_at 8 a (put_at r a (little_bytes 8 (to_bits binary64 x)))) ≡ x
-float_back r a x h f = ap (of_bits binary64) (number_back r a 8 (to_bits binary64 x) h (to_bits-lt binary64 x f)) ∙ of_bits-to_bits binary64 x f
+float_back r a x h f = ap (of_bits binary64) (number_back r a 8 (to_bits binary64 x) h (to_bits-lt binary64 x f))
+    ∙ of_bits-to_bits binary64 x f
 
 -- ---- a put behind the bytes that are read

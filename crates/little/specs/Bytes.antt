@@ -1,6 +1,6 @@
 -- The number that little-endian bytes say: what a number's own bytes say is the number.
 -- Assumes nothing.
-use Rattle.std.specs.Prelude.{ℕ, zero, suc, ◌+◌, ◌*◌, ◌/◌, ◌%◌, ◌^◌, ◌<◌, ◌≡◌, refl, List, [], ◌∷◌, length, take, drop}
+use Rattle.std.specs.Prelude.{ℕ, zero, suc, ◌/◌, ◌^◌, ◌<◌, ◌≡◌, refl, List, length, take, drop}
 use Rattle.std.proofs.Common.{div-lt_iff_lt-mul, zero-lt-suc, pow-suc, arith, ap}
 use Rattle.little.specs.rule.Bytes.{little_bytes, little_number}
 

@@ -52,7 +52,8 @@ closable (stop p) (Ell o) e = closes (sign 0 76 (sign 0 125 (sign 0 34 (stop 0))
 closable (stop p) (Pair o) e = closes (sign 0 125 (sign 0 34 (stop 0))) 1 refl
 closable (stop p) (Low o) e = closes (sign 0 48 (sign 0 125 (sign 0 34 (stop 0)))) 1 refl
 closable (sign p b t) s e = by (closable t) (inside_of s b p) refl e where
-  by : ((s : Inside) → string_of s t ≡ Unclosed → Closes s t) → (m : Move) → inside_of s b p ≡ m → moved m (λ s. string_of s t) (Past (p + 1))
+  by : ((s : Inside) → string_of s t ≡ Unclosed → Closes s t) → (m : Move) → inside_of s b p ≡ m
+      → moved m (λ s. string_of s t) (Past (p + 1))
       ≡ Unclosed → Closes s (sign p b t)
   by on (Go s') q e = one (on s' e) where
     one : Closes s' t → Closes s (sign p b t)
@@ -139,15 +140,17 @@ bad_at_exactly d at o = (
 -- UNCLOSED: a string is unclosed exactly when it is none, and something that could follow makes it one
 pub unclosed_exactly : (t : Text) → (string_of Plain t ≡ Unclosed) ↔
     (Never t × ((v : Text) × (m : List Sign) × (n : ℕ) × Spelt (joined t v) m n))
-unclosed_exactly t = (λ e. (λ m n s. never (sym (string_complete s) ∙ e), on (closable t Plain e)), λ h. by h (string_of Plain t) refl) where
-  spelt : {n : ℕ} {u : Text} → String n u → (m : List Sign) × Spelt u m n
-  spelt (says {m = m} s) = (m, s)
+unclosed_exactly t = (λ e. (λ m n s. never (sym (string_complete s) ∙ e), on (closable t Plain e)), λ h. by h (string_of Plain t) refl)
+  where
+    spelt : {n : ℕ} {u : Text} → String n u → (m : List Sign) × Spelt u m n
+    spelt (says {m = m} s) = (m, s)
 
-  on : Closes Plain t → (v : Text) × (m : List Sign) × (n : ℕ) × Spelt (joined t v) m n
-  on (closes v n q) = let s = spelt (string_sound q) in (v, s.0, n, s.1)
+    on : Closes Plain t → (v : Text) × (m : List Sign) × (n : ℕ) × Spelt (joined t v) m n
+    on (closes v n q) = let s = spelt (string_sound q) in (v, s.0, n, s.1)
 
-  by : Never t × ((v : Text) × (m : List Sign) × (n : ℕ) × Spelt (joined t v) m n) → (r : Skip) → string_of Plain t ≡ r → string_of Plain t
-      ≡ Unclosed
-  by h Unclosed e = e
-  by h (Past n) e = absurd (no_string h.0 (string_sound e))
-  by h (Bad o) e = absurd ((bad_exactly t).0 (o, e) h.1.0 h.1.1 h.1.2 h.1.3)
+    by : Never t × ((v : Text) × (m : List Sign) × (n : ℕ) × Spelt (joined t v) m n) → (r : Skip) → string_of Plain t ≡ r
+        → string_of Plain t
+        ≡ Unclosed
+    by h Unclosed e = e
+    by h (Past n) e = absurd (no_string h.0 (string_sound e))
+    by h (Bad o) e = absurd ((bad_exactly t).0 (o, e) h.1.0 h.1.1 h.1.2 h.1.3)

@@ -35,7 +35,8 @@ not e = let z : ◌≡◌ {A = ℕ} 0 1 = cc in absurd (omega arith)
 pub hex_letter : (b : ℕ) → is_digit b ≡ false → is_hex b ≡ true → (65 ≤ upper_of b) × (upper_of b ≤ 70)
 unfolding is_hex
 hex_letter b = by (is_digit b) (ltb (upper_of b) 65) (leb (upper_of b) 70) refl refl where
-  by : (x y z : Bool) → ltb (upper_of b) 65 ≡ y → leb (upper_of b) 70 ≡ z → x ≡ false → cond x true (cond y false z) ≡ true → (65 ≤ upper_of b)
+  by : (x y z : Bool) → ltb (upper_of b) 65 ≡ y → leb (upper_of b) 70 ≡ z → x ≡ false → cond x true (cond y false z) ≡ true
+      → (65 ≤ upper_of b)
       × (upper_of b ≤ 70)
   by true y z f g h e = let z : ◌≡◌ {A = ℕ} 0 1 = cc in absurd (omega arith)
   by false true z f g h e = let z : ◌≡◌ {A = ℕ} 0 1 = cc in absurd (omega arith)
@@ -191,8 +192,10 @@ module _ (d : List ℕ) (x : Sign) (n : ℕ) (r : Inside) where
   unfolding part_from decode_of
   told at_stop s a e = let z : ◌≡◌ {A = ℕ} 0 1 = cc in absurd (omega arith)
   told {at} (at_sign {p = p} {b = b} {u = u} h w q f) s a e = by (λ s. told f s b) (inside_of s b p) (gives_of s a b) refl refl e where
-    by : ((s : Inside) → part_from s b u ≡ Said x n r → Told d (p + 1) (decode_of s b u) x n r) → (m : Move) (g : List Sign) → inside_of s b p
-        ≡ m → gives_of s a b ≡ g → parted m g (p + 1) (λ s. part_from s b u) ≡ Said x n r → Told d at (gone m g (λ s. decode_of s b u)) x n r
+    by : ((s : Inside) → part_from s b u ≡ Said x n r → Told d (p + 1) (decode_of s b u) x n r) → (m : Move) (g : List Sign)
+        → inside_of s b p
+        ≡ m → gives_of s a b ≡ g → parted m g (p + 1) (λ s. part_from s b u) ≡ Said x n r
+        → Told d at (gone m g (λ s. decode_of s b u)) x n r
     by ih (Go t) [] i j e = let k = ih t e in record { split = k.split; rests = k.rests; ahead = omega arith; within = k.within }
     by ih (Go t) (y ∷ l) i j e =
         let v : y ≡ x = cc in
@@ -218,7 +221,8 @@ over : (t : Text) (s : Inside) (a : ℕ) → part_from s a t ≡ Over → decode
 unfolding part_from decode_of
 over (stop p) s a e = refl
 over (sign p b t) s a e = by (λ s. over t s b) (inside_of s b p) (gives_of s a b) e where
-  by : ((s : Inside) → part_from s b t ≡ Over → decode_of s b t ≡ []) → (m : Move) (g : List Sign) → parted m g (p + 1) (λ s. part_from s b t)
+  by : ((s : Inside) → part_from s b t ≡ Over → decode_of s b t ≡ []) → (m : Move) (g : List Sign)
+      → parted m g (p + 1) (λ s. part_from s b t)
       ≡ Over → gone m g (λ s. decode_of s b t) ≡ []
   by ih (Go s) [] e = ih s e
   by ih (Go s) (y ∷ l) e = let z : ◌≡◌ {A = ℕ} 0 1 = cc in absurd (omega arith)
@@ -231,7 +235,8 @@ part_over d at s e f = over (text d at) s 0 (sym e ∙ f)
 
 -- ---- steps of the decoder's loop
 module _ (s : Inside) (a : ℕ) {t : Text} where
-  pub part_gives : {p b : ℕ} {x : Sign} {u : Text} {m : Move} {v : Inside} → t ≡ sign p b u → m ≡ inside_of s b p → m ≡ Go v → gives_of s a b
+  pub part_gives : {p b : ℕ} {x : Sign} {u : Text} {m : Move} {v : Inside} → t ≡ sign p b u → m ≡ inside_of s b p → m ≡ Go v
+      → gives_of s a b
       ≡ x ∷ [] → part_from s a t ≡ Said x (p + 1) v
   unfolding part_from
   part_gives e f g h = rw (e, sym f ∙ g, h)

@@ -650,7 +650,7 @@ fn fill(t: &[i64], h: Header, d: &[u8], records: usize, columns: usize, out: &mu
 }
 
 // How many columns a tested table has.
-fn columns_of_lem(t: &[i64], h: Header) -> usize
+fn columns_of(t: &[i64], h: Header) -> usize
     requires { Tested t.now h }
     ensures { (result ≡ length (table_columns t.now)) × (result ≤ 5119488) }
 {
@@ -664,7 +664,7 @@ fn write_sound(t: &[i64], d: &[u8], records: usize, out: &mut [u8]) -> Matrix
     ensures { MatrixWritten t.now d.now out.old out.new (matrix_said result) }
 {
     let h = Header::read(t);
-    let columns = columns_of_lem(t, h);
+    let columns = columns_of(t, h);
     if columns == 0 {
         return Matrix::NoColumn;
     }

@@ -1,8 +1,8 @@
 -- Bytes that are all alike, and entries of value zero, sixteen at once.
 -- Assumes nothing.
-use Rattle.std.specs.Prelude.{◌≡◌, refl, Bool, true, false, cond, ◌&&◌, List, [], ◌∷◌, ◌++◌, ℕ, zero, suc, ◌+◌, ◌-◌, ◌*◌, ◌≤◌, ◌<◌, eqb, pos, length, get_or, set}
+use Rattle.std.specs.Prelude.{◌≡◌, refl, Bool, true, false, cond, ◌&&◌, List, [], ◌∷◌, ◌++◌, ℕ, zero, suc, ◌+◌, ◌-◌, ◌*◌, ◌≤◌, ◌<◌, eqb}
+use Rattle.std.specs.Prelude.{pos, length, get_or, set}
 use Rattle.std.proofs.Common.{sym, ap, ◌∙◌, arith, eqb-true}
-use Rattle.std.specs.Float.{binary64}
 use Rattle.std.specs.Float.Ieee.{div, of_int, to_bits}
 use Rattle.below.specs.rule.Below.{all_below}
 use Rattle.below.specs.Below.{all_none, all_next, all_at_lem}
@@ -65,7 +65,8 @@ pub noughts_put : (r : List ℕ) (f v : ℕ) (there : Bool)
     ≡ put_entries r f v (noughts there 16)
 noughts_put r f v there =
     let p = little_bytes 8 (presences there) in
-    ap (λ (x : List ℕ). put_at x v (little_bytes 128 0)) (put_next r f p (f + 8) p (ap (λ (n : ℕ). f + n) (bytes_count 8 (presences there))))
+    ap (λ (x : List ℕ). put_at x v (little_bytes 128 0))
+    (put_next r f p (f + 8) p (ap (λ (n : ℕ). f + n) (bytes_count 8 (presences there))))
     ∙ ap (λ (x : List ℕ). put_at (put_at r f x) v (little_bytes 128 0)) (flags_are there)
     ∙ ap (λ (x : List ℕ). put_at (put_at r f (flags_of (noughts there 16))) v x) (values_are there)
 

@@ -2,27 +2,26 @@
 -- a
 -- column.
 -- Assumes nothing.
-use Rattle.std.specs.Prelude.{◌≡◌, Bool, true, false, not, List, [], ◌∷◌, ◌++◌, T, eqb, length, get_or, take, drop, Float}
+use Rattle.std.specs.Prelude.{◌≡◌, List, [], ◌∷◌, ◌++◌, eqb, length, get_or, take, drop}
 use Rattle.std.proofs.Math.Path.{refl, ap}
-use Rattle.std.proofs.Common.{sym, ◌∙◌, subst, append_assoc, length-append, take-append-drop, take_at, get_or-take, get_or-drop, drop-drop}
+use Rattle.std.proofs.Common.{sym, ◌∙◌, append_assoc, take-append-drop, take_at, get_or-take, get_or-drop, drop-drop}
 use Rattle.std.proofs.Math.Bool.{cond}
-use Prim.Native.Nat.{ℕ, zero, suc, ◌+◌, ◌-◌, ◌*◌, ◌≤◌, ◌<◌}
+use Prim.Native.Nat.{ℕ, zero, suc, ◌+◌, ◌*◌, ◌≤◌, ◌<◌}
 use native.Mathlib.Omega.{arith}
 use Rattle.std.proofs.Math.Seq.{drop-append-add}
-use Rattle.std.specs.Float.Ieee.{binary64, nan_bits, of_bits, to_bits}
+use Rattle.std.specs.Float.Ieee.{binary64, of_bits, to_bits}
 use Rattle.std.specs.Float.Ieee.Bits.{of_bits-to_bits, to_bits-lt}
-use Rattle.places.specs.rule.Places.{put, run}
+use Rattle.places.specs.rule.Places.{run}
 use Rattle.places.specs.Laws.{keeps, out_run}
 use Rattle.little.specs.rule.Bytes.{little_bytes, put_at, little_number}
 use Rattle.little.specs.Bytes.{number_at, bytes_count, bytes_back}
 use Rattle.little.specs.Runs.{put_back, length_put_at}
-use Rattle.little.specs.Back.{bits_real}
 use Rattle.matrix.specs.declared.Entry.{Entry}
 use Rattle.matrix.specs.declared.Entry.TheVariants.{Absent, Scaled}
 use Rattle.matrix.specs.rule.Entry.{presence_of, float_of, flags_of, value_bytes, present_of}
 use Rattle.matrix.specs.Put.{put_entries}
-use Rattle.matrix.specs.Entry.{EntryGood, entry_real, entry_fits, length_flags, length_values}
-use Rattle.matrix.specs.Column.{ColumnThere, column_in}
+use Rattle.matrix.specs.Entry.{EntryGood, entry_fits, length_flags, length_values}
+use Rattle.matrix.specs.Column.{column_in}
 
 -- every step-th of some entries, n of them from the place j on
 unfoldable pub picked : List Entry → ℕ → ℕ → ℕ → List Entry
@@ -57,7 +56,8 @@ unfolding value_bytes
 value_at_lem [] j rest h = absurd (omega arith)
 value_at_lem (e ∷ es) zero rest h =
     let b = little_bytes 8 (to_bits binary64 (float_of e)) in
-    ap (take 8) (append_assoc b (value_bytes es) rest) ∙ take_at b (value_bytes es ++ rest) 8 (bytes_count 8 (to_bits binary64 (float_of e)))
+    ap (take 8) (append_assoc b (value_bytes es) rest)
+    ∙ take_at b (value_bytes es ++ rest) 8 (bytes_count 8 (to_bits binary64 (float_of e)))
 value_at_lem (e ∷ es) (suc j) rest h =
     let b = little_bytes 8 (to_bits binary64 (float_of e)) in
     let d : 8 * suc j ≡ length b + 8 * j = omega (arith, bytes_count 8 (to_bits binary64 (float_of e))) in
@@ -89,7 +89,8 @@ module _ (r : List ℕ) (fl vl : ℕ) (es : List Entry) (behind : fl + length es
       let l = length_values es in
       let i : vl + length (value_bytes es) ≤ length (put_at r fl (flags_of es)) = rw (length_put_at r fl (flags_of es)) (omega arith) in
       sym (take-append-drop (length (value_bytes es)) (drop vl whole))
-      ∙ ap (λ (x : List ℕ). x ++ drop (length (value_bytes es)) (drop vl whole)) (put_back (put_at r fl (flags_of es)) vl (value_bytes es) i)
+      ∙ ap (λ (x : List ℕ). x ++ drop (length (value_bytes es)) (drop vl whole))
+      (put_back (put_at r fl (flags_of es)) vl (value_bytes es) i)
 
   -- THE EIGHT BYTES of an entry
   pub bytes_there : (j : ℕ) → j < length es → take 8 (drop (vl + 8 * j) whole)

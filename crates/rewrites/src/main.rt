@@ -4,6 +4,8 @@
 
 use faults::Fault;
 use records::Reading;
+use std::io;
+use std::io::Write;
 use writes::{Value, Wrote};
 
 // SINGLE 1 to 20 in three bytes; the bitstring 1, 2, 3, 9 in ten; a spread of 2 of 3 with 1 to 42; QUANTITY -1.00 to 99.99 in seven;
@@ -34,21 +36,23 @@ fn number(w: Wrote) -> [u8; 3] {
     }
 }
 
-fn say(s: &[u8]) {
-    io::write_all(1, s);
+fn say(rt: &impl Print, s: &[u8]) -> io::Result<()> {
+    io::writer(rt).write_all(s)
 }
 
-fn newline() {
-    say(b"\n");
+fn newline(rt: &impl Print) -> io::Result<()> {
+    say(rt, b"\n")?;
+    Ok(())
 }
 
 // One write, its answer and the record after it.
-fn put(row: usize, value: Value, list: &[i64], text: &[u8], record: &mut [u8]) {
+fn put(rt: &impl Print, row: usize, value: Value, list: &[i64], text: &[u8], record: &mut [u8]) -> io::Result<()> {
     let table = TABLE;
     let answer = number(writes::write_value(&table, row, value, list, text, record));
-    say(&answer);
-    say(record);
-    newline();
+    say(rt, &answer)?;
+    say(rt, record)?;
+    newline(rt)?;
+    Ok(())
 }
 
 fn sign(minus: bool) -> u8 {
@@ -56,7 +60,7 @@ fn sign(minus: bool) -> u8 {
 }
 
 // The last four digits of a number.
-fn show(z: i64) {
+fn show(rt: &impl Print, z: i64) -> io::Result<()> {
     let s = cells::signed_of(z);
     let n = s.size;
     let line = [
@@ -66,171 +70,190 @@ fn show(z: i64) {
         48 + (n / 10 % 10) as u8,
         48 + (n % 10) as u8,
     ];
-    say(&line);
+    say(rt, &line)?;
+    Ok(())
 }
 
-fn show_member(list: &[i64], count: usize, j: usize) {
+fn show_member(rt: &impl Print, list: &[i64], count: usize, j: usize) -> io::Result<()> {
     if j < list.len() {
         if j < count {
-            show(list[j]);
+            show(rt, list[j])?;
         }
     }
+    Ok(())
 }
 
-fn show_text(record: &[u8], place: usize, length: usize) {
+fn show_text(rt: &impl Print, record: &[u8], place: usize, length: usize) -> io::Result<()> {
     if place <= record.len() {
         if length <= record.len() - place {
             let end = place + length;
-            say(&record[place..end]);
+            say(rt, &record[place..end])?;
         }
     }
+    Ok(())
 }
 
-fn say_fault(x: Fault) {
+fn say_fault(rt: &impl Print, x: Fault) -> io::Result<()> {
     match x {
-        Fault::Sound => say(b"0"),
-        Fault::Stray(_) => say(b"241"),
-        Fault::NotLegal(_) => say(b"242"),
-        Fault::Point(_) => say(b"243"),
+        Fault::Sound => say(rt, b"0")?,
+        Fault::Stray(_) => say(rt, b"241")?,
+        Fault::NotLegal(_) => say(rt, b"242")?,
+        Fault::Point(_) => say(rt, b"243")?,
     }
+    Ok(())
 }
 
 // One row read, and what it holds.
-fn get(row: usize, record: &[u8]) {
+fn get(rt: &impl Print, row: usize, record: &[u8]) -> io::Result<()> {
     let table = TABLE;
     let mut list = [0; 4];
     match records::read_value(&table, row, record, &mut list) {
-        Reading::Missing => say(b"M"),
+        Reading::Missing => say(rt, b"M")?,
         Reading::Number(z) => {
-            say(b"N");
-            show(z);
+            say(rt, b"N")?;
+            show(rt, z)?;
         }
         Reading::Set(n) => {
-            say(b"S");
-            show_member(&list, n, 0);
-            show_member(&list, n, 1);
-            show_member(&list, n, 2);
-            show_member(&list, n, 3);
+            say(rt, b"S")?;
+            show_member(rt, &list, n, 0)?;
+            show_member(rt, &list, n, 1)?;
+            show_member(rt, &list, n, 2)?;
+            show_member(rt, &list, n, 3)?;
         }
         Reading::Text(p, n) => {
-            say(b"T ");
-            show_text(record, p, n);
+            say(rt, b"T ")?;
+            show_text(rt, record, p, n)?;
         }
         Reading::Truth(b) => {
             if b {
-                say(b"L 1");
+                say(rt, b"L 1")?;
             } else {
-                say(b"L 0");
+                say(rt, b"L 0")?;
             }
         }
-        Reading::BadTable => say(b"20"),
-        Reading::NoRow => say(b"21"),
-        Reading::ShortRecord => say(b"22"),
-        Reading::ShortList => say(b"25"),
-        Reading::Faulty(x) => say_fault(x),
+        Reading::BadTable => say(rt, b"20")?,
+        Reading::NoRow => say(rt, b"21")?,
+        Reading::ShortRecord => say(rt, b"22")?,
+        Reading::ShortList => say(rt, b"25")?,
+        Reading::Faulty(x) => say_fault(rt, x)?,
     }
-    newline();
+    newline(rt)?;
+    Ok(())
 }
 
-fn get_all(record: &[u8]) {
-    get(0, record);
-    get(1, record);
-    get(2, record);
-    get(3, record);
-    get(4, record);
-    get(5, record);
+fn get_all(rt: &impl Print, record: &[u8]) -> io::Result<()> {
+    get(rt, 0, record)?;
+    get(rt, 1, record)?;
+    get(rt, 2, record)?;
+    get(rt, 3, record)?;
+    get(rt, 4, record)?;
+    get(rt, 5, record)?;
+    Ok(())
 }
 
-fn codes(record: &mut [u8]) {
+fn codes(rt: &impl Print, record: &mut [u8]) -> io::Result<()> {
     let none: [i64; 0] = [];
-    put(0, Value::Number(7), &none, b"", record);
-    put(1, Value::Set, &[1, 9], b"", record);
-    put(2, Value::Set, &[5], b"", record);
+    put(rt, 0, Value::Number(7), &none, b"", record)?;
+    put(rt, 1, Value::Set, &[1, 9], b"", record)?;
+    put(rt, 2, Value::Set, &[5], b"", record)?;
+    Ok(())
 }
 
-fn others(record: &mut [u8]) {
+fn others(rt: &impl Print, record: &mut [u8]) -> io::Result<()> {
     let none: [i64; 0] = [];
-    put(3, Value::Number(-7), &none, b"", record);
-    put(4, Value::Text, &none, b" ab", record);
-    put(5, Value::Truth(true), &none, b"", record);
-    get_all(record);
+    put(rt, 3, Value::Number(-7), &none, b"", record)?;
+    put(rt, 4, Value::Text, &none, b" ab", record)?;
+    put(rt, 5, Value::Truth(true), &none, b"", record)?;
+    get_all(rt, record)?;
+    Ok(())
 }
 
-fn again(record: &mut [u8]) {
+fn again(rt: &impl Print, record: &mut [u8]) -> io::Result<()> {
     let none: [i64; 0] = [];
-    put(3, Value::Number(1250), &none, b"", record);
-    put(1, Value::Set, &none, b"", record);
-    put(2, Value::Set, &[9, 42], b"", record);
-    get_all(record);
+    put(rt, 3, Value::Number(1250), &none, b"", record)?;
+    put(rt, 1, Value::Set, &none, b"", record)?;
+    put(rt, 2, Value::Set, &[9, 42], b"", record)?;
+    get_all(rt, record)?;
+    Ok(())
 }
 
-fn refused_codes(record: &mut [u8]) {
+fn refused_codes(rt: &impl Print, record: &mut [u8]) -> io::Result<()> {
     let none: [i64; 0] = [];
-    put(6, Value::Missing, &none, b"", record);
-    put(0, Value::Truth(true), &none, b"", record);
-    put(0, Value::Number(0), &none, b"", record);
-    put(0, Value::Number(21), &none, b"", record);
+    put(rt, 6, Value::Missing, &none, b"", record)?;
+    put(rt, 0, Value::Truth(true), &none, b"", record)?;
+    put(rt, 0, Value::Number(0), &none, b"", record)?;
+    put(rt, 0, Value::Number(21), &none, b"", record)?;
+    Ok(())
 }
 
-fn refused_sets(record: &mut [u8]) {
-    put(1, Value::Set, &[1, 4], b"", record);
-    put(1, Value::Set, &[2, 1], b"", record);
-    put(2, Value::Set, &[1, 2, 3], b"", record);
-    put(2, Value::Set, &[1, 2, 43], b"", record);
+fn refused_sets(rt: &impl Print, record: &mut [u8]) -> io::Result<()> {
+    put(rt, 1, Value::Set, &[1, 4], b"", record)?;
+    put(rt, 1, Value::Set, &[2, 1], b"", record)?;
+    put(rt, 2, Value::Set, &[1, 2, 3], b"", record)?;
+    put(rt, 2, Value::Set, &[1, 2, 43], b"", record)?;
+    Ok(())
 }
 
-fn refused_texts(record: &mut [u8]) {
+fn refused_texts(rt: &impl Print, record: &mut [u8]) -> io::Result<()> {
     let none: [i64; 0] = [];
-    put(4, Value::Text, &none, b"", record);
-    put(4, Value::Text, &none, b"ab ", record);
-    put(4, Value::Text, &none, b"abcde", record);
+    put(rt, 4, Value::Text, &none, b"", record)?;
+    put(rt, 4, Value::Text, &none, b"ab ", record)?;
+    put(rt, 4, Value::Text, &none, b"abcde", record)?;
+    Ok(())
 }
 
-fn refused_others(record: &mut [u8]) {
+fn refused_others(rt: &impl Print, record: &mut [u8]) -> io::Result<()> {
     let none: [i64; 0] = [];
-    put(3, Value::Number(-101), &none, b"", record);
-    put(5, Value::Number(1), &none, b"", record);
+    put(rt, 3, Value::Number(-101), &none, b"", record)?;
+    put(rt, 5, Value::Number(1), &none, b"", record)?;
+    Ok(())
 }
 
-fn missing_codes(record: &mut [u8]) {
+fn missing_codes(rt: &impl Print, record: &mut [u8]) -> io::Result<()> {
     let none: [i64; 0] = [];
-    put(0, Value::Missing, &none, b"", record);
-    put(1, Value::Missing, &none, b"", record);
-    put(2, Value::Missing, &none, b"", record);
+    put(rt, 0, Value::Missing, &none, b"", record)?;
+    put(rt, 1, Value::Missing, &none, b"", record)?;
+    put(rt, 2, Value::Missing, &none, b"", record)?;
+    Ok(())
 }
 
-fn missing_others(record: &mut [u8]) {
+fn missing_others(rt: &impl Print, record: &mut [u8]) -> io::Result<()> {
     let none: [i64; 0] = [];
-    put(3, Value::Missing, &none, b"", record);
-    put(4, Value::Missing, &none, b"", record);
-    put(5, Value::Missing, &none, b"", record);
-    get_all(record);
+    put(rt, 3, Value::Missing, &none, b"", record)?;
+    put(rt, 4, Value::Missing, &none, b"", record)?;
+    put(rt, 5, Value::Missing, &none, b"", record)?;
+    get_all(rt, record)?;
+    Ok(())
 }
 
-fn refusals(record: &mut [u8]) {
-    refused_codes(record);
-    refused_sets(record);
-    refused_texts(record);
-    refused_others(record);
+fn refusals(rt: &impl Print, record: &mut [u8]) -> io::Result<()> {
+    refused_codes(rt, record)?;
+    refused_sets(rt, record)?;
+    refused_texts(rt, record)?;
+    refused_others(rt, record)?;
+    Ok(())
 }
 
-fn values(record: &mut [u8]) {
-    codes(record);
-    others(record);
-    again(record);
+fn values(rt: &impl Print, record: &mut [u8]) -> io::Result<()> {
+    codes(rt, record)?;
+    others(rt, record)?;
+    again(rt, record)?;
+    Ok(())
 }
 
-fn run(record: &mut [u8]) {
-    values(record);
-    refusals(record);
-    missing_codes(record);
-    missing_others(record);
+fn run(rt: &impl Print, record: &mut [u8]) -> io::Result<()> {
+    values(rt, record)?;
+    refusals(rt, record)?;
+    missing_codes(rt, record)?;
+    missing_others(rt, record)?;
+    Ok(())
 }
 
-fn main() {
+fn main(rt: HostRuntime) -> io::Result<()> {
     let mut record = [b'x'; 34];
-    run(&mut record);
+    run(&rt, &mut record)?;
     let none: [i64; 0] = [];
     let mut short = [b'x'; 33];
-    put(5, Value::Truth(false), &none, b"", &mut short);
+    put(&rt, 5, Value::Truth(false), &none, b"", &mut short)?;
+    Ok(())
 }

@@ -37,4 +37,4 @@ pub record SmallHeader (h : Header) : Type 0 where
   pub lines : h.lines ≤ limit
   pub length : h.length ≤ limit
   pub rows_at : h.rows_at ≤ limit
-  pub lines_at_lem : h.lines_at_lem ≤ limit
+  pub lines_at : h.lines_at ≤ limit

@@ -61,7 +61,7 @@ pub fn put_header(t: &mut [i64], h: Header)
         cells::cell_of(h.lines),
         cells::cell_of(h.length),
         cells::cell_of(h.rows_at),
-        cells::cell_of(h.lines_at_lem),
+        cells::cell_of(h.lines_at),
     ];
     cells::paste(t, 0, &numbers);
 }

@@ -28,7 +28,7 @@ header mark rows lines length =
       lines = lines;
       length = length;
       rows_at = header_size;
-      lines_at_lem = lines_base rows;
+      lines_at = lines_base rows;
     })
 
 -- columns that only some types have

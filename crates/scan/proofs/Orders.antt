@@ -2,11 +2,11 @@
 use mathlib.Core.Path.{◌≡◌, refl, sym, ◌∙◌, ap}
 use mathlib.Core.Bool.{Bool, true, false, cond, ◌&&◌, ◌||◌}
 use mathlib.Core.List.{List, [], ◌∷◌}
-use Prim.Native.Nat.{ℕ, suc, ◌+◌, ◌*◌, ◌-◌, ◌≤◌, ◌<◌}
+use Prim.Native.Nat.{ℕ, ◌+◌, ◌*◌, ◌-◌, ◌≤◌, ◌<◌}
 use native.Mathlib.Omega.{arith}
 use lib.Dec.{ltb, leb, eqb}
 use lib.ListN.{length}
-use borrow.Author.Tests.{lt-ltb, le-ltb, ltb-true, ltb-false, eqb-true, eqb-false, eq-eqb, ne_eqb, le-leb, lt-leb, leb-true, leb-false}
+use borrow.Author.Tests.{lt-ltb, le-ltb, ltb-true, ltb-false, eqb-true, eqb-false, eq-eqb, ne_eqb, le-leb, lt-leb, leb-true}
 use Rattle.below.specs.Below.{holds_not}
 use Rattle.ascii.specs.rule.Class.{class_of, within}
 use Rattle.scan.specs.rule.Text.{Text, stop, sign, text}
@@ -182,7 +182,8 @@ figure_empty : (end : ℕ) (t : Text) → figure_of end t ≡ Nothing → digits
 unfolding figure_of digits_to
 figure_empty end (stop p) e = refl
 figure_empty end (sign p b t) e = by (leb end p) (is_digit b) (figure_empty end t) e where
-  by : (x y : Bool) → (figure_of end t ≡ Nothing → digits_to end t ≡ []) → cond x Nothing (cond y (One b (p + 1)) (figure_of end t)) ≡ Nothing
+  by : (x y : Bool) → (figure_of end t ≡ Nothing → digits_to end t ≡ []) → cond x Nothing (cond y (One b (p + 1)) (figure_of end t))
+      ≡ Nothing
       → cond x [] (cond y (b ∷ digits_to end t) (digits_to end t)) ≡ []
   by true y ih i = refl
   by false true ih i = let z : ◌≡◌ {A = ℕ} 0 1 = cc in absurd (omega arith)

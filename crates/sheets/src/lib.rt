@@ -108,7 +108,7 @@ fn end_in(bad: bool, d: &[u8], at: usize) -> Reading
 }
 
 // ---- a variable up to its position
-fn name_in_lem(
+fn name_in(
     bad: bool,
     d: &[u8],
     m: Manner,
@@ -207,7 +207,7 @@ fn front_at(
             kind,
             usage,
             next,
-        } => match name_in_lem(bad, d, m, rows, count, next, sums) {
+        } => match name_in(bad, d, m, rows, count, next, sums) {
             Phrase::Is(a) => match label_in(bad, d, m.languages, a.next) {
                 Phrase::Is(b) => place_front(bad, d, ident, kind, usage, a, b),
                 Phrase::Not(f) => Fronted::Not(f),

@@ -9,7 +9,8 @@ ghost use Rattle.widths.specs.rule.Width.{need, size_of};
 ghost use Rattle.widths.specs.Width.{FewDecimals};
 ghost use Rattle.sound.specs.rule.Sound.{head_counts, head_sums, texts_good, subfields_good, line_plain, lines_plain, range_width};
 ghost use Rattle.sound.specs.rule.Sound.{holds_width, room_good, row_good, rows_good, value_at, idents_differ, TableTested};
-ghost use Rattle.sound.specs.Types.{whole_is, undivided_is, format_good, unranged_is, valued_is, valueless_is, type_good, shared_good, Sited};
+ghost use Rattle.sound.specs.Types.{whole_is, undivided_is, format_good, unranged_is, valued_is, valueless_is, type_good, shared_good};
+ghost use Rattle.sound.specs.Types.{Sited};
 ghost use Rattle.strides.specs.Hull.{Blocked, hull_from};
 ghost use Rattle.sound.specs.Block.{Standing, hull_width, Placed};
 ghost use Rattle.sound.specs.Laid.{Over};
@@ -37,7 +38,7 @@ fn head_sums(h: Header, length: usize) -> bool
     ensures { result ≡ head_sums h length }
 {
     (h.rows_at == Header::SIZE)
-        & (h.lines_at_lem == Row::base(h.rows))
+        & (h.lines_at == Row::base(h.rows))
         & (Line::base(h.rows, h.lines) <= length)
 }
 
@@ -125,7 +126,7 @@ fn shared_good(e: usize, before: usize, c: Columns) -> bool
         & (c.lines <= e - before)
 }
 
-fn line_plain_lem(l: Line) -> bool
+fn line_plain(l: Line) -> bool
     ensures { result ≡ line_plain l }
 {
     if 1 < l.special {

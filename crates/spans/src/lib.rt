@@ -118,7 +118,7 @@ pub enum Figures {
     Wrong,
 }
 
-pub fn is_digit_lem(c: u64) -> bool
+pub fn is_digit(c: u64) -> bool
     ensures { result ≡ is_digit c }
 {
     (48 <= c) & (c <= 57)
@@ -184,7 +184,7 @@ fn is_letter(c: u64) -> bool
 fn is_value(c: u64) -> bool
     ensures { result ≡ is_value c }
 {
-    is_digit_lem(c) | ((c == 46) | ((c == 43) | (c == 45)))
+    is_digit(c) | ((c == 46) | ((c == 43) | (c == 45)))
 }
 
 // A character of one of the classes: 1 digits, 2 what values are written with, 3 letters.
@@ -192,7 +192,7 @@ fn of_class(class: usize, c: u64) -> bool
     ensures { result ≡ of_class class c }
 {
     if class == 1 {
-        return is_digit_lem(c);
+        return is_digit(c);
     }
     if class == 2 {
         return is_value(c);

@@ -1,6 +1,6 @@
 -- What a summary says, in the paper's words: how many values there are, which one is the smallest and which the largest.
 -- The values of one column have one power of ten, so they are in the order of their scaled numbers. Assumes nothing.
-use Rattle.std.specs.Prelude.{◌≡◌, Bool, not, ◌⊎◌, ℕ, zero, suc, ◌+◌, ℤ, pos, negsuc, T, eqb, length, Float}
+use Rattle.std.specs.Prelude.{◌≡◌, Bool, ◌⊎◌, ℕ, suc, ◌+◌, ℤ, pos, negsuc, eqb, length, Float}
 use Rattle.std.proofs.Math.Path.{refl, ap}
 use Rattle.std.proofs.Common.{◌∙◌, inl, inr, zero-add, add-suc, arith, ltb-true, ltb-false, le-ltb, ne_eqb, eqb-true}
 use Rattle.std.proofs.Math.Bool.{true, false, cond}
@@ -8,10 +8,10 @@ use mathlib.Core.List.{List, [], ◌∷◌}
 use Rattle.std.proofs.Math.Nat.{add-zero, suc-add}
 use Rattle.std.proofs.Math.Numerals.{add-one}
 use Rattle.std.specs.Int.Signed.{lt_z}
-use Rattle.std.specs.Float.Ieee.{lt, is_nan}
+use Rattle.std.specs.Float.Ieee.{lt}
 use Rattle.quotient.specs.rule.Value.{value_of}
 use Rattle.quotient.specs.Limits.{Scaled, Power}
-use Rattle.quotient.proofs.Order.{value_order, value_real}
+use Rattle.quotient.proofs.Order.{value_order}
 use Rattle.summary.specs.declared.Summary.{Summary}
 use Rattle.summary.specs.rule.Summary.{none_summed, lower_of, higher_of, extend_of, extended_by, summary_of}
 
@@ -109,6 +109,7 @@ module _ (before : ℤ → ℤ → Bool) (self : (a : ℤ) → before a a ≡ fa
               | inr v ↦ first_of_lem k ns m (inr v)
             ]
       ]
+  first_of_lem a [] m (inr x'') = elim x'' [ ]
 
 abbrev pub above : ℤ → ℤ → Bool
 above a b = lt_z b a
@@ -165,6 +166,7 @@ module _ (p : ℕ) (P : Power p) where
   scaled_of : (ns : List ℤ) (m : ℤ) → Each ns → Among m ns → Scaled m
   scaled_of (n ∷ ns) m e (inl q) = rw q e.0
   scaled_of (n ∷ ns) m e (inr w) = scaled_of ns m e.1 w
+  scaled_of [] m e x'' = elim x'' [ ]
 
   -- THE LAW: the count, a smallest and a largest value, wherever a value is present
   pub summary_says : (n : ℤ) (ns : List ℤ) → Each (n ∷ ns) → Says p (n ∷ ns) (summary_of (values_of p (n ∷ ns)))

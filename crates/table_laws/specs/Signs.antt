@@ -89,7 +89,7 @@ module _ (t : List ℤ) (g : well_formed t ≡ true) where
       let c2 = and_left (mark_known h && leb 1 h.rows) (leb h.rows 512) c1 in
       let c3 = and_left (mark_known h) (leb 1 h.rows) c2 in
       let r6 = eqb h.rows_at 6 in
-      let l6 = eqb h.lines_at_lem (lines_base h.rows) in
+      let l6 = eqb h.lines_at (lines_base h.rows) in
       let s1 = and_left (r6 && l6) (leb (line_base h.rows h.lines) (length t)) a.1 in
       let e0 : h.mark ≤ 12 =
       ⊎_elim (λ x. omega (arith, eqb-true h.mark 11 x)) (λ x. omega (arith, eqb-true h.mark 12 x))
@@ -97,7 +97,7 @@ module _ (t : List ℤ) (g : well_formed t ≡ true) where
       let e1 = leb-true h.rows 512 (and_right (mark_known h && leb 1 h.rows) (leb h.rows 512) c1) in
       let e2 = leb-true h.lines 4096 (and_right counts (leb h.lines 4096) a.0) in
       let e4 = eqb-true h.rows_at 6 (and_left r6 l6 s1) in
-      let e5 = eqb-true h.lines_at_lem (lines_base h.rows) (and_right r6 l6 s1) in
+      let e5 = eqb-true h.lines_at (lines_base h.rows) (and_right r6 l6 s1) in
       record {
         mark = count_sign (cell t 0) (omega arith);
         rows = count_sign (cell t 1) (omega arith);

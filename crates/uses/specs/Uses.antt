@@ -1,5 +1,5 @@
 -- What follows from rule/Uses.antt.
-use Rattle.std.specs.Prelude.{◌≡◌, refl, Bool, ◌&&◌, List, ℕ, ◌-◌, ◌≤◌, ◌<◌, eqb, leb, ℤ}
+use Rattle.std.specs.Prelude.{◌≡◌, Bool, ◌&&◌, List, ℕ, ◌-◌, ◌≤◌, ◌<◌, eqb, leb, ℤ}
 use Rattle.std.proofs.Common.{◌∙◌, ⊎_elim, arith, eq-eqb, eqb-true, leb-true}
 use Rattle.std.proofs.Math.Bool.{true, false, cond}
 use Rattle.std.specs.Int.Bits.{bit_or, or_add_and}

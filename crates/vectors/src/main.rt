@@ -4,11 +4,13 @@
 // is written clean into as many bytes, and its text is printed. `cases.py` beside this makes the cases and the answers.
 #![tactic(auto)]
 
-ghost use Rattle.std.specs.Prelude.{◌≤◌, ◌<◌, length};
+ghost use Rattle.std.specs.Prelude.{◌≤◌, ◌<◌, length, IfOk};
 
 use clean::Written;
 use definition::Answer;
 use layout::{Header, Line, Row};
+use std::io;
+use std::io::{Read, Write};
 use texts::Decoded;
 
 // What every number of a table holds before the call.
@@ -35,53 +37,62 @@ fn between(low: usize, n: usize, high: usize) -> usize
 }
 
 // ---- output, gathered in a lent buffer and written where it is full
-fn put(out: &mut [u8], at: usize, b: u8) -> usize {
+fn put(rt: &impl Print, out: &mut [u8], at: usize, b: u8) -> io::Result<usize> {
     if at < out.len() {
         out[at] = b;
-        return at + 1;
+        return Ok(at + 1);
     }
-    io::write_all(1, out);
+    io::writer(rt).write_all(out)?;
     if 0 < out.len() {
         out[0] = b;
     }
-    1
+    Ok(1)
 }
 
-fn put_all(out: &mut [u8], at: usize, text: &[u8]) -> usize {
+fn put_all(rt: &impl Print, out: &mut [u8], at: usize, text: &[u8]) -> io::Result<usize> {
     let mut n = at;
     let mut i = 0;
     while i < text.len() {
-        n = put(out, n, text[i]);
+        n = put(rt, out, n, text[i])?;
         i += 1;
     }
-    n
+    Ok(n)
 }
 
-fn put_count(out: &mut [u8], at: usize, n: u64) -> usize {
+fn put_count(rt: &impl Print, out: &mut [u8], at: usize, n: u64) -> io::Result<usize> {
     let mut digits = [0u8; 20];
-    let k = io::decimal(n, &mut digits);
-    put_all(out, at, &digits[..k])
+    let mut left = n;
+    let mut first: usize = 20;
+    while 0 < first {
+        first -= 1;
+        digits[first] = b'0' + (left % 10) as u8;
+        left = left / 10;
+        if left == 0 {
+            return put_all(rt, out, at, &digits[first..]);
+        }
+    }
+    put_all(rt, out, at, &digits)
 }
 
-fn put_number(out: &mut [u8], at: usize, z: i64) -> usize {
+fn put_number(rt: &impl Print, out: &mut [u8], at: usize, z: i64) -> io::Result<usize> {
     let s = cells::signed_of(z);
     if s.minus {
-        let n = put(out, at, b'-');
-        return put_count(out, n, s.size);
+        let n = put(rt, out, at, b'-')?;
+        return put_count(rt, out, n, s.size);
     }
-    put_count(out, at, s.size)
+    put_count(rt, out, at, s.size)
 }
 
 // The numbers of a table, parted by spaces, and a line end.
-fn put_table(out: &mut [u8], at: usize, table: &[i64]) -> usize {
+fn put_table(rt: &impl Print, out: &mut [u8], at: usize, table: &[i64]) -> io::Result<usize> {
     let mut n = at;
     let mut i = 0;
     while i < table.len() {
-        n = put_number(out, n, table[i]);
+        n = put_number(rt, out, n, table[i])?;
         i += 1;
-        n = put(out, n, parting(i < table.len()));
+        n = put(rt, out, n, parting(i < table.len()))?;
     }
-    n
+    Ok(n)
 }
 
 fn parting(more: bool) -> u8 {
@@ -121,11 +132,11 @@ fn held_bytes(page: &[u8], from: usize) -> bool {
     true
 }
 
-fn put_held(out: &mut [u8], at: usize, kept: bool) -> usize {
+fn put_held(rt: &impl Print, out: &mut [u8], at: usize, kept: bool) -> io::Result<usize> {
     if kept {
-        return put_all(out, at, b" kept\n");
+        return put_all(rt, out, at, b" kept\n");
     }
-    put_all(out, at, b" touched\n")
+    put_all(rt, out, at, b" touched\n")
 }
 
 // The numbers of a table with so many rows and lines, as far as there can be so many.
@@ -136,61 +147,61 @@ fn table_size(rows: usize, lines: usize) -> usize {
 }
 
 // ---- the cases
-fn put_read(out: &mut [u8], at: usize, table: &[i64], rows: usize, lines: usize) -> usize {
+fn put_read(rt: &impl Print, out: &mut [u8], at: usize, table: &[i64], rows: usize, lines: usize) -> io::Result<usize> {
     let used = bounded(table_size(rows, lines), table.len());
-    let mut n = put_all(out, at, b"read ");
-    n = put_count(out, n, rows as u64);
-    n = put(out, n, b' ');
-    n = put_count(out, n, lines as u64);
-    n = put_held(out, n, held(table, used));
-    put_table(out, n, &table[..used])
+    let mut n = put_all(rt, out, at, b"read ")?;
+    n = put_count(rt, out, n, rows as u64)?;
+    n = put(rt, out, n, b' ')?;
+    n = put_count(rt, out, n, lines as u64)?;
+    n = put_held(rt, out, n, held(table, used))?;
+    put_table(rt, out, n, &table[..used])
 }
 
-fn put_refused(out: &mut [u8], at: usize, number: usize, place: usize, kept: bool) -> usize {
-    let mut n = put_count(out, at, number as u64);
-    n = put(out, n, b' ');
-    n = put_count(out, n, place as u64);
-    put_held(out, n, kept)
+fn put_refused(rt: &impl Print, out: &mut [u8], at: usize, number: usize, place: usize, kept: bool) -> io::Result<usize> {
+    let mut n = put_count(rt, out, at, number as u64)?;
+    n = put(rt, out, n, b' ')?;
+    n = put_count(rt, out, n, place as u64)?;
+    put_held(rt, out, n, kept)
 }
 
-fn put_signs(out: &mut [u8], at: usize, list: &[i64], count: usize) -> usize {
+fn put_signs(rt: &impl Print, out: &mut [u8], at: usize, list: &[i64], count: usize) -> io::Result<usize> {
     let used = bounded(count, list.len());
-    let mut n = put_all(out, at, b"text ");
-    n = put_count(out, n, used as u64);
-    n = put_held(out, n, held(list, used));
-    put_table(out, n, &list[..used])
+    let mut n = put_all(rt, out, at, b"text ")?;
+    n = put_count(rt, out, n, used as u64)?;
+    n = put_held(rt, out, n, held(list, used))?;
+    put_table(rt, out, n, &list[..used])
 }
 
-fn put_no_text(out: &mut [u8], at: usize, list: &[i64], number: u64) -> usize {
-    let n = put_count(out, at, number);
-    put_held(out, n, held(list, 0))
+fn put_no_text(rt: &impl Print, out: &mut [u8], at: usize, list: &[i64], number: u64) -> io::Result<usize> {
+    let n = put_count(rt, out, at, number)?;
+    put_held(rt, out, n, held(list, 0))
 }
 
 // A text of the definition decoded, by its place and length.
-fn run_text(out: &mut [u8], at: usize, d: &[u8], h: Head, list: &mut [i64]) -> usize {
+fn run_text(rt: &impl Print, out: &mut [u8], at: usize, d: &[u8], h: Head, list: &mut [i64]) -> io::Result<usize> {
     fill(list);
     match decoding::decode_text(d, h.place, h.long, list) {
-        Decoded::Signs(count) => put_signs(out, at, list, count),
-        Decoded::NotText => put_no_text(out, at, list, 3),
-        Decoded::ShortList => put_no_text(out, at, list, 25),
+        Decoded::Signs(count) => put_signs(rt, out, at, list, count),
+        Decoded::NotText => put_no_text(rt, out, at, list, 3),
+        Decoded::ShortList => put_no_text(rt, out, at, list, 25),
     }
 }
 
-fn put_clean(out: &mut [u8], at: usize, page: &[u8], count: usize) -> usize {
+fn put_clean(rt: &impl Print, out: &mut [u8], at: usize, page: &[u8], count: usize) -> io::Result<usize> {
     let used = bounded(count, page.len());
-    let mut n = put_all(out, at, b"clean ");
-    n = put_count(out, n, used as u64);
-    n = put_held(out, n, held_bytes(page, used));
-    put_all(out, n, &page[..used])
+    let mut n = put_all(rt, out, at, b"clean ")?;
+    n = put_count(rt, out, n, used as u64)?;
+    n = put_held(rt, out, n, held_bytes(page, used))?;
+    put_all(rt, out, n, &page[..used])
 }
 
 // The definition written clean, with the table that was read of it, if it has room.
-fn run_clean(out: &mut [u8], at: usize, d: &[u8], h: Head, table: &[i64]) -> usize {
+fn run_clean(rt: &impl Print, out: &mut [u8], at: usize, d: &[u8], h: Head, table: &[i64]) -> io::Result<usize> {
     let mut room = [BLANK; 4096];
     let page = &mut room[..bounded(h.long, 4096)];
     match clean::write_definition(d, table, page) {
-        Written::Done(count) => put_clean(out, at, page, count),
-        Written::Refused { number, place } => put_refused(
+        Written::Done(count) => put_clean(rt, out, at, page, count),
+        Written::Refused { number, place } => put_refused(rt,
             out,
             at,
             number,
@@ -200,23 +211,23 @@ fn run_clean(out: &mut [u8], at: usize, d: &[u8], h: Head, table: &[i64]) -> usi
     }
 }
 
-fn run_read(out: &mut [u8], at: usize, d: &[u8], h: Head, table: &mut [i64]) -> usize {
+fn run_read(rt: &impl Print, out: &mut [u8], at: usize, d: &[u8], h: Head, table: &mut [i64]) -> io::Result<usize> {
     fill(table);
     let read = kinds::read_definition(d, table);
     if h.clean {
-        return run_clean(out, at, d, h, table);
+        return run_clean(rt, out, at, d, h, table);
     }
     match read {
-        Answer::Read { rows, lines } => put_read(out, at, table, rows, lines),
-        Answer::Refused { number, place } => put_refused(out, at, number, place, held(table, 0)),
+        Answer::Read { rows, lines } => put_read(rt, out, at, table, rows, lines),
+        Answer::Refused { number, place } => put_refused(rt, out, at, number, place, held(table, 0)),
     }
 }
 
-fn run_case(out: &mut [u8], at: usize, d: &[u8], h: Head, table: &mut [i64]) -> usize {
+fn run_case(rt: &impl Print, out: &mut [u8], at: usize, d: &[u8], h: Head, table: &mut [i64]) -> io::Result<usize> {
     if h.decode {
-        return run_text(out, at, d, h, table);
+        return run_text(rt, out, at, d, h, table);
     }
-    run_read(out, at, d, h, table)
+    run_read(rt, out, at, d, h, table)
 }
 
 // A number from a place on, and the place behind the byte after it.
@@ -315,47 +326,63 @@ fn either(q: bool, a: usize, b: usize) -> usize {
 }
 
 // The case that starts at a place: `LEN ROOM`, `LEN ROOM PLACE LENGTH` or `LEN ROOM OUTPUT`, LF, the definition, LF.
-fn one_case(
+fn one_case(rt: &impl Print,
     text: &[u8],
     at: usize,
     case: usize,
     table: &mut [i64],
     out: &mut [u8],
     n: usize,
-) -> Progress
+) -> io::Result<Progress>
     requires { at < length text.now }
-    ensures { at < result.at }
+    ensures { IfOk result (λ p. at < p.at) }
 {
     let head = head_at(text, at);
     let start = between(at, head.next, text.len());
     let end = between(start, with_length(start, head.length), text.len());
     let next = behind(at, end, text.len());
     let lent = bounded(head.room, table.len());
-    let a = put_all(out, n, b"case ");
-    let b = put_count(out, a, case as u64);
-    let c = put_all(out, b, b": ");
-    let out = run_case(out, c, &text[start..end], head, &mut table[..lent]);
-    Progress { at: next, out }
+    let a = put_all(rt, out, n, b"case ")?;
+    let b = put_count(rt, out, a, case as u64)?;
+    let c = put_all(rt, out, b, b": ")?;
+    let out = run_case(rt, out, c, &text[start..end], head, &mut table[..lent])?;
+    Ok(Progress { at: next, out })
 }
 
-fn run_all(text: &[u8], table: &mut [i64], out: &mut [u8]) {
+fn run_all(rt: &impl Print, text: &[u8], table: &mut [i64], out: &mut [u8]) -> io::Result<()> {
     let mut at = 0;
     let mut n = 0;
     let mut case: usize = 0;
     while at < text.len() {
         case += 1;
-        let p = one_case(text, at, case, table, out, n);
+        let p = one_case(rt, text, at, case, table, out, n)?;
         at = p.at;
         n = p.out;
     }
     let last = bounded(n, out.len());
-    io::write_all(1, &out[..last]);
+    io::writer(rt).write_all(&out[..last])
 }
 
-fn main() {
+// Reads what stands on standard input, as much of it as there is room for, and says how many bytes came.
+fn read_input(rt: &impl Input, input: &mut [u8]) -> io::Result<usize>
+    ensures { IfOk result (λ n. n ≤ length input.new) }
+{
+    let mut reader = rt.reader();
+    let mut got: usize = 0;
+    while got < input.len() {
+        let n = reader.read(&mut input[got..])?;
+        if n == 0 {
+            return Ok(got);
+        }
+        got += n;
+    }
+    Ok(got)
+}
+
+fn main(rt: HostRuntime) -> io::Result<()> {
     let mut input = [0u8; 524288];
     let mut table = [0i64; 32768];
     let mut out = [0u8; 65536];
-    let got = io::read_full(0, &mut input);
-    run_all(&input[..got], &mut table, &mut out);
+    let got = read_input(&rt, &mut input)?;
+    run_all(&rt, &input[..got], &mut table, &mut out)
 }

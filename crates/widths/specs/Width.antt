@@ -1,7 +1,8 @@
 -- What follows from rule/Width.antt, and what the code keeps.
 use Rattle.std.specs.Prelude.{◌≡◌, Bool, ℕ, zero, suc, ◌+◌, ◌-◌, ◌*◌, ◌/◌, ◌^◌, ◌≤◌, ◌<◌, max, min, ℤ, pos, negsuc}
 use Rattle.std.proofs.Math.Path.{refl}
-use Rattle.std.proofs.Common.{sym, ap, ◌∙◌, le-div_iff_mul-le, div-mul-le_self, div-le_self, le_trans, lt_of_le_of_lt, div-lt_iff_lt-mul, le_antisymm, lit<, pow-add}
+use Rattle.std.proofs.Common.{sym, ap, ◌∙◌, le-div_iff_mul-le, div-mul-le_self, div-le_self, le_trans, lt_of_le_of_lt, div-lt_iff_lt-mul}
+use Rattle.std.proofs.Common.{le_antisymm, lit<, pow-add}
 use Rattle.std.proofs.Math.Bool.{true, false, cond}
 use Rattle.std.proofs.Math.Nat.{one-le-pow, pow-le-pow_right, div-eq_of_lt}
 use native.Mathlib.Omega.{arith}
@@ -16,7 +17,6 @@ use Rattle.cells.specs.declared.Signed.{Signed}
 use Rattle.layout.specs.declared.Format.{Format}
 use Rattle.layout.specs.declared.Kind.{Kind}
 use Rattle.layout.specs.declared.Kind.TheVariants.{Single, Multiple, Quantity, Character, Logical}
-use Rattle.layout.specs.declared.Spread.{Spread}
 use Rattle.layout.specs.declared.Spread.TheVariants.{Bits, Fields}
 use Rattle.widths.specs.rule.Width.{size_of, minus_of, tail_of, least_whole, whole_digits, quantity_width, need, most_size, lowest, highest}
 use Rattle.widths.specs.rule.Width.{fits_kind, decimals_of}
@@ -220,7 +220,8 @@ size_fits f (pos n) h near = and_true (le_z (number_of true (most_size f)) (pos 
     low : (m : ℕ) → le_z (number_of true m) (pos n) ≡ true
     low zero = le-leb 0 n (omega arith)
     low (suc m) = refl
-size_fits f (negsuc n) h near = and_true (le_z (number_of true (most_size f)) (negsuc n)) _ (low (most_size f) (most_within f (suc n) h near))
+size_fits f (negsuc n) h near = and_true (le_z (number_of true (most_size f)) (negsuc n)) _
+    (low (most_size f) (most_within f (suc n) h near))
     refl
   where
     low : (m : ℕ) → suc n ≤ m → le_z (number_of true m) (negsuc n) ≡ true

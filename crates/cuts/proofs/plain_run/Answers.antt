@@ -5,18 +5,11 @@ use native.Mathlib.Numerals.{add-one}
 use native.Mathlib.Omega.{arith}
 use borrow.Author.Count.{below_more}
 use borrow.Author.Tests.{ltb-true}
-use Rattle.below.specs.Below.{and_left, and_right}
+use Rattle.below.specs.Below.{and_right}
 use lib.Dec.{ltb}
 use lib.ListN.{length}
 use Rattle.cuts.specs.Records.{PlainNext}
 use Rattle.cuts.proofs.plain_run.Goals as goal
-
--- fewer than are asked for so far
-more : (c : goal.In-loop-k) → c.loop-k.k < c.args.most
-more c =
-    let a = c.args in
-    let l = c.loop-k in
-    ltb-true _ _ (and_left (ltb l.k a.most) (ltb l.at (length a.d.now)) c.loop-k-test.true)
 
 found : (c : goal.Else-not-next_short) → let a = c.args in
     PlainNext a.d.now a.w c.loop-k.at a.size
@@ -65,9 +58,3 @@ returns c = c.loop-k.invariant.1
 
 pub overflow_add-step : goal.overflow_add-step
 overflow_add-step c = omega (arith, c.requires.ending.0.few)
-
-pub overflow_add-k : goal.overflow_add-k
-overflow_add-k c = let h = more c.before.before in omega arith
-
-pub loop-k-smaller : goal.loop-k-smaller
-loop-k-smaller c = let h = more c.before.before in omega arith

@@ -1,6 +1,7 @@
 -- What a field of each kind says, and how a value is written: document 01's table "Value places and readings", a line each. Here
 -- `ok` is the test that a number is legal, and the bytes are those of the value places, in their order.
-use Rattle.std.specs.Prelude.{Bool, true, false, cond, ◌&&◌, ◌||◌, List, [], ◌∷◌, ◌++◌, ℕ, zero, suc, ◌+◌, ◌-◌, ◌^◌, eqb, leb, ltb, ℤ, pos, length, take, drop, get_or}
+use Rattle.std.specs.Prelude.{Bool, true, false, cond, ◌&&◌, ◌||◌, List, [], ◌∷◌, ◌++◌, ℕ, zero, suc, ◌-◌, ◌^◌, eqb, leb, ltb, ℤ, pos}
+use Rattle.std.specs.Prelude.{length, take, drop, get_or}
 use Rattle.std.specs.Int.Signed.{lt_z}
 use Rattle.cells.specs.rule.Cell.{eq_z}
 use Rattle.layout.specs.declared.Format.{Format}

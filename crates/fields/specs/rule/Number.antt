@@ -1,5 +1,6 @@
 -- What the bytes of a number say, and the bytes of a number. 32 is a space, 45 `-`, 46 the point, 48 to 57 the digits.
-use Rattle.std.specs.Prelude.{Bool, true, false, cond, ◌&&◌, List, [], ◌∷◌, ◌++◌, ℕ, zero, suc, ◌+◌, ◌-◌, ◌*◌, ◌/◌, ◌%◌, ◌^◌, eqb, leb, ℤ, pos, length, take, drop, get_or}
+use Rattle.std.specs.Prelude.{Bool, true, false, cond, ◌&&◌, List, [], ◌∷◌, ◌++◌, ℕ, zero, suc, ◌+◌, ◌-◌, ◌*◌, ◌/◌, ◌%◌, ◌^◌, eqb, leb, ℤ}
+use Rattle.std.specs.Prelude.{pos, length, take, drop, get_or}
 use Rattle.ascii.specs.rule.Class.{within}
 use Rattle.cells.specs.rule.Cell.{number_of, signed_of}
 use Rattle.widths.specs.rule.Width.{tail_of, least_whole}

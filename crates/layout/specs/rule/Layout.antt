@@ -47,7 +47,7 @@ header_of t = record {
   lines = count_of (cell t 2);
   length = count_of (cell t 3);
   rows_at = count_of (cell t 4);
-  lines_at_lem = count_of (cell t 5);
+  lines_at = count_of (cell t 5);
 }
 
 unfoldable pub columns_at : List ℤ → ℕ → Columns

@@ -12,4 +12,4 @@ row_cells c =
 
 unfoldable pub header_cells : Header → List ℤ
 header_cells h =
-    pos h.mark ∷ pos h.rows ∷ pos h.lines ∷ pos h.length ∷ pos h.rows_at ∷ pos h.lines_at_lem ∷ []
+    pos h.mark ∷ pos h.rows ∷ pos h.lines ∷ pos h.length ∷ pos h.rows_at ∷ pos h.lines_at ∷ []

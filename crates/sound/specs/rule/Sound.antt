@@ -78,7 +78,8 @@ texts_good c =
 
 unfoldable pub counts_good : Columns → Bool
 counts_good c =
-    type_known c and decimals_few c and range_flag c and point_known c and lacked_zero c and point_given c and shares_given c and values_given c
+    type_known c and decimals_few c and range_flag c and point_known c and lacked_zero c and point_given c and shares_given c
+    and values_given c
 
 unfoldable pub places_good : Columns → Bool
 places_good c = ident_good c and position_good c and subfields_good c and texts_good c
@@ -189,7 +190,7 @@ head_counts h = mark_known h && leb 1 h.rows && leb h.rows most_rows && leb h.li
 
 abbrev pub head_sums : Header → ℕ → Bool
 head_sums h n =
-    eqb h.rows_at header_size && eqb h.lines_at_lem (lines_base h.rows) && leb (line_base h.rows h.lines) n
+    eqb h.rows_at header_size && eqb h.lines_at (lines_base h.rows) && leb (line_base h.rows h.lines) n
 
 -- every row good, the lines added up, L the highest finish
 unfoldable pub rows_good : List ℤ → Header → Bool

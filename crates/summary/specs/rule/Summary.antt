@@ -1,5 +1,5 @@
 -- "A column summary holds the count present, then the smallest and largest present value as floats, both zero when there is none."
-use Rattle.std.specs.Prelude.{ℕ, ◌+◌, false, cond, List, [], ◌∷◌, pos, eqb, Float}
+use Rattle.std.specs.Prelude.{◌+◌, false, cond, List, [], ◌∷◌, pos, eqb, Float}
 use Rattle.std.specs.Float.{fin}
 use Rattle.std.specs.Float.Ieee.{lt}
 use Rattle.summary.specs.declared.Summary.{Summary}

@@ -17,7 +17,7 @@ pub record HeaderSigns (t : List ℤ) : Type 0 where
   pub lines : NotNegative (cell t 2)
   pub least_length : NotNegative (cell t 3)
   pub rows_at : NotNegative (cell t 4)
-  pub lines_at_lem : NotNegative (cell t 5)
+  pub lines_at : NotNegative (cell t 5)
 
 -- a row's twenty numbers, of which from and to may be negative in a quantity (type 3) alone
 pub record RowSigns (t : List ℤ) (at : ℕ) : Type 0 where

@@ -1,0 +1,27 @@
+-- `numbers::decimals_after` meets its contract: the digits after the whole part, or wrong.
+use mathlib.Core.Path.{sym, ap, ◌∙◌}
+use native.Mathlib.Omega.{arith}
+use borrow.Author.Rules.{sfits_of}
+use mir.Facts.{to_z-of_z}
+use Rattle.fields.specs.rule.Number.{says}
+use Rattle.numbers.specs.Numeral.{said_of, decimals_read}
+use Rattle.numbers.proofs.Laws.{value_room, value_only, value_is, wrong_only}
+use mir.Syntax.{w64}
+use Rattle.numbers.proofs.decimals_after.Goals as goal
+
+pub signed-requires : goal.signed-requires
+signed-requires c = omega (
+  arith,
+  value_room _ _ _ (sym c.digits_after.ensures ∙ c.in-Value.is),
+  c.requires,
+)
+
+pub returns-in-Value : goal.returns-in-Value
+unfolding said_of decimals_read
+returns-in-Value c =
+    let e = sym c.digits_after.ensures ∙ c.in-Value.is in
+    ap says (to_z-of_z {w = w64} (sfits_of c.signed.type_inv) ∙ c.signed.ensures) ∙ rw (value_only _ _ _ e, value_is _ _ _ e)
+
+pub returns-in-Wrong : goal.returns-in-Wrong
+unfolding said_of decimals_read
+returns-in-Wrong c = rw (wrong_only _ _ (sym c.digits_after.ensures ∙ c.in-Wrong.is))

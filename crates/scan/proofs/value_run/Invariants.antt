@@ -1,0 +1,12 @@
+use mathlib.Core.Path.{◌≡◌}
+use Prim.Native.Nat.{◌-◌}
+use lib.ListN.{length}
+use Rattle.scan.specs.rule.Text.{text}
+use Rattle.scan.specs.rule.Number.{is_value, run_of}
+use Rattle.scan.proofs.value_run.Given as goal
+
+abbrev pub invariant-loop-byte : goal.invariant-loop-byte
+invariant-loop-byte l = run_of is_value l.at (text l.d l.at) ≡ run_of is_value l.n (text l.d l.n)
+
+abbrev pub decreases-loop-byte : goal.decreases-loop-byte
+decreases-loop-byte l = length l.d - l.n
