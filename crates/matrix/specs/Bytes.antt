@@ -1,7 +1,7 @@
 -- What follows from rule/Bytes.antt: numbers one behind the other, and the lengths of header and summary.
 -- Assumes nothing.
 use Rattle.std.specs.Prelude.{◌≡◌, refl, List, ◌++◌, ℕ, ◌+◌, length}
-use Rattle.std.proofs.Common.{◌∙◌, arith, length-append}
+use Rattle.std.proofs.Common.{◌∙◌, length-append}
 use Rattle.std.specs.Float.{binary64}
 use Rattle.std.specs.Float.Ieee.{to_bits}
 use Rattle.little.specs.rule.Bytes.{little_bytes, put_at}

@@ -1,12 +1,12 @@
 -- Sixteen columns of zeros and ones counted side by side: value by value in a record, and record by record.
 -- Assumes nothing.
-use Rattle.std.specs.Prelude.{◌≡◌, refl, Bool, true, false, List, ◌⊎◌, ℕ, zero, suc, ◌+◌, ◌-◌, ◌*◌, ◌≤◌, ◌<◌, length, get_or, set}
+use Rattle.std.specs.Prelude.{◌≡◌, refl, Bool, true, false, List, ◌⊎◌, ℕ, ◌+◌, ◌-◌, ◌*◌, ◌≤◌, ◌<◌, length, get_or, set}
 use Rattle.std.specs.Prelude.{replicate}
-use Rattle.std.proofs.Common.{sym, ap, ◌∙◌, inl, inr, ⊎_elim, eq-or-lt_of_le, arith, length-set, get_or-set_same, get_or-set_other}
+use Rattle.std.proofs.Common.{ap, ◌∙◌, inl, inr, ⊎_elim, arith, length-set, get_or-set_same, get_or-set_other}
 use Rattle.std.proofs.lemmas.List.{length-replicate, get_or-replicate}
 use Rattle.below.specs.Below.{holds_not, lt_or_le}
 use Rattle.little.specs.Bytes.{number_at}
-use Rattle.matrix.specs.Column.{ColumnThere, there_here}
+use Rattle.matrix.specs.Column.{there_here}
 use Rattle.matrix.specs.Noughts.{all_are, are_at}
 use Rattle.matrix.specs.Ones.{Counted, AllThere, AllFew, AllCounted, AllTold, Held, held_none, held_on, held_off, held_done}
 use Rattle.matrix.specs.Ones.{zeros_counted}

@@ -2,27 +2,26 @@
 -- a
 -- column.
 -- Assumes nothing.
-use Rattle.std.specs.Prelude.{◌≡◌, Bool, true, false, not, List, [], ◌∷◌, ◌++◌, T, eqb, length, get_or, take, drop, Float}
+use Rattle.std.specs.Prelude.{◌≡◌, List, [], ◌∷◌, ◌++◌, eqb, length, get_or, take, drop}
 use Rattle.std.proofs.Math.Path.{refl, ap}
-use Rattle.std.proofs.Common.{sym, ◌∙◌, subst, append_assoc, length-append, take-append-drop, take_at, get_or-take, get_or-drop, drop-drop}
+use Rattle.std.proofs.Common.{sym, ◌∙◌, append_assoc, take-append-drop, take_at, get_or-take, get_or-drop, drop-drop}
 use Rattle.std.proofs.Math.Bool.{cond}
-use Prim.Native.Nat.{ℕ, zero, suc, ◌+◌, ◌-◌, ◌*◌, ◌≤◌, ◌<◌}
+use Prim.Native.Nat.{ℕ, zero, suc, ◌+◌, ◌*◌, ◌≤◌, ◌<◌}
 use native.Mathlib.Omega.{arith}
 use Rattle.std.proofs.Math.Seq.{drop-append-add}
-use Rattle.std.specs.Float.Ieee.{binary64, nan_bits, of_bits, to_bits}
+use Rattle.std.specs.Float.Ieee.{binary64, of_bits, to_bits}
 use Rattle.std.specs.Float.Ieee.Bits.{of_bits-to_bits, to_bits-lt}
-use Rattle.places.specs.rule.Places.{put, run}
+use Rattle.places.specs.rule.Places.{run}
 use Rattle.places.specs.Laws.{keeps, out_run}
 use Rattle.little.specs.rule.Bytes.{little_bytes, put_at, little_number}
 use Rattle.little.specs.Bytes.{number_at, bytes_count, bytes_back}
 use Rattle.little.specs.Runs.{put_back, length_put_at}
-use Rattle.little.specs.Back.{bits_real}
 use Rattle.matrix.specs.declared.Entry.{Entry}
 use Rattle.matrix.specs.declared.Entry.TheVariants.{Absent, Scaled}
 use Rattle.matrix.specs.rule.Entry.{presence_of, float_of, flags_of, value_bytes, present_of}
 use Rattle.matrix.specs.Put.{put_entries}
-use Rattle.matrix.specs.Entry.{EntryGood, entry_real, entry_fits, length_flags, length_values}
-use Rattle.matrix.specs.Column.{ColumnThere, column_in}
+use Rattle.matrix.specs.Entry.{EntryGood, entry_fits, length_flags, length_values}
+use Rattle.matrix.specs.Column.{column_in}
 
 -- every step-th of some entries, n of them from the place j on
 unfoldable pub picked : List Entry → ℕ → ℕ → ℕ → List Entry

@@ -1,15 +1,13 @@
 -- A column of zeros and ones: its summary by how many values it has, whether one of them is 1, and whether one is below 1.
 -- Assumes nothing.
-use Rattle.std.specs.Prelude.{◌≡◌, refl, Bool, true, false, cond, not, ◌||◌, List, [], ◌∷◌, ◌⊎◌, ℕ, zero, suc, ◌+◌, ◌≤◌, ◌<◌, eqb, length}
+use Rattle.std.specs.Prelude.{◌≡◌, refl, Bool, true, false, cond, ◌||◌, List, [], ◌∷◌, ◌⊎◌, ℕ, zero, suc, ◌+◌, ◌≤◌, ◌<◌, length}
 use Rattle.std.specs.Prelude.{Float}
-use Rattle.std.proofs.Common.{sym, ap, ◌∙◌, inl, inr, ⊎_elim, add-zero, zero-add, arith, eqb-true, eq-eqb, ne_eqb}
-use Rattle.std.proofs.lemmas.Bool.{eqb-false}
-use Rattle.std.specs.Float.{binary64}
+use Rattle.std.proofs.Common.{sym, ap, ◌∙◌, inl, inr, add-zero, zero-add, arith}
 use Rattle.std.specs.Float.Ieee.{of_bits, lt}
 use Rattle.below.specs.Below.{holds_not}
 use Rattle.summary.specs.declared.Summary.{Summary}
-use Rattle.summary.specs.rule.Summary.{nought, none_summed, extend_of, extended_by, summary_of}
-use Rattle.matrix.specs.Ones.{unit, told_of, told_nought, told_unit, told_none, told_zeros, told_both}
+use Rattle.summary.specs.rule.Summary.{nought, extend_of, extended_by, summary_of}
+use Rattle.matrix.specs.Ones.{unit, told_of, told_nought, told_unit, told_none, told_both}
 
 -- a value is below 1
 unfoldable pub any_less : List Float → Bool

@@ -1,12 +1,11 @@
 -- THE PIECES with their boundaries, laid end to end, are the file again.
 use Rattle.std.specs.Prelude.{◌≡◌, refl, Bool, true, false, cond, List, [], ◌∷◌, ◌++◌, ℕ, zero, suc, ◌-◌, eqb, drop}
-use Rattle.std.proofs.Common.{sym, ap, ◌∙◌, append_assoc, eqb-true}
+use Rattle.std.proofs.Common.{sym, ap, ◌∙◌, eqb-true}
 use Rattle.std.proofs.Math.Seq.{drop-nil}
 use Rattle.below.specs.Below.{holds_not}
-use Rattle.cuts.specs.declared.Terminator.{Terminator}
 use Rattle.cuts.specs.rule.Cut.{one_byte, two_bytes, no_ending, begins_with, terminator_at}
 use Rattle.cuts.specs.rule.Records.{terminator_bytes}
-use Rattle.pieces.specs.rule.Pieces.{boundary_at, Piece, piece, first_piece, pieces_behind, onto, cut_from, pieces_of, boundary_bytes}
+use Rattle.pieces.specs.rule.Pieces.{boundary_at, Piece, piece, first_piece, pieces_behind, onto, cut_from, boundary_bytes}
 use Rattle.pieces.specs.rule.Pieces.{laid_pieces}
 
 -- a byte in front of the first piece is a byte in front of all
@@ -22,7 +21,8 @@ at_laid a b [] = refl
 at_laid a b (c ∷ s) = go (eqb c b) refl
   where
     go : (q : Bool) → eqb c b ≡ q
-        → boundary_bytes (cond q (two_bytes a b) (one_byte a b)) ++ drop ((cond q (two_bytes a b) (one_byte a b)).size - 1) (c ∷ s) ≡ a ∷ c ∷ s
+        → boundary_bytes (cond q (two_bytes a b) (one_byte a b)) ++ drop ((cond q (two_bytes a b) (one_byte a b)).size - 1) (c ∷ s) ≡ a ∷ c
+        ∷ s
     go true e = let z : c ≡ b = eqb-true c b e in rw z
     go false e = refl
 
@@ -48,7 +48,8 @@ laid_cut (b ∷ s) zero = go (eqb (boundary_at (b ∷ s)).size 0) refl (laid_cut
   where
     go : (q : Bool) → eqb (boundary_at (b ∷ s)).size 0 ≡ q → laid_pieces (cut_from 0 s) ≡ s
         → laid_pieces (cut_from ((boundary_at (b ∷ s)).size - 1) s) ≡ drop ((boundary_at (b ∷ s)).size - 1) s
-        → laid_pieces (cond q (onto b (cut_from 0 s)) (piece [] (boundary_at (b ∷ s)) ∷ cut_from ((boundary_at (b ∷ s)).size - 1) s)) ≡ b ∷ s
+        → laid_pieces (cond q (onto b (cut_from 0 s)) (piece [] (boundary_at (b ∷ s)) ∷ cut_from ((boundary_at (b ∷ s)).size - 1) s)) ≡ b
+        ∷ s
     go true e h g = laid_onto b (cut_from 0 s) ∙ ap (λ (x : List ℕ). b ∷ x) h
     go false e h g = rw g (boundary_laid b s e)
 

@@ -1,14 +1,14 @@
 -- What follows from rule/Pieces.antt, and what the code keeps.
-use Rattle.std.specs.Prelude.{◌≡◌, Bool, true, false, cond, eqb, ltb, ◌⊎◌}
+use Rattle.std.specs.Prelude.{◌≡◌, Bool, true, false, cond, eqb, ltb}
 use Rattle.std.proofs.Math.Path.{refl, ap}
-use Rattle.std.proofs.Common.{◌∙◌, length-drop, drop-drop, take-suc, take-add, get_or-drop, ⊎_elim}
+use Rattle.std.proofs.Common.{◌∙◌, length-drop, drop-drop, take-add, ⊎_elim}
 use mathlib.Core.List.{List, [], ◌∷◌, ◌++◌}
 use Prim.Native.Nat.{ℕ, zero, suc, ◌+◌, ◌-◌, ◌≤◌, ◌<◌}
 use Rattle.std.proofs.Math.Numerals.{add-one}
 use native.Mathlib.Omega.{arith}
 use borrow.Author.Tests.{eq-eqb, ne_eqb, ltb-false}
 use Rattle.std.proofs.Math.ListN.{length, take, drop, get_or, drop_of_length-le}
-use Rattle.std.proofs.Math.Seq.{drop-cons, drop-nil}
+use Rattle.std.proofs.Math.Seq.{drop-cons}
 use Rattle.below.specs.Below.{lt_or_le}
 use Rattle.lows.specs.rule.Lows.{low_at}
 use Rattle.lows.specs.Lows.{Clear}
@@ -52,7 +52,8 @@ module _ (d : List ℕ) (i : ℕ) where
   unfolding boundary_at
   boundary_cr h e = rw (drop-cons d i 0 h, eq-eqb (get_or d i 0) 13 e, add-one i)
 
-  pub boundary_lf : i < length d → (get_or d i 0 ≡ 13 → ⊥) → get_or d i 0 ≡ 10 → boundary_at (drop i d) ≡ terminator_at 10 13 (drop (i + 1) d)
+  pub boundary_lf : i < length d → (get_or d i 0 ≡ 13 → ⊥) → get_or d i 0 ≡ 10 → boundary_at (drop i d)
+      ≡ terminator_at 10 13 (drop (i + 1) d)
   unfolding boundary_at
   boundary_lf h n e = rw (drop-cons d i 0 h, ne_eqb (get_or d i 0) 13 n, eq-eqb (get_or d i 0) 10 e, add-one i)
 
@@ -146,7 +147,8 @@ module _ (d : List ℕ) where
   cut_some : (i : ℕ) → i < length d
       → cut_from 0 (drop i d) ≡ first_piece (cut_from 0 (drop i d)) ∷ pieces_behind (cut_from 0 (drop i d))
   unfolding cut_from
-  cut_some i h = rw (drop-cons d i 0 h) (cut_either (get_or d i 0) (drop (suc i) d) (eqb (boundary_at (get_or d i 0 ∷ drop (suc i) d)).size 0))
+  cut_some i h = rw (drop-cons d i 0 h) (cut_either (get_or d i 0) (drop (suc i) d)
+      (eqb (boundary_at (get_or d i 0 ∷ drop (suc i) d)).size 0))
 
   -- bytes with no boundary among them are the first piece's
   run_on : (n i : ℕ) (w : Terminator) (rest : List Piece) → i + n ≤ length d
@@ -198,7 +200,8 @@ module _ (d : List ℕ) where
   }
 
   -- over a byte that none stands at, and on
-  pub none_more : (from i to : ℕ) → NoBoundary d from i → boundary_at (drop i d) ≡ no_ending → NoBoundary d (i + 1) to → NoBoundary d from to
+  pub none_more : (from i to : ℕ) → NoBoundary d from i → boundary_at (drop i d) ≡ no_ending → NoBoundary d (i + 1) to
+      → NoBoundary d from to
   none_more from i to u e v = record {
     on = omega (arith, u.on, v.on);
     within = v.within;
@@ -252,29 +255,30 @@ module _ (d : List ℕ) where
       (omega arith)
 
 -- ---- the spans that the code finds: one with a boundary, and the last, which has none
-module _ (d : List ℕ) (from stop lows : ℕ) (h : from < length d) (u : NoBoundary d from stop) (n : lows ≡ low_count (part d from stop)) where
-  pub span_ended : (w : Terminator) → stop < length d → w ≡ boundary_at (drop stop d) → (w.size ≡ 0 → ⊥)
-      → Spans d from (record { stop = stop; lows = lows; boundary = w })
-  span_ended w l e z =
-      let s : 1 ≤ (boundary_at (drop stop d)).size = rw e at (one w z) in
-      let x = ends_here d stop l s in record {
-        on = u.on;
-        within = rw e (omega (arith, boundary_fits (drop stop d), length-drop stop d));
-        ahead = rw e (omega (arith, u.on));
-        cuts = rw e (piece_next d from stop u h x.0 x.1);
-        counted = n;
-      }
-    where
-      one : (w : Terminator) → (w.size ≡ 0 → ⊥) → 1 ≤ w.size
-      one w z = omega arith
+module _ (d : List ℕ) (from stop lows : ℕ) (h : from < length d) (u : NoBoundary d from stop) (n : lows ≡ low_count (part d from stop))
+  where
+    pub span_ended : (w : Terminator) → stop < length d → w ≡ boundary_at (drop stop d) → (w.size ≡ 0 → ⊥)
+        → Spans d from (record { stop = stop; lows = lows; boundary = w })
+    span_ended w l e z =
+        let s : 1 ≤ (boundary_at (drop stop d)).size = rw e at (one w z) in
+        let x = ends_here d stop l s in record {
+          on = u.on;
+          within = rw e (omega (arith, boundary_fits (drop stop d), length-drop stop d));
+          ahead = rw e (omega (arith, u.on));
+          cuts = rw e (piece_next d from stop u h x.0 x.1);
+          counted = n;
+        }
+      where
+        one : (w : Terminator) → (w.size ≡ 0 → ⊥) → 1 ≤ w.size
+        one w z = omega arith
 
-  pub span_last : length d ≤ stop → Spans d from (record { stop = stop; lows = lows; boundary = no_ending })
-  span_last l =
-      let x = ends_last d stop l in
-      let e = boundary_past d stop l in record {
-        on = u.on;
-        within = omega (arith, u.within);
-        ahead = omega arith;
-        cuts = rw e at (piece_next d from stop u h x.0 x.1);
-        counted = n;
-      }
+    pub span_last : length d ≤ stop → Spans d from (record { stop = stop; lows = lows; boundary = no_ending })
+    span_last l =
+        let x = ends_last d stop l in
+        let e = boundary_past d stop l in record {
+          on = u.on;
+          within = omega (arith, u.within);
+          ahead = omega arith;
+          cuts = rw e at (piece_next d from stop u h x.0 x.1);
+          counted = n;
+        }

@@ -1,5 +1,5 @@
 -- Sixteen bytes at once: which of them are below 32, as bits; and minima of bytes that stand sixteen apart.
-use Rattle.std.specs.Prelude.{◌≡◌, Bool, ◌||◌, List, ◌⊎◌, length, get_or}
+use Rattle.std.specs.Prelude.{◌≡◌, Bool, ◌||◌, List, length, get_or}
 use Rattle.std.proofs.Math.Path.{refl}
 use Rattle.std.proofs.Math.Bool.{true, false, cond}
 use Rattle.std.proofs.Math.Logic.{⊎_elim}
@@ -74,7 +74,8 @@ module _ (d : List ℕ) where
 
   -- no bit below the lowest: no byte before it
   bits_lowest : (k n i : ℕ) → n ≤ k → (low_bits d i n ≡ 0 → ⊥)
-      → (count_trailing_zeros k (low_bits d i n) ≤ n) × ((j : ℕ) → i ≤ j → j < i + count_trailing_zeros k (low_bits d i n) → low_at d j ≡ false)
+      → (count_trailing_zeros k (low_bits d i n) ≤ n)
+      × ((j : ℕ) → i ≤ j → j < i + count_trailing_zeros k (low_bits d i n) → low_at d j ≡ false)
   unfolding low_bits count_trailing_zeros
   bits_lowest k zero i h e = absurd (e refl)
   bits_lowest zero (suc n) i h e = absurd (omega arith)
@@ -111,7 +112,8 @@ module _ (d : List ℕ) where
   pub under_less : (i n r s : ℕ) → s ≤ r → Under d i n r → Under d i n s
   under_less i n r s h u = record { least = λ q l. omega (arith, u.least q l) }
 
-  pub under_four : (i r : ℕ) → r ≤ get_or d i 0 → r ≤ get_or d (i + 16) 0 → r ≤ get_or d (i + 32) 0 → r ≤ get_or d (i + 48) 0 → Under d i 4 r
+  pub under_four : (i r : ℕ) → r ≤ get_or d i 0 → r ≤ get_or d (i + 16) 0 → r ≤ get_or d (i + 32) 0 → r ≤ get_or d (i + 48) 0
+      → Under d i 4 r
   under_four i r a b c e = record { least = go }
     where
       go : (q : ℕ) → q < 4 → r ≤ get_or d (i + 16 * q) 0

@@ -1,11 +1,12 @@
 -- The numbers on a row's lines: that they stand in the table, that they rise, the least and the most of them, and what follows for
 -- their limits, their widths and their being different.
-use Rattle.std.specs.Prelude.{◌≡◌, refl, Bool, true, false, cond, not, ◌&&◌, ◌||◌, List, ℕ, ◌+◌, ◌/◌, ◌^◌, ◌≤◌, ◌<◌, max, ℤ, pos, negsuc, length}
+use Rattle.std.specs.Prelude.{◌≡◌, refl, Bool, true, false, cond, not, ◌&&◌, ◌||◌, List, ℕ, ◌+◌, ◌/◌, ◌^◌, ◌≤◌, ◌<◌, max, ℤ, pos, negsuc}
+use Rattle.std.specs.Prelude.{length}
 use Rattle.std.proofs.Common.{◌∙◌, lt_of_le_of_lt, leb-true}
 use Rattle.std.proofs.Math.Nat.{le_antisymm}
 use native.Mathlib.Omega.{arith}
 use Rattle.std.specs.Int.Signed.{le_z}
-use Rattle.below.specs.rule.Below.{◌and◌, max_below}
+use Rattle.below.specs.rule.Below.{max_below}
 use Rattle.below.specs.Below.{both_and, all_none, all_at_lem, all_of}
 use Rattle.below.specs.Below.{max_none, max_at, max_least, same_bool, holds_not, and_true, and_left}
 use Rattle.below.specs.Below.{and_right}
@@ -65,7 +66,8 @@ unfoldable pub hull_width : Kind → Hull → ℕ
 hull_width k h = max (need k h.least) (need k h.most)
 
 pub fits_small : (k : Kind) (z : ℤ) → fits_kind k z ≡ true → size_of z ≤ 999999999999999
-fits_small k z e = size_small k z (and_left (le_z (lowest k) z) (le_z z (highest k)) e) (and_right (le_z (lowest k) z) (le_z z (highest k)) e)
+fits_small k z e = size_small k z (and_left (le_z (lowest k) z) (le_z z (highest k)) e)
+    (and_right (le_z (lowest k) z) (le_z z (highest k)) e)
 
 module _ (k : Kind) (f : ℕ → ℤ) (n : ℕ) (h : Hull) (u : Hulled f n h) where
   -- every number of the hull fits just where its least and most do
@@ -114,7 +116,8 @@ code_few (negsuc n) e g = holds_not g refl
 pub need_few : (k : Kind) (z : ℤ) → FewDecimals k → fits_kind k z ≡ true → need k z ≤ 9999
 unfolding need quantity_width decimals_of lowest highest
 need_few Single z d e = omega (arith, digits_few (size_of z))
-need_few (Multiple Bits) z d e = code_few z (and_right (le_z (pos 1) z) (le_z z (pos 9999)) e) (and_left (le_z (pos 1) z) (le_z z (pos 9999)) e)
+need_few (Multiple Bits) z d e = code_few z (and_right (le_z (pos 1) z) (le_z z (pos 9999)) e)
+    (and_left (le_z (pos 1) z) (le_z z (pos 9999)) e)
 need_few (Multiple (Fields n w)) z d e = omega (arith, digits_few (size_of z))
 need_few (Quantity f) z d e =
     omega (

@@ -6,7 +6,6 @@ use Rattle.std.specs.Bool.{beq}
 use native.Mathlib.Omega.{arith}
 use borrow.Author.Tests.{eqb-true, eqb-false, leb-true, ne_eqb}
 use Rattle.std.proofs.Math.Dec.{eqb, leb}
-use Rattle.below.specs.rule.Below.{◌and◌}
 use Rattle.below.specs.Below.{and_both, both_and, and_no, and_nor, and_yes, and_left, and_right, either_true, holds_not}
 use Rattle.layout.specs.rule.Layout.{header_size, most_rows, most_lines, lines_base, line_base, header_of}
 use Rattle.layout.specs.declared.Header.{Header}
@@ -153,11 +152,11 @@ head_standing t h e f =
     leb-true (line_base h.rows h.lines) (length t)
     (and_right (eqb h.rows_at header_size && eqb h.lines_at (lines_base h.rows))
     (leb (line_base h.rows h.lines) (length t)) f) in
-    record { few-rows = few.0; few-lines = omega arith; stand = omega arith }
+    record { few_rows = few.0; few_lines = omega arith; stand = omega arith }
 
 -- the rows stand where their lines do
 pub standing_rows : {t : List ℤ} {v e : ℕ} → Standing t v 0 e → Standing t v 0 0
-standing_rows s = record { few-rows = s.few_rows; few-lines = omega arith; stand = omega arith }
+standing_rows s = record { few_rows = s.few_rows; few_lines = omega arith; stand = omega arith }
 
 -- ---- the test, clause after clause
 module _ (t : List ℤ) where

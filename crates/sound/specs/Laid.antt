@@ -1,6 +1,6 @@
 -- Lines laid one over the other: where what they make is low, each of them is plain; and what holds of all lines holds of a row's.
 use Rattle.std.specs.Prelude.{◌≡◌, Bool, true, List, ℕ, ◌+◌, ◌≤◌, ◌<◌, ℤ}
-use Rattle.std.proofs.Common.{sym, ◌∙◌, zero-add, arith, le-leb}
+use Rattle.std.proofs.Common.{zero-add, arith, le-leb}
 use Rattle.std.specs.Int.Bits.{bit_or, or_add_and}
 use Rattle.std.proofs.lemmas.Nat.{and_le_l, and_le_r}
 use Rattle.below.specs.rule.Below.{all_below}

@@ -1,17 +1,18 @@
 -- What follows from rule/Rows.antt, and what the code keeps.
-use Rattle.std.specs.Prelude.{◌≡◌, refl, ◌⊎◌, Bool, true, false, cond, not, ◌&&◌, ◌||◌, List, ℕ, suc, ◌+◌, ◌*◌, ◌^◌, ◌≤◌, ◌<◌, max, eqb, leb, ℤ, pos, length}
+use Rattle.std.specs.Prelude.{◌≡◌, refl, ◌⊎◌, Bool, true, false, cond, not, ◌&&◌, ◌||◌, List, ℕ, ◌+◌, ◌*◌, ◌^◌, ◌≤◌, ◌<◌, max, eqb}
+use Rattle.std.specs.Prelude.{leb, ℤ}
 use Rattle.std.proofs.Common.{sym, ap, ◌∙◌, le_trans, lt_of_le_of_lt}
 use Rattle.std.proofs.Math.Logic.{inl, inr, ⊎_elim}
 use native.Mathlib.Omega.{arith}
 use borrow.Author.Tests.{eqb-true, leb-true, eq-eqb}
 use Rattle.std.specs.Int.Signed.{le_z}
-use Rattle.below.specs.rule.Below.{◌and◌, max_below}
+use Rattle.below.specs.rule.Below.{max_below}
 use Rattle.below.specs.Below.{and_both, and_left, and_right, either_true, holds_not}
-use Rattle.below.specs.Below.{all_at_lem, any_some, sum_rises, sum_more, max_at, max_least}
+use Rattle.below.specs.Below.{all_at_lem, any_some, max_at, max_least}
 use Rattle.cells.specs.rule.Cell.{cell, eq_z}
 use Rattle.cells.specs.Cell.{same_true}
 use Rattle.cells.specs.Order.{le_join}
-use Rattle.layout.specs.rule.Layout.{most_rows, most_lines, line_size, line_base, header_of}
+use Rattle.layout.specs.rule.Layout.{line_size, line_base, header_of}
 use Rattle.layout.specs.rule.Row.{row_of, row_at, kind_of}
 use Rattle.layout.specs.Row.{kind_cases}
 use Rattle.layout.specs.declared.Columns.{Columns}
@@ -21,15 +22,15 @@ use Rattle.layout.specs.declared.Kind.{Kind}
 use Rattle.layout.specs.declared.Kind.TheVariants.{Single, Multiple, Quantity, Character, Logical}
 use Rattle.widths.specs.rule.Width.{need, fits_kind, lowest, highest, size_of, decimals_of}
 use Rattle.widths.specs.Width.{need_between, need_most, need_some, Valued, most_width}
-use Rattle.widths.specs.Width.{size_small, FewDecimals}
+use Rattle.widths.specs.Width.{size_small}
 use Rattle.fields.specs.rule.Legal.{legal, in_range, on_line, line_value}
-use Rattle.fields.specs.Facts.{LineFacts, PositionFacts, WidthFacts, SpreadFacts, QuantityFacts, KindFacts, RowFacts}
+use Rattle.fields.specs.Facts.{LineFacts, PositionFacts, WidthFacts, KindFacts, RowFacts}
 use Rattle.uses.specs.rule.Uses.{kind_good}
 use Rattle.sound.specs.rule.Sound.{value_at, range_good, values_fit, lines_good, values_good, range_width}
-use Rattle.sound.specs.rule.Sound.{widest, width_good, room_good, holds_width, widths_good, columns_good}
+use Rattle.sound.specs.rule.Sound.{widest, width_good, room_good, holds_width, widths_good}
 use Rattle.sound.specs.rule.Sound.{row_good, columns_of, finish_at, highest_finish, lines_before, good_at, rows_good, well_formed}
 use Rattle.sound.specs.Block.{Standing}
-use Rattle.sound.specs.Given.{ColumnFacts, column_facts, sub_some, few_decimals, head_standing, head_some}
+use Rattle.sound.specs.Given.{ColumnFacts, column_facts, sub_some, head_standing, head_some}
 use Rattle.sound.specs.rule.Rows.{rows_of, length_of}
 
 -- ---- a row's numbers, for any kind k in place of its own

@@ -97,7 +97,8 @@ module _ (k : Kind) (a b : ℤ) where
       (λ e.
       let f = and_right (le_z a b) (fits_kind k a && fits_kind k b) e in
       and_true (le_z (lowest k) a && le_z a b) (le_z b (highest k))
-      (and_true (le_z (lowest k) a) (le_z a b) (and_left (le_z (lowest k) a) (le_z a (highest k)) (and_left (fits_kind k a) (fits_kind k b) f))
+      (and_true (le_z (lowest k) a) (le_z a b) (and_left (le_z (lowest k) a) (le_z a (highest k))
+      (and_left (fits_kind k a) (fits_kind k b) f))
       (and_left (le_z a b) (fits_kind k a && fits_kind k b) e))
       (and_right (le_z (lowest k) b) (le_z b (highest k)) (and_right (fits_kind k a) (fits_kind k b) f)))
       (λ e.

@@ -1,6 +1,6 @@
 -- The least and the most of some numbers.
 use Rattle.std.specs.Prelude.{◌≡◌, refl, ◌⊎◌, Bool, true, false, ℕ, ◌+◌, ◌-◌, ◌≤◌, ◌<◌, ℤ, pos}
-use Rattle.std.proofs.Common.{sym, ap, ◌∙◌, ⊎_elim, eq-or-lt_of_le, arith}
+use Rattle.std.proofs.Common.{⊎_elim, eq-or-lt_of_le, arith}
 use Rattle.std.proofs.Math.Bool.{cond}
 use Rattle.std.specs.Int.Signed.{le_z}
 use Rattle.cells.specs.rule.Cell.{count_of}

@@ -102,7 +102,7 @@ module _ (t : List ℤ) (g : well_formed t ≡ true) where
         mark = count_sign (cell t 0) (omega arith);
         rows = count_sign (cell t 1) (omega arith);
         lines = count_sign (cell t 2) (omega arith);
-        least-length = count_sign (cell t 3) (omega (arith, length_low t g));
+        least_length = count_sign (cell t 3) (omega (arith, length_low t g));
         rows_at = count_sign (cell t 4) (omega arith);
         lines_at = count_sign (cell t 5) (omega arith);
       }
@@ -254,10 +254,10 @@ module _ (t : List ℤ) (g : well_formed t ≡ true) where
           before = count_sign (cell t (at + 12)) (omega (arith, before_few));
           lines = count_sign (cell t (at + 13)) (omega (arith, lines_few));
           name = count_sign (cell t (at + 14)) (omega (arith, text_few.0));
-          name-length = count_sign (cell t (at + 15)) (omega (arith, text_few.1));
+          name_length = count_sign (cell t (at + 15)) (omega (arith, text_few.1));
           label = count_sign (cell t (at + 16)) (omega (arith, text_few.2));
-          label-length = count_sign (cell t (at + 17)) (omega (arith, text_few.3));
-          use-code = count_sign (cell t (at + 18)) (omega (arith, uses.known));
+          label_length = count_sign (cell t (at + 17)) (omega (arith, text_few.3));
+          use_code = count_sign (cell t (at + 18)) (omega (arith, uses.known));
           filter = count_sign (cell t (at + 19)) (omega (arith, uses.earlier, l, (parts t g).standing.few_rows));
         }
 
@@ -308,7 +308,7 @@ module _ (t : List ℤ) (g : well_formed t ≡ true) where
             value = λ n. rw e at (own_value i l k in_row n);
             special = within (cell t (at + 1)) 1 (omega arith) (and_left s1 s2 q);
             text = within (cell t (at + 2)) 1048576 (omega arith) (and_right s1 s2 q);
-            text-length = within (cell t (at + 3)) 1048576 (omega arith) (and_right (s1 && s2) s3 p);
+            text_length = within (cell t (at + 3)) 1048576 (omega arith) (and_right (s1 && s2) s3 p);
           }
 
 pub formed_not_negative : (t : List ℤ) → well_formed t ≡ true → TableSigns t

@@ -16,7 +16,9 @@ back c = search rules
 
 pub value_of-value-requires : goal.value_of-value-requires
 unfolding EntryGood
-value_of-value-requires c = rw (back c) (rw c.in-Scaled.is at c.requires)
+value_of-value-requires c =
+    let p = rw c.in-Scaled.is at c.requires in
+    record { scaled = rw (back c) p.0; power = p.1 }
 
 pub returns-in-Absent : goal.returns-in-Absent
 unfolding cell_of presence_of float_of of_bits

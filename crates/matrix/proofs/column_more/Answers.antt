@@ -6,20 +6,20 @@ use Rattle.matrix.specs.Column.{there_here, there_on, column_on, column_off, col
 use Rattle.matrix.proofs.column_more.Goals as goal
 
 pub loop-left-init : goal.loop-left-init
-loop-left-init c = (c.requires.column_there.0, c.requires.column_there.1, refl)
+loop-left-init c = (c.requires.records_bound, c.requires.column_there, refl)
 
 pub overflow_add-flag : goal.overflow_add-flag
 overflow_add-flag c = let l = c.loop-left in let a = c.args in
     let h = there_here a.s.now a.step l.flag l.value l.left c.loop-left-test.true l.invariant.1 in
-    omega (arith, h.0, c.requires.0)
+    omega (arith, h.0, c.requires.step_bound)
 
 pub overflow_mul-value : goal.overflow_mul-value
-overflow_mul-value c = omega (arith, c.requires.0)
+overflow_mul-value c = omega (arith, c.requires.step_bound)
 
 pub overflow_add-value : goal.overflow_add-value
 overflow_add-value c = let l = c.loop-left in let a = c.args in
     let h = there_here a.s.now a.step l.flag l.value l.left c.loop-left-test.true l.invariant.1 in
-    omega (arith, h.1, c.requires.0)
+    omega (arith, h.1, c.requires.step_bound)
 
 pub bounds-s-f : goal.bounds-s-f
 bounds-s-f c = let l = c.loop-left in let a = c.args in

@@ -1,5 +1,4 @@
 use mathlib.Core.Path.{refl, sym, ap, ◌∙◌}
-use mathlib.Core.Bool.{true, false}
 use native.Mathlib.Omega.{arith}
 use Rattle.matrix.specs.Column.{there_here, there_on, column_on, column_off, column_none}
 use lib.Ieee.{Float, lt}

@@ -1,6 +1,6 @@
 -- "The mender takes each CR LF, LF CR, CR or LF as a boundary, pairs first" (document 02, C-19): a data file cut into pieces, from the
 -- left. Bytes behind the last boundary are a piece with none behind it; nothing there is no piece. 13 is CR, 10 is LF.
-use Rattle.std.specs.Prelude.{Bool, cond, List, [], ◌∷◌, ◌++◌, ℕ, zero, suc, ◌-◌, eqb}
+use Rattle.std.specs.Prelude.{cond, List, [], ◌∷◌, ◌++◌, ℕ, zero, suc, ◌-◌, eqb}
 use Rattle.cuts.specs.declared.Terminator.{Terminator}
 use Rattle.cuts.specs.rule.Cut.{no_ending, terminator_at}
 use Rattle.cuts.specs.rule.Records.{terminator_bytes}

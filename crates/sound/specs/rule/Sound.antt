@@ -78,7 +78,8 @@ texts_good c =
 
 unfoldable pub counts_good : Columns → Bool
 counts_good c =
-    type_known c and decimals_few c and range_flag c and point_known c and lacked_zero c and point_given c and shares_given c and values_given c
+    type_known c and decimals_few c and range_flag c and point_known c and lacked_zero c and point_given c and shares_given c
+    and values_given c
 
 unfoldable pub places_good : Columns → Bool
 places_good c = ident_good c and position_good c and subfields_good c and texts_good c
