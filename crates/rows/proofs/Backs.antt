@@ -9,4 +9,4 @@ use mir.Syntax.{w64}
 use mir.Val.{to_z, of_z}
 
 pub back : {z : ℤ} {n : ℕ} → mag z < 2 ^ 63 → z ≡ pos n → to_z w64 (of_z w64 z) ≡ pos n
-back h e = to_z-of_z (sfits_of h) ∙ e
+back h e = to_z-of_z (sfits_of {w = w64} h) ∙ e

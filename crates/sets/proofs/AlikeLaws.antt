@@ -13,7 +13,8 @@ use lib.IntN.{ℤ, pos, negsuc}
 use lib.ListN.{get_or}
 use lib.Signed.{le_z}
 use Rattle.below.specs.rule.Below.{all_below}
-use Rattle.below.specs.Below.{same_bool, holds_not, and_true, and_left, and_right, all_at_lem, all-of, any_some, any_holds, either_true}
+use Rattle.below.specs.Below.{same_bool, holds_not, and_true, and_left, and_right, all_at_lem, all_of as all_so, any_some, any_holds}
+use Rattle.below.specs.Below.{either_true}
 use Rattle.below.specs.Below.{or_true}
 use Rattle.cells.specs.rule.Cell.{count_of, eq_z}
 use Rattle.cells.specs.Order.{le_join}
@@ -23,7 +24,7 @@ use Rattle.fields.specs.rule.Legal.{line_value, in_range, on_line, legal}
 use Rattle.fields.specs.rule.Number.{all_spaces}
 use Rattle.fields.specs.rule.Field.{all_bits}
 use Rattle.fields.specs.rule.Row.{defined, bit_places}
-use Rattle.sets.specs.Alike.{one_of, allOf, all_at, FirstOf, LastOf}
+use Rattle.sets.specs.Alike.{one_of, all_of, all_at, FirstOf, LastOf}
 use Rattle.sets.proofs.MarkLaws.{counts}
 
 -- ---- which bytes
@@ -31,13 +32,13 @@ or_same : (b : Bool) → b ≡ (b || b)
 or_same true = refl
 or_same false = refl
 
-pub spaces_alike : (s : List ℕ) → all_spaces s ≡ allOf 32 32 s
-unfolding all_spaces allOf
+pub spaces_alike : (s : List ℕ) → all_spaces s ≡ all_of 32 32 s
+unfolding all_spaces all_of
 spaces_alike [] = refl
-spaces_alike (b ∷ s) = rw (spaces_alike s) (ap (λ (q : Bool). q && allOf 32 32 s) (or_same (eqb b 32)))
+spaces_alike (b ∷ s) = rw (spaces_alike s) (ap (λ (q : Bool). q && all_of 32 32 s) (or_same (eqb b 32)))
 
-pub bits_alike : (s : List ℕ) → all_bits s ≡ allOf 48 49 s
-unfolding all_bits allOf
+pub bits_alike : (s : List ℕ) → all_bits s ≡ all_of 48 49 s
+unfolding all_bits all_of
 bits_alike [] = refl
 bits_alike (b ∷ s) = rw (bits_alike s)
 
@@ -68,14 +69,14 @@ module _ (x y : ℕ) (r : List ℕ) (at : ℕ) where
   good c = one_of x y (get_or r (at + (c - 1)) 0)
 
   abbrev from : (ℤ → Bool) → ℕ → ℕ → Bool
-  from ok c n = allOf x y (pick r (bit_places at (defined ok c n)))
+  from ok c n = all_of x y (pick r (bit_places at (defined ok c n)))
 
   here : (ok : ℤ → Bool) (c n : ℕ) → ok (pos c) ≡ true → from ok c (suc n) ≡ (good c && from ok (suc c) n)
-  unfolding allOf bit_places defined
+  unfolding all_of bit_places defined
   here ok c n e = rw e
 
   not_here : (ok : ℤ → Bool) (c n : ℕ) → ok (pos c) ≡ false → from ok c (suc n) ≡ from ok (suc c) n
-  unfolding allOf bit_places defined
+  unfolding all_of bit_places defined
   not_here ok c n e = rw e
 
   rest : (ok : ℤ → Bool) (c n : ℕ) → from ok c (suc n) ≡ true → from ok (suc c) n ≡ true
@@ -96,7 +97,7 @@ module _ (x y : ℕ) (r : List ℕ) (at : ℕ) where
 
   -- each is: all are
   all_from : (ok : ℤ → Bool) (n c : ℕ) → ((d : ℕ) → c ≤ d → d < c + n → ok (pos d) ≡ true → good d ≡ true) → from ok c n ≡ true
-  unfolding allOf bit_places defined
+  unfolding all_of bit_places defined
   all_from ok zero c g = refl
   all_from ok (suc n) c g = go (all_from ok n (suc c) (λ d l h e. g d (omega arith) (omega arith) e)) (ok (pos c)) refl
     where
@@ -135,7 +136,7 @@ module _ (x y : ℕ) (r : List ℕ) (at : ℕ) where
           (λ e. all (λ z. on_line t v row z) (λ d p q g. any_some (λ k. eq_z (line_value t v row k) (pos d)) row.lines g
           (λ k h s. each (λ u. eq_z (line_value t v row k) u)
           (all_at_lem (λ k. all_at x y r at w (λ u. eq_z (line_value t v row k) u)) row.lines k h e) d p q s)))
-          (λ e. all-of (λ k. all_at x y r at w (λ u. eq_z (line_value t v row k) u)) row.lines
+          (λ e. all_so (λ k. all_at x y r at w (λ u. eq_z (line_value t v row k) u)) row.lines
           (λ k h. all (λ u. eq_z (line_value t v row k) u)
           (λ d p q s. each (λ z. on_line t v row z) e d p q (any_holds (λ k. eq_z (line_value t v row k) (pos d)) row.lines k h s))))
 
@@ -189,7 +190,7 @@ module _ (x y : ℕ) (r : List ℕ) (at : ℕ) where
             let o = leb-true d last (and_right (leb first d) (leb d last) b) in
             let i : first + (d - first) ≡ d = omega arith in
             ap good (sym i) ∙ sym (same_byte (d - first)) ∙ all_at_lem (λ k. byte k) (last + 1 - first) (d - first) (omega arith) e))
-            (λ e. all-of (λ k. byte k) (last + 1 - first) (λ k g. let i = f.low in let j = l.few in
+            (λ e. all_so (λ k. byte k) (last + 1 - first) (λ k g. let i = f.low in let j = l.few in
             same_byte k ∙ each (λ z. in_range row z) e (first + k) (omega arith) (omega arith)
             (within (first + k) (omega arith) (omega arith)
             ∙ and_true _ _ (le-leb first (first + k) (omega arith)) (le-leb (first + k) last (omega arith)))))
@@ -205,6 +206,6 @@ pub each_alike : (x y : ℕ) (r : List ℕ) (at w : ℕ) (ok : ℤ → Bool) →
 each_alike x y r at w ok h =
     same_bool _ _
     (any_alike x y r at w ok)
-    (λ e. all-of (λ k. one_of x y (get_or r (at + k) 0)) w (λ k l.
+    (λ e. all_so (λ k. one_of x y (get_or r (at + k) 0)) w (λ k l.
     let q : k + 1 - 1 ≡ k = omega arith in
     rw q at (each x y r at w ok e (k + 1) (omega arith) (omega arith) (h (k + 1) (omega arith) (omega arith)))))

@@ -63,7 +63,8 @@ module _ (ok : ℤ → Bool) (w : ℕ) (i : ℕ) (h : i < w) where
         → length (rest_set ok w r at i) ≡ cond (eqb (get_or r (at + i) 0) 49) 1 0 + length (rest_set ok w r at (i + 1))
     count_more e = go (eqb (get_or r (at + i) 0) 49) refl
       where
-        go : (b : Bool) → eqb (get_or r (at + i) 0) 49 ≡ b → length (rest_set ok w r at i) ≡ cond b 1 0 + length (rest_set ok w r at (i + 1))
+        go : (b : Bool) → eqb (get_or r (at + i) 0) 49 ≡ b → length (rest_set ok w r at i) ≡ cond b 1 0
+            + length (rest_set ok w r at (i + 1))
         go true q = let l = ap length (member e (eqb-true _ _ q)) in omega arith
         go false q = let l = ap length (no_member e (eqb-false _ _ q)) in omega arith
 

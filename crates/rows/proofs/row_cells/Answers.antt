@@ -5,13 +5,13 @@ use borrow.Author.Rules.{rules}
 use Rattle.rows.specs.rule.Cells.{row_cells}
 use Rattle.rows.proofs.Backs.{back}
 use Rattle.rows.proofs.row_cells.Goals as goal
-use Rattle.rows.proofs.row_cells.Goals.{After-struct_told-2-1}
+use Rattle.rows.proofs.row_cells.Goals.{After-cell_of-18}
 
 -- the two signed columns, where the struct is first looked into: further on `search` does not reach what is known of it
-from_back : (c : After-struct_told-2-1) → to_z w64 (of_z w64 c.args.c.from) ≡ c.args.c.from
+from_back : (c : After-cell_of-18) → to_z w64 (of_z w64 c.args.c.from) ≡ c.args.c.from
 from_back c = search rules
 
-to_back : (c : After-struct_told-2-1) → to_z w64 (of_z w64 c.args.c.to) ≡ c.args.c.to
+to_back : (c : After-cell_of-18) → to_z w64 (of_z w64 c.args.c.to) ≡ c.args.c.to
 to_back c = search rules
 
 pub returns : goal.returns
@@ -36,6 +36,6 @@ returns c =
       back c.cell_of-16.type_inv c.cell_of-16.ensures,
       back c.cell_of-17.type_inv c.cell_of-17.ensures,
       back c.cell_of-18.type_inv c.cell_of-18.ensures,
-      from_back c.before,
-      to_back c.before,
+      from_back c,
+      to_back c,
     )
