@@ -33,7 +33,7 @@ fn archive(folder: &Path) {
     let library = folder.join("libzarfolin.a");
     println!("cargo:rerun-if-changed={}", library.display());
     let Ok(bytes) = std::fs::read(&library) else {
-        println!("cargo:warning={} is not there: `rt staticlib zarfolin` builds it", library.display());
+        println!("cargo:warning={} is not there: `tools/build library` builds it", library.display());
         println!("cargo:rustc-cfg=zarfolin_no_archive");
         return;
     };

@@ -5,7 +5,8 @@ use Rattle.std.proofs.Common.{sym, ap, ◌∙◌, append_assoc, append-nil, arit
 use Rattle.std.specs.Float.{binary64}
 use Rattle.std.specs.Float.Ieee.{is_nan, to_bits, fits}
 use Rattle.quotient.specs.Limits as limits
-use Rattle.quotient.specs.Order.{value_real, value_fits}
+use Rattle.quotient.specs.Order.{value_fits}
+use Rattle.quotient.proofs.Order.{value_real}
 use Rattle.little.specs.rule.Bytes.{little_bytes, put_at}
 use Rattle.little.specs.Bytes.{bytes_count}
 use Rattle.little.specs.Runs.{put_next, put_either, length_put_at}

@@ -94,6 +94,7 @@ module _ (keys marks : List ℕ) (j : ℕ) (m : Marked keys j marks) where
           (get_or-set_same marks (place_of (get_or keys j 0)) 1 0 (omega (arith, l, place_below (get_or keys j 0))))
       go i false q c =
           ⊎_elim
-          (λ p. absurd (eqb-false (place_of (get_or keys i 0)) (place_of (get_or keys j 0)) q (ap (λ (k : ℕ). place_of (get_or keys k 0)) p)))
+          (λ p. absurd (eqb-false (place_of (get_or keys i 0)) (place_of (get_or keys j 0)) q
+          (ap (λ (k : ℕ). place_of (get_or keys k 0)) p)))
           (λ h. get_or-set_other marks (place_of (get_or keys j 0)) (place_of (get_or keys i 0)) 1 0 (eqb-false _ _ q) ∙ m.left i h)
           c

@@ -49,5 +49,9 @@ module _ (d : List ℕ) (n : ℕ) (h : n < length d) where
       ∷ decode_of Plain 0 (text d (n + 1))
   unfolding decode_of gives_of inside_of
   plain_sign c f q =
-      rw (text_kept d n h (not_dropped c (get_or d n 0) f), ne_eqb (get_or d n 0) 34 q, ne_eqb (get_or d n 0) 123 (not_brace c (get_or d n 0) f))
+      rw (
+        text_kept d n h (not_dropped c (get_or d n 0) f),
+        ne_eqb (get_or d n 0) 34 q,
+        ne_eqb (get_or d n 0) 123 (not_brace c (get_or d n 0) f),
+      )
       (ap (λ l. Byte (get_or d n 0) ∷ l) (plain_before (get_or d n 0) (text d (n + 1))))

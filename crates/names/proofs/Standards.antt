@@ -127,7 +127,8 @@ pub key_well : (s : List Sign) → well_named s ≡ true → 0 < key_of 0 0 s
 key_well s e = let k : key_of 0 0 s ≡ said 0 s = key_name s ∙ rw e in omega (arith, said_some s (named s e))
 
 -- equally many letters or digits that say one number agree
-said_same : (s t : List Sign) (k m : ℕ) → length s ≡ length t → letters_or_digits s ≡ true → letters_or_digits t ≡ true → said k s ≡ said m t
+said_same : (s t : List Sign) (k m : ℕ) → length s ≡ length t → letters_or_digits s ≡ true → letters_or_digits t ≡ true → said k s
+    ≡ said m t
     → (k ≡ m) × (agree s t ≡ true)
 unfolding said agree
 said_same [] [] k m h e f g = (g, refl)
@@ -223,30 +224,32 @@ any_same zero f g h = refl
 any_same (suc n) f g h = rw (any_same n f g (λ i l. h i (omega arith)), h n (omega arith))
 
 -- a row's number is wrong exactly where its name breaks the rule
-module _ (keys : List ℕ) (names : List (List Sign)) (told : (i : ℕ) → i < length names → get_or keys i 0 ≡ key_of 0 0 (name_at names i)) where
-  key_wrong : (j : ℕ) → j < length names → wrong_at keys j ≡ name_wrong names j
-  unfolding wrong_at name_wrong
-  key_wrong j h = by (well_named (name_at names j)) refl where
-    by : (x : Bool) → well_named (name_at names j) ≡ x → (eqb (get_or keys j 0) 0 || any_below j (λ i. eqb (get_or keys i 0) (get_or keys j 0)))
-        ≡ (not x || any_below j (λ i. agree (name_at names i) (name_at names j)))
-    by false e = rw (eq-eqb (get_or keys j 0) 0 (told j h ∙ (key_formed (name_at names j)).1 e))
-    by true e =
-        let n : (get_or keys j 0 ≡ 0 → ⊥) = λ z. let p = key_well (name_at names j) e in let q = told j h in omega arith in
-        rw (ne_eqb (get_or keys j 0) 0 n)
-        (any_same j (λ i. eqb (get_or keys i 0) (get_or keys j 0)) (λ i. agree (name_at names i) (name_at names j)) same) where
-          same : (i : ℕ) → i < j → eqb (get_or keys i 0) (get_or keys j 0) ≡ agree (name_at names i) (name_at names j)
-          same i l =
-              let a = key_agree (name_at names i) (name_at names j) e in
-              same_bool (eqb (get_or keys i 0) (get_or keys j 0)) (agree (name_at names i) (name_at names j))
-              (λ q. a.0 (sym (told i (omega arith)) ∙ eqb-true (get_or keys i 0) (get_or keys j 0) q ∙ told j h))
-              (λ q. eq-eqb (get_or keys i 0) (get_or keys j 0) (told i (omega arith) ∙ a.1 q ∙ sym (told j h)))
+module _ (keys : List ℕ) (names : List (List Sign)) (told : (i : ℕ) → i < length names → get_or keys i 0 ≡ key_of 0 0 (name_at names i))
+  where
+    key_wrong : (j : ℕ) → j < length names → wrong_at keys j ≡ name_wrong names j
+    unfolding wrong_at name_wrong
+    key_wrong j h = by (well_named (name_at names j)) refl where
+      by : (x : Bool) → well_named (name_at names j) ≡ x
+          → (eqb (get_or keys j 0) 0 || any_below j (λ i. eqb (get_or keys i 0) (get_or keys j 0)))
+          ≡ (not x || any_below j (λ i. agree (name_at names i) (name_at names j)))
+      by false e = rw (eq-eqb (get_or keys j 0) 0 (told j h ∙ (key_formed (name_at names j)).1 e))
+      by true e =
+          let n : (get_or keys j 0 ≡ 0 → ⊥) = λ z. let p = key_well (name_at names j) e in let q = told j h in omega arith in
+          rw (ne_eqb (get_or keys j 0) 0 n)
+          (any_same j (λ i. eqb (get_or keys i 0) (get_or keys j 0)) (λ i. agree (name_at names i) (name_at names j)) same) where
+            same : (i : ℕ) → i < j → eqb (get_or keys i 0) (get_or keys j 0) ≡ agree (name_at names i) (name_at names j)
+            same i l =
+                let a = key_agree (name_at names i) (name_at names j) e in
+                same_bool (eqb (get_or keys i 0) (get_or keys j 0)) (agree (name_at names i) (name_at names j))
+                (λ q. a.0 (sym (told i (omega arith)) ∙ eqb-true (get_or keys i 0) (get_or keys j 0) q ∙ told j h))
+                (λ q. eq-eqb (get_or keys i 0) (get_or keys j 0) (told i (omega arith) ∙ a.1 q ∙ sym (told j h)))
 
-  fault_from_lem : (f k : ℕ) → k + f ≡ length names → fault_from keys f k ≡ name_fault_from names f k
-  unfolding fault_from name_fault_from
-  fault_from_lem zero k e = refl
-  fault_from_lem (suc f) k e = rw (key_wrong k (omega arith), fault_from_lem f (k + 1) (omega arith))
+    fault_from_lem : (f k : ℕ) → k + f ≡ length names → fault_from keys f k ≡ name_fault_from names f k
+    unfolding fault_from name_fault_from
+    fault_from_lem zero k e = refl
+    fault_from_lem (suc f) k e = rw (key_wrong k (omega arith), fault_from_lem f (k + 1) (omega arith))
 
-  -- the first wrong number belongs to the first name that breaks the rule
-  pub keys_fault : fault_of keys (length names) ≡ name_fault names
-  unfolding fault_of name_fault
-  keys_fault = fault_from_lem (length names) 0 (omega arith)
+    -- the first wrong number belongs to the first name that breaks the rule
+    pub keys_fault : fault_of keys (length names) ≡ name_fault names
+    unfolding fault_of name_fault
+    keys_fault = fault_from_lem (length names) 0 (omega arith)

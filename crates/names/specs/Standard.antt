@@ -36,11 +36,13 @@ case_aside = refl
 -- of `AB`, `a1`, `aB` and `1a` the third is the first at fault; of `AB` and `a1` none is
 third_at_fault : name_fault ((Byte 65 ∷ Byte 66 ∷ []) ∷ (Byte 97 ∷ Byte 49 ∷ []) ∷ (Byte 97 ∷ Byte 66 ∷ []) ∷ (Byte 49 ∷ Byte 97 ∷ []) ∷ [])
     ≡ 2
-unfolding name_fault name_fault_from name_wrong any_below agree upper_of well_named letters_or_digits begins_with_letter is_letter is_digit class_of
+unfolding name_fault name_fault_from name_wrong any_below agree upper_of well_named letters_or_digits begins_with_letter is_letter is_digit
+    class_of
 third_at_fault = refl
 
 none_at_fault : name_fault ((Byte 65 ∷ Byte 66 ∷ []) ∷ (Byte 97 ∷ Byte 49 ∷ []) ∷ []) ≡ 2
-unfolding name_fault name_fault_from name_wrong any_below agree upper_of well_named letters_or_digits begins_with_letter is_letter is_digit class_of
+unfolding name_fault name_fault_from name_wrong any_below agree upper_of well_named letters_or_digits begins_with_letter is_letter is_digit
+    class_of
 none_at_fault = refl
 
 -- a name with a break in it is none, and neither is one with byte 10 in its place

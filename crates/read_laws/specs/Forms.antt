@@ -124,7 +124,7 @@ code_by s (b ∷ x) z u e = go (digits_only (b ∷ x)) refl e
       whole = b ∷ x;
       size = decimal (b ∷ x);
       made = gap_rest s ∙ rw u;
-      blank-gap = gap_blank s;
+      blank_gap = gap_blank s;
       some = omega arith;
       said = digits_read 0 (b ∷ x) d;
       is = cc;
@@ -330,7 +330,7 @@ module _ (f : Format) (facts : FormatFacts f) where
     negative = neg;
     size = a.size;
     made = gap_rest s ∙ ap (λ (r : List ℕ). gap_of s ++ r) (u ∙ ap (λ (r : List ℕ). sg ++ r) a.made);
-    blank-gap = gap_blank s;
+    blank_gap = gap_blank s;
     signed = g;
     some = a.some;
     tailed = a.tailed;

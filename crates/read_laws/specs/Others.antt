@@ -50,8 +50,8 @@ text_split (b ∷ s) e = go (all_spaces s) refl (λ q. text_split s q)
       gap = s;
       ends = more_left b s e ∙ rw (unended_blank s a);
       made = rw (more_left b s e, unended_blank s a);
-      no-space = head_not b s e a;
-      blank-gap = all_spaces_lem s a;
+      no_space = head_not b s e a;
+      blank_gap = all_spaces_lem s a;
     }
     go false a ih =
         let f = ih a in
@@ -61,8 +61,8 @@ text_split (b ∷ s) e = go (all_spaces s) refl (λ q. text_split s q)
           gap = f.gap;
           ends = more_left b s e ∙ ap (λ (l : List ℕ). b ∷ l) f.ends;
           made = ap (λ (l : List ℕ). b ∷ l) f.made ∙ rw (more_left b s e);
-          no-space = f.no_space;
-          blank-gap = f.blank_gap;
+          no_space = f.no_space;
+          blank_gap = f.blank_gap;
         }
 
 one_not : (b : ℕ) (s : List ℕ) → (b ≡ 32 → ⊥) → all_spaces (b ∷ s) ≡ false

@@ -67,7 +67,7 @@ module _ (t : List ℤ) (good : well_formed t ≡ true) (bytes : List ℕ) where
   by_rows l q Nothing r v = record {
     long = l;
     plain = λ p h. ltb-false _ _ (first_nowhere (low_at bytes) (length bytes) 0 q p (omega arith) (omega arith));
-    legal-rows = λ i h. first_nowhere (bad_row t (rows_of t) bytes) (rows_of t) 0 r i (omega arith) (omega arith);
+    legal_rows = λ i h. first_nowhere (bad_row t (rows_of t) bytes) (rows_of t) 0 r i (omega arith) (omega arith);
   }
 
   by_bytes : length_of t ≤ length bytes → (x : Found) → first_from (low_at bytes) 0 (length bytes) ≡ x

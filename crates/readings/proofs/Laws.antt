@@ -178,7 +178,8 @@ set_said_lem p list (some {ms}) = go (leb (length ms) (length list))
     go false = refl
 set_said_lem p list bad = refl
 
-pub bits_answered : (cs s : List ℕ) (list list' : List ℤ) (a : Answer) (r : SetRead) → a ≡ set_said r → ReadSet (bits_field cs s) list list' r
+pub bits_answered : (cs s : List ℕ) (list list' : List ℤ) (a : Answer) (r : SetRead) → a ≡ set_said r
+    → ReadSet (bits_field cs s) list list' r
     → SetAnswered (bits_field cs s) list list' a
 bits_answered cs s list list' a r e q = record {
   answer = λ p. e ∙ ap set_said q.answer

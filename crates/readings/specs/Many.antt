@@ -1,6 +1,7 @@
 -- Many records of one length, one behind the other: where each stands, and that a row is legal in all of them.
 use Rattle.std.specs.Prelude.{◌≡◌, refl, Bool, true, false, cond, List, ℕ, ◌+◌, ◌-◌, ◌*◌, ◌≤◌, ◌<◌, ℤ, length, get_or, take, drop}
-use Rattle.std.proofs.Common.{sym, ap, ◌∙◌, zero-mul, suc-mul, add-one, arith, below_more, length-take, length-drop, get_or-take, get_or-drop}
+use Rattle.std.proofs.Common.{sym, ap, ◌∙◌, zero-mul, suc-mul, add-one, arith, below_more, length-take, length-drop, get_or-take}
+use Rattle.std.proofs.Common.{get_or-drop}
 use Rattle.layout.specs.declared.Row.{Row}
 use Rattle.fields.specs.rule.Row.{reading_of}
 use Rattle.sets.specs.rule.Sets.{is_illegal}

@@ -1,5 +1,6 @@
 -- Good and bad tables, decided by computation in the definitions.
-use Rattle.std.specs.Prelude.{◌≡◌, refl, Bool, true, false, cond, ◌&&◌, List, [], ◌∷◌, ◌++◌, ℕ, ◌+◌, ◌*◌, ◌-◌, eqb, leb, ℤ, pos, negsuc, length, set, take}
+use Rattle.std.specs.Prelude.{◌≡◌, refl, Bool, true, false, cond, ◌&&◌, List, [], ◌∷◌, ◌++◌, ℕ, ◌+◌, ◌*◌, ◌-◌, eqb, leb, ℤ, pos, negsuc}
+use Rattle.std.specs.Prelude.{length, set, take}
 use Rattle.ascii.specs.rule.Tens.{count_from, digits_of}
 use Rattle.below.specs.rule.Below.{◌and◌, all_below, sum_below, max_below}
 use Rattle.cells.specs.rule.Cell.{count_of, signed_of, number_of, eq_z}
@@ -8,11 +9,13 @@ use Rattle.layout.specs.rule.Row.{row_of, row_at, kind_of, spread_of}
 use Rattle.layout.specs.declared.Columns.{Columns}
 use Rattle.layout.specs.declared.Row.{Row}
 use Rattle.rows.specs.rule.Cells.{row_cells, header_cells}
-use Rattle.uses.specs.rule.Uses.{rows_unused, use_known, serial_typed, weight_typed, unfiltered, filter_good, use_good, is_use, uses_of, uses_good}
+use Rattle.uses.specs.rule.Uses.{rows_unused, use_known, serial_typed, weight_typed, unfiltered, filter_good, use_good, is_use, uses_of}
+use Rattle.uses.specs.rule.Uses.{uses_good}
 use Rattle.uses.specs.rule.Uses.{specials_none, xml_good, kind_good}
 use Rattle.widths.specs.rule.Width.{need, tail_of, least_whole, whole_digits, quantity_width, most_size, lowest, highest}
 use Rattle.strides.specs.rule.Stride.{number_new, all_differ}
-use Rattle.sound.specs.rule.Sound.{head_counts, head_sums, type_known, decimals_few, range_flag, point_known, lacked_zero, point_given, shares_given}
+use Rattle.sound.specs.rule.Sound.{head_counts, head_sums, type_known, decimals_few, range_flag, point_known, lacked_zero, point_given}
+use Rattle.sound.specs.rule.Sound.{shares_given}
 use Rattle.sound.specs.rule.Sound.{values_given}
 use Rattle.sound.specs.rule.Sound.{ident_good, position_good, subfields_good, texts_good, range_lacked, range_good, lines_plain, values_fit}
 use Rattle.sound.specs.rule.Sound.{value_at, range_width, widest, width_good, room_good, lines_good, values_good, widths_good, counts_good}
@@ -273,11 +276,13 @@ failing t =
     (unless (cond (eqb (header_of t).mark mark) (rows_unused t v) true) uses_none (xml_failing t []))))))))))))))))))))))))))
 
 -- nothing fails on the sound tables; numbers beyond one are not looked at; the empty table is refused
-pub decided : (well_formed good ≡ true) × (failing good ≡ []) × (well_formed (good ++ negsuc 6 ∷ pos 3 ∷ []) ≡ true) × (well_formed [] ≡ false)
+pub decided : (well_formed good ≡ true) × (failing good ≡ []) × (well_formed (good ++ negsuc 6 ∷ pos 3 ∷ []) ≡ true)
+    × (well_formed [] ≡ false)
     × (well_formed share ≡ true) × (failing share ≡ []) × (well_formed xml ≡ true) × (failing xml ≡ [])
 unfolding well_formed rows_good row_good columns_good counts_good places_good values_good lines_good widths_good lines_plain values_fit
     all_differ number_new range_width widest width_good room_good idents_differ ◌and◌ all_below sum_below max_below count_of signed_of eq_z
-    header_of columns_at line_at row_of kind_of spread_of need tail_of least_whole whole_digits quantity_width most_size lowest highest digits_of
+    header_of columns_at line_at row_of kind_of spread_of need tail_of least_whole whole_digits quantity_width most_size lowest highest
+    digits_of
     count_from number_of row_cells header_cells kind_good rows_unused xml_good uses_good use_good filter_good is_use specials_none
 decided = (refl, refl, refl, refl, refl, refl, refl, refl)
 
@@ -421,6 +426,7 @@ alone (b ∷ bs) = (b.clause ∷ []) ∷ alone bs
 pub each_breaks_one : (refused broken ≡ never broken) × (failings broken ≡ alone broken)
 unfolding well_formed rows_good row_good columns_good counts_good places_good values_good lines_good widths_good lines_plain values_fit
     all_differ number_new range_width widest width_good room_good idents_differ ◌and◌ all_below sum_below max_below count_of signed_of eq_z
-    header_of columns_at line_at row_of kind_of spread_of need tail_of least_whole whole_digits quantity_width most_size lowest highest digits_of
+    header_of columns_at line_at row_of kind_of spread_of need tail_of least_whole whole_digits quantity_width most_size lowest highest
+    digits_of
     count_from number_of row_cells header_cells kind_good rows_unused xml_good uses_good use_good filter_good is_use specials_none
 each_breaks_one = (refl, refl)

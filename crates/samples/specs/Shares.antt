@@ -12,11 +12,12 @@ use Rattle.layout.specs.declared.Row.{Row}
 use Rattle.widths.specs.rule.Width.{need, tail_of, least_whole, whole_digits, quantity_width, most_size, lowest, highest}
 use Rattle.strides.specs.rule.Stride.{all_differ, number_new}
 use Rattle.fields.specs.rule.Legal.{in_range, on_line, legal}
-use Rattle.fields.specs.rule.Number.{all_spaces, unspaced, digits_only, decimal_from, says, wrong, amount_form, amount_size, amount_of}
+use Rattle.fields.specs.rule.Number.{all_spaces, unspaced, digits_only, decimal_from, says, amount_form, amount_size, amount_of}
 use Rattle.fields.specs.rule.Number.{quantity_after, quantity_of, padded, amount_bytes, quantity_bytes}
 use Rattle.fields.specs.rule.Field.{number, missing, holds, illegal, number_field, quantity_says}
 use Rattle.fields.specs.rule.Row.{field_by, field_of, bytes_by, bytes_of}
-use Rattle.sound.specs.rule.Sound.{lines_plain, values_fit, range_width, widest, width_good, room_good, lines_good, values_good, widths_good}
+use Rattle.sound.specs.rule.Sound.{lines_plain, values_fit, range_width, widest, width_good, room_good, lines_good, values_good}
+use Rattle.sound.specs.rule.Sound.{widths_good}
 use Rattle.rows.specs.rule.Cells.{row_cells, header_cells}
 use Rattle.uses.specs.rule.Uses.{rows_unused, xml_good, uses_good, use_good, filter_good, is_use, specials_none, kind_good}
 use Rattle.sound.specs.rule.Sound.{counts_good, places_good, columns_good, row_good, idents_differ, rows_good, well_formed}
@@ -84,10 +85,14 @@ pub shares :
     × (quantity_width hundredths (pos 99) ≡ 3)
     × (quantity_width hundredths (negsuc 98) ≡ 4)
 unfolding well_formed rows_good row_good columns_good counts_good places_good values_good lines_good widths_good lines_plain values_fit
-    all_differ number_new range_width widest width_good room_good idents_differ ◌and◌ all_below any_below sum_below max_below count_of signed_of eq_z
-    header_of columns_at line_at row_of kind_of spread_of need tail_of least_whole whole_digits quantity_width most_size lowest highest digits_of
-    count_from number_of in_range on_line legal all_spaces unspaced digits_only decimal_from amount_form amount_size amount_of quantity_after
-    quantity_of padded amount_bytes quantity_bytes number_field quantity_says field_by bytes_by row_cells header_cells kind_good rows_unused xml_good
+    all_differ number_new range_width widest width_good room_good idents_differ ◌and◌ all_below any_below sum_below max_below count_of
+    signed_of eq_z
+    header_of columns_at line_at row_of kind_of spread_of need tail_of least_whole whole_digits quantity_width most_size lowest highest
+    digits_of
+    count_from number_of in_range on_line legal all_spaces unspaced digits_only decimal_from amount_form amount_size amount_of
+    quantity_after
+    quantity_of padded amount_bytes quantity_bytes number_field quantity_says field_by bytes_by row_cells header_cells kind_good rows_unused
+    xml_good
     uses_good use_good filter_good is_use specials_none
 shares = (
   refl,

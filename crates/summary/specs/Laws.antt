@@ -11,7 +11,7 @@ use Rattle.std.specs.Int.Signed.{lt_z}
 use Rattle.std.specs.Float.Ieee.{lt}
 use Rattle.quotient.specs.rule.Value.{value_of}
 use Rattle.quotient.specs.Limits.{Scaled, Power}
-use Rattle.quotient.specs.Order.{value_order}
+use Rattle.quotient.proofs.Order.{value_order}
 use Rattle.summary.specs.declared.Summary.{Summary}
 use Rattle.summary.specs.rule.Summary.{none_summed, lower_of, higher_of, extend_of, extended_by, summary_of}
 

@@ -1,5 +1,5 @@
 -- What follows from rule/Signs.antt, and what the code keeps.
-use Rattle.std.specs.Prelude.{◌≡◌, ◌⊎◌, Bool, ◌&&◌, ◌||◌, List, ℤ, pos, negsuc, length}
+use Rattle.std.specs.Prelude.{◌≡◌, Bool, ◌&&◌, ◌||◌, List, ℤ, pos, negsuc, length}
 use Rattle.std.proofs.Math.Path.{refl, subst}
 use Rattle.std.proofs.Math.Logic.{⊎_elim}
 use Rattle.std.proofs.Math.Bool.{true, false, beq}
@@ -10,7 +10,7 @@ use native.Mathlib.Omega.{arith}
 use borrow.Author.Tests.{eqb-true, eq-eqb, ne_eqb, leb-true, le-leb, eqb-false}
 use Rattle.std.proofs.Math.Dec.{eqb, leb}
 use Rattle.std.specs.Int.Signed.{le_z}
-use Rattle.below.specs.rule.Below.{◌and◌, sum_below}
+use Rattle.below.specs.rule.Below.{sum_below}
 use Rattle.below.specs.Below.{and_both, and_left, and_right, either_true, holds_not, all_at_lem, lt_or_le}
 use Rattle.cells.specs.rule.Cell.{cell, count_of, eq_z}
 use Rattle.cells.specs.Cell.{same_true}
@@ -31,7 +31,8 @@ use Rattle.sound.specs.rule.Sound.{values_good}
 use Rattle.sound.specs.rule.Sound.{mark_known, rows_good, well_formed}
 use Rattle.sound.specs.rule.Rows.{rows_of}
 use Rattle.sound.specs.Given.{ColumnFacts, column_facts}
-use Rattle.uses.specs.Uses.{UseFew, use_few}
+use Rattle.uses.specs.Uses.{UseFew}
+use Rattle.uses.proofs.Uses.{use_few}
 use Rattle.sound.specs.Rows.{FitAs, good_fits, line_value_lem, parts, row_facts, length_low}
 use Rattle.table_laws.specs.rule.Signs.{NotNegative, HeaderSigns, RowSigns, LineSigns, TableSigns}
 
@@ -102,7 +103,7 @@ module _ (t : List ℤ) (g : well_formed t ≡ true) where
         mark = count_sign (cell t 0) (omega arith);
         rows = count_sign (cell t 1) (omega arith);
         lines = count_sign (cell t 2) (omega arith);
-        least-length = count_sign (cell t 3) (omega (arith, length_low t g));
+        least_length = count_sign (cell t 3) (omega (arith, length_low t g));
         rows_at = count_sign (cell t 4) (omega arith);
         lines_at = count_sign (cell t 5) (omega arith);
       }
@@ -254,10 +255,10 @@ module _ (t : List ℤ) (g : well_formed t ≡ true) where
           before = count_sign (cell t (at + 12)) (omega (arith, before_few));
           lines = count_sign (cell t (at + 13)) (omega (arith, lines_few));
           name = count_sign (cell t (at + 14)) (omega (arith, text_few.0));
-          name-length = count_sign (cell t (at + 15)) (omega (arith, text_few.1));
+          name_length = count_sign (cell t (at + 15)) (omega (arith, text_few.1));
           label = count_sign (cell t (at + 16)) (omega (arith, text_few.2));
-          label-length = count_sign (cell t (at + 17)) (omega (arith, text_few.3));
-          use-code = count_sign (cell t (at + 18)) (omega (arith, uses.known));
+          label_length = count_sign (cell t (at + 17)) (omega (arith, text_few.3));
+          use_code = count_sign (cell t (at + 18)) (omega (arith, uses.known));
           filter = count_sign (cell t (at + 19)) (omega (arith, uses.earlier, l, (parts t g).standing.few_rows));
         }
 
@@ -308,7 +309,7 @@ module _ (t : List ℤ) (g : well_formed t ≡ true) where
             value = λ n. rw e at (own_value i l k in_row n);
             special = within (cell t (at + 1)) 1 (omega arith) (and_left s1 s2 q);
             text = within (cell t (at + 2)) 1048576 (omega arith) (and_right s1 s2 q);
-            text-length = within (cell t (at + 3)) 1048576 (omega arith) (and_right (s1 && s2) s3 p);
+            text_length = within (cell t (at + 3)) 1048576 (omega arith) (and_right (s1 && s2) s3 p);
           }
 
 pub formed_not_negative : (t : List ℤ) → well_formed t ≡ true → TableSigns t

@@ -77,7 +77,11 @@ module _ (d : List ℕ) (i : ℕ) (h : i < length d) where
     by : (q : Bool) → ltb (get_or d i 0) 32 ≡ q → measure_from Plain c (text d i) ≡ measure_from Plain (c + cond q 0 1) (text d (i + 1))
     by true f = let z : c ≡ c + 0 = omega arith in
         rw (← z) (ap (measure_from Plain c) (text_dropped d i h (low_class (get_or d i 0) (ltb-true _ _ f))))
-    by false f = rw (text_kept d i h (kept_byte (get_or d i 0) (ltb-false _ _ f)), plain_go (get_or d i 0) i e, plain_gives 0 (get_or d i 0) e)
+    by false f = rw (
+      text_kept d i h (kept_byte (get_or d i 0) (ltb-false _ _ f)),
+      plain_go (get_or d i 0) i e,
+      plain_gives 0 (get_or d i 0) e,
+    )
 
 -- ---- steps of the measuring loop
 module _ (s : Inside) (c : ℕ) {t : Text} where
@@ -102,7 +106,8 @@ module _ (s : Inside) (c : ℕ) {t : Text} where
 pub paced_on : {k j n m i size : ℕ} {t u : Inside} → On k n t ≡ On j m u → i < n → n ≤ size → k ≤ 1 → (i < m) × (m ≤ size) × (j ≤ 1)
 paced_on {k} {j} {n} {m} e h l f = let p : k ≡ j = cc in let q : n ≡ m = cc in (omega arith, omega arith, omega arith)
 
-pub paced : {d : List ℕ} {s : Inside} {n : ℕ} {r q : Pace} → Paced d s n r → r ≡ q → (c : ℕ) → measure_from s c (text d n) ≡ paced_of d c s q
+pub paced : {d : List ℕ} {s : Inside} {n : ℕ} {r q : Pace} → Paced d s n r → r ≡ q → (c : ℕ) → measure_from s c (text d n)
+    ≡ paced_of d c s q
 paced {d} {s} p e c = p.paces c ∙ ap (paced_of d c s) e
 
 -- ---- the whole
@@ -118,7 +123,8 @@ gives_count (Low o) a b = refl
 
 -- the extent of bytes that start at p, read on from s behind a, where c signs were said before: a quote behind them closes them, or not
 abbrev extent_of : List ℕ → ℕ → Inside → ℕ → ℕ → Extent
-extent_of l p s a c = cond (closes_at (p + length l + 1) (string_of s (kept p (l ++ 34 ∷ [])))) (Signs (c + length (decode_of s a (kept p l))))
+extent_of l p s a c = cond (closes_at (p + length l + 1) (string_of s (kept p (l ++ 34 ∷ []))))
+    (Signs (c + length (decode_of s a (kept p l))))
     NotText
 
 over : (p : ℕ) (s : Inside) (a c : ℕ) → ended_in s c ≡ extent_of [] p s a c

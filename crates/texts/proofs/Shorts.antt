@@ -83,7 +83,8 @@ module _ (d : List ℕ) where
     unfolding decode_of gives_of inside_of measure_from completes
     pair_on = record {
       hex = f;
-      split = rw (second, g) (ap (λ r. Byte (hex_pair (get_or d n 0) (get_or d (n + 1) 0)) ∷ r) (idle_pair (get_or d (n + 1) 0) (text d (n + 2))));
+      split = rw (second, g) (ap (λ r. Byte (hex_pair (get_or d n 0) (get_or d (n + 1) 0)) ∷ r)
+          (idle_pair (get_or d (n + 1) 0) (text d (n + 2))));
       counts = λ c. rw (second, g);
       ahead = omega arith;
       within = omega arith;
@@ -92,7 +93,8 @@ module _ (d : List ℕ) where
       idle_pair y (stop p) = refl
       idle_pair y (sign p b t) = refl
 
-    pair_shut : n + 3 ≤ length d → get_or d (n + 2) 0 ≡ 125 → PairSays d o n (Byte (hex_pair (get_or d n 0) (get_or d (n + 1) 0))) (n + 3) Plain
+    pair_shut : n + 3 ≤ length d → get_or d (n + 2) 0 ≡ 125
+        → PairSays d o n (Byte (hex_pair (get_or d n 0) (get_or d (n + 1) 0))) (n + 3) Plain
     unfolding decode_of gives_of inside_of measure_from completes
     pair_shut l e =
         let y : n + 2 + 1 ≡ n + 3 = omega arith in

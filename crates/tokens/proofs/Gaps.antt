@@ -83,7 +83,8 @@ gap_blank d n h l = by (ltb (get_or d n 0) 32) refl where
   by false q = let g = ltb-false (get_or d n 0) 32 q in gap_again d n (space_on d n h (omega arith))
 
 -- two of them, and what follows
-pub gap_two : (d : List ℕ) (n m : ℕ) → n + 1 < length d → get_or d n 0 ≤ 32 → get_or d (n + 1) 0 ≤ 32 → gap_at d (n + 2) ≡ gap_at d m → gap_at d n
+pub gap_two : (d : List ℕ) (n m : ℕ) → n + 1 < length d → get_or d n 0 ≤ 32 → get_or d (n + 1) 0 ≤ 32 → gap_at d (n + 2) ≡ gap_at d m
+    → gap_at d n
     ≡ gap_at d m
 gap_two d n m h a b e =
     let q : n + 1 + 1 ≡ n + 2 = omega arith in

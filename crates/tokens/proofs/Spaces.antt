@@ -13,10 +13,12 @@ use Rattle.tokens.specs.Spaces.{OverSpaces, bytes_clear}
 use Rattle.tokens.proofs.Gaps.{gap_blank}
 
 -- ---- bits that are 0, one by one and eight by eight
-bit_clear : (k n : ℕ) → 0 < count_trailing_zeros (suc k) n → (n % 2 ≡ 0) × (count_trailing_zeros (suc k) n ≡ suc (count_trailing_zeros k (n / 2)))
+bit_clear : (k n : ℕ) → 0 < count_trailing_zeros (suc k) n → (n % 2 ≡ 0)
+    × (count_trailing_zeros (suc k) n ≡ suc (count_trailing_zeros k (n / 2)))
 unfolding count_trailing_zeros
 bit_clear k n = by (n % 2) where
-  by : (m : ℕ) → 0 < under m (count_trailing_zeros k (n / 2)) → (m ≡ 0) × (under m (count_trailing_zeros k (n / 2)) ≡ suc (count_trailing_zeros k (n / 2)))
+  by : (m : ℕ) → 0 < under m (count_trailing_zeros k (n / 2)) → (m ≡ 0)
+      × (under m (count_trailing_zeros k (n / 2)) ≡ suc (count_trailing_zeros k (n / 2)))
   by zero h = (refl, refl)
   by (suc m) h = absurd (omega arith)
 

@@ -27,13 +27,15 @@ module _ (d : List ℕ) (e : ℕ) where
       ++ digits_to e (text d (run_of is_digit n t))
   unfolding digits_to run_bytes run_of
   digits_split at_stop q h = ap (digits_to e) q
-  digits_split {n} (at_sign {p = p} {b = b} {u = u} g w i r) q h = by (is_digit b) refl (run_ahead d is_digit r) (digits_split r i) q h where
-    by : (x : Bool) → is_digit b ≡ x → p + 1 ≤ run_of is_digit (p + 1) u
-        → (run_of is_digit (p + 1) u ≤ e → digits_to e u ≡ run_bytes is_digit u ++ digits_to e (text d (run_of is_digit (p + 1) u))) → sign p b u
-        ≡ text d n → cond x (run_of is_digit (p + 1) u) n ≤ e → cond (leb e p) [] (cond (is_digit b) (b ∷ digits_to e u) (digits_to e u))
-        ≡ cond x (b ∷ run_bytes is_digit u) [] ++ digits_to e (text d (cond x (run_of is_digit (p + 1) u) n))
-    by true f k ih q h = rw (lt-leb e p (omega arith), f, ih h)
-    by false f k ih q h = ap (digits_to e) q
+  digits_split {n} (at_sign {p = p} {b = b} {u = u} g w i r) q h = by (is_digit b) refl (run_ahead d is_digit r) (digits_split r i) q h
+    where
+      by : (x : Bool) → is_digit b ≡ x → p + 1 ≤ run_of is_digit (p + 1) u
+          → (run_of is_digit (p + 1) u ≤ e → digits_to e u ≡ run_bytes is_digit u ++ digits_to e (text d (run_of is_digit (p + 1) u)))
+          → sign p b u
+          ≡ text d n → cond x (run_of is_digit (p + 1) u) n ≤ e → cond (leb e p) [] (cond (is_digit b) (b ∷ digits_to e u) (digits_to e u))
+          ≡ cond x (b ∷ run_bytes is_digit u) [] ++ digits_to e (text d (cond x (run_of is_digit (p + 1) u) n))
+      by true f k ih q h = rw (lt-leb e p (omega arith), f, ih h)
+      by false f k ih q h = ap (digits_to e) q
 
   -- no digit stands before e from e on
   none_left : {t : Text} → From d e t → digits_to e t ≡ []

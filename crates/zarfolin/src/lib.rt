@@ -36,7 +36,7 @@ ghost use Rattle.zarfolin.specs.rule.Normal.{NormalTold};
 ghost use Rattle.mends.specs.rule.Mend as mends;
 ghost use Rattle.zarfolin.specs.rule.Mend.{mend_cells, MendTold};
 
-mod version;
+pub mod version;
 
 use corrections::Correction;
 use cuts::Next;
@@ -371,16 +371,14 @@ fn bad_truth(t: &[i64], i: usize, n: usize) -> u64
 }
 
 // Judges a whole record.
-#[unsafe(no_mangle)]
-pub extern "C" fn zarfolin_judge_record(table: &[i64], bytes: &[u8], answer: &mut [i64; 4]) -> u64
+pub fn zarfolin_judge_record(table: &[i64], bytes: &[u8], answer: &mut [i64; 4]) -> u64
     ensures { RecordTold table.now bytes.now answer.new result }
 {
     tell(answer, verdict_cells(records::judge_record(table, bytes)))
 }
 
 // Reads one row's value from a record.
-#[unsafe(no_mangle)]
-pub extern "C" fn zarfolin_read_value(
+pub fn zarfolin_read_value(
     table: &[i64],
     row: u64,
     bytes: &[u8],
@@ -397,8 +395,7 @@ pub extern "C" fn zarfolin_read_value(
 }
 
 // Judges a whole data file.
-#[unsafe(no_mangle)]
-pub extern "C" fn zarfolin_judge_file(table: &[i64], d: &[u8], answer: &mut [i64; 4]) -> u64
+pub fn zarfolin_judge_file(table: &[i64], d: &[u8], answer: &mut [i64; 4]) -> u64
     ensures { FileTold table.now d.now answer.new result }
 {
     // The table is tested here and not in `files::judge_file`: what was just lent is not lent on before it is read.
@@ -409,8 +406,7 @@ pub extern "C" fn zarfolin_judge_file(table: &[i64], d: &[u8], answer: &mut [i64
 }
 
 // Judges a part of a data file that begins where a record does. A `last` of 0 says that more of the file follows.
-#[unsafe(no_mangle)]
-pub extern "C" fn zarfolin_judge_part(
+pub fn zarfolin_judge_part(
     table: &[i64],
     d: &[u8],
     terminator: u64,
@@ -427,8 +423,7 @@ pub extern "C" fn zarfolin_judge_part(
 }
 
 // Writes a data file as a matrix of 64-bit floats: header, summaries, presence bytes, values.
-#[unsafe(no_mangle)]
-pub extern "C" fn zarfolin_matrix(
+pub fn zarfolin_matrix(
     table: &[i64],
     d: &[u8],
     out: &mut [u8],
@@ -440,8 +435,7 @@ pub extern "C" fn zarfolin_matrix(
 }
 
 // Writes a data file as comma-separated text: a line of names, and a line for each record before the first fault.
-#[unsafe(no_mangle)]
-pub extern "C" fn zarfolin_export(
+pub fn zarfolin_export(
     def: &[u8],
     table: &[i64],
     d: &[u8],
@@ -456,8 +450,7 @@ pub extern "C" fn zarfolin_export(
 }
 
 // Builds a data file from comma-separated text: a record of L bytes and CR LF for each line behind the name line.
-#[unsafe(no_mangle)]
-pub extern "C" fn zarfolin_import(
+pub fn zarfolin_import(
     def: &[u8],
     table: &[i64],
     text: &[u8],
@@ -474,8 +467,7 @@ pub extern "C" fn zarfolin_import(
 }
 
 // Reads a definition, 1.1 or XML, into a table.
-#[unsafe(no_mangle)]
-pub extern "C" fn zarfolin_read_definition(
+pub fn zarfolin_read_definition(
     d: &[u8],
     table: &mut [i64],
     answer: &mut [i64; 4],
@@ -486,8 +478,7 @@ pub extern "C" fn zarfolin_read_definition(
 }
 
 // Writes a clean text of a definition, whose table is lent too.
-#[unsafe(no_mangle)]
-pub extern "C" fn zarfolin_write_definition(
+pub fn zarfolin_write_definition(
     d: &[u8],
     table: &[i64],
     out: &mut [u8],
@@ -499,8 +490,7 @@ pub extern "C" fn zarfolin_write_definition(
 }
 
 // Decodes a text of a definition: the signs of a name, a label or a line's text.
-#[unsafe(no_mangle)]
-pub extern "C" fn zarfolin_decode_text(
+pub fn zarfolin_decode_text(
     d: &[u8],
     place: u64,
     long: u64,
@@ -516,16 +506,14 @@ pub extern "C" fn zarfolin_decode_text(
 }
 
 // Finds the record that starts at a place of a data file.
-#[unsafe(no_mangle)]
-pub extern "C" fn zarfolin_next_record(d: &[u8], from: u64, answer: &mut [i64; 4]) -> u64
+pub fn zarfolin_next_record(d: &[u8], from: u64, answer: &mut [i64; 4]) -> u64
     ensures { NextTold d.now from answer.new result }
 {
     tell(answer, next_cells(cuts::next_record(d, from as usize)))
 }
 
 // Writes missing into a row of a record. Here and below a list or a text that the value has no use for is not looked at.
-#[unsafe(no_mangle)]
-pub extern "C" fn zarfolin_write_missing(table: &[i64], row: u64, bytes: &mut [u8]) -> u64
+pub fn zarfolin_write_missing(table: &[i64], row: u64, bytes: &mut [u8]) -> u64
     ensures { Written table.now row missing bytes.old bytes.new result }
 {
     let text = [0u8; 1];
@@ -540,8 +528,7 @@ pub extern "C" fn zarfolin_write_missing(table: &[i64], row: u64, bytes: &mut [u
 }
 
 // Writes a number, scaled.
-#[unsafe(no_mangle)]
-pub extern "C" fn zarfolin_write_number(
+pub fn zarfolin_write_number(
     table: &[i64],
     row: u64,
     number: i64,
@@ -561,8 +548,7 @@ pub extern "C" fn zarfolin_write_number(
 }
 
 // Writes a truth, 0 or 1.
-#[unsafe(no_mangle)]
-pub extern "C" fn zarfolin_write_truth(table: &[i64], row: u64, truth: u8, bytes: &mut [u8]) -> u64
+pub fn zarfolin_write_truth(table: &[i64], row: u64, truth: u8, bytes: &mut [u8]) -> u64
     ensures { TruthTold table.now row truth bytes.old bytes.new result }
 {
     if truth < 2 {
@@ -581,8 +567,7 @@ pub extern "C" fn zarfolin_write_truth(table: &[i64], row: u64, truth: u8, bytes
 }
 
 // Writes a set.
-#[unsafe(no_mangle)]
-pub extern "C" fn zarfolin_write_set(table: &[i64], row: u64, list: &[i64], bytes: &mut [u8]) -> u64
+pub fn zarfolin_write_set(table: &[i64], row: u64, list: &[i64], bytes: &mut [u8]) -> u64
     ensures { Written table.now row (members list.now) bytes.old bytes.new result }
 {
     let text = [0u8; 1];
@@ -590,8 +575,7 @@ pub extern "C" fn zarfolin_write_set(table: &[i64], row: u64, list: &[i64], byte
 }
 
 // Writes a text.
-#[unsafe(no_mangle)]
-pub extern "C" fn zarfolin_write_text(table: &[i64], row: u64, text: &[u8], bytes: &mut [u8]) -> u64
+pub fn zarfolin_write_text(table: &[i64], row: u64, text: &[u8], bytes: &mut [u8]) -> u64
     ensures { Written table.now row (field.text text.now) bytes.old bytes.new result }
 {
     corrections::number_of(writes::write_value(
@@ -621,8 +605,7 @@ fn whole_cells(w: Whole) -> Told
 }
 
 // Reads all rows of a record.
-#[unsafe(no_mangle)]
-pub extern "C" fn zarfolin_read_record(
+pub fn zarfolin_read_record(
     table: &[i64],
     bytes: &[u8],
     out: &mut [i64],
@@ -641,8 +624,7 @@ pub extern "C" fn zarfolin_read_record(
 // Writes a list of corrections into a record, in its order, and marks each. The table is tested once. This loop alone stands outside what
 // Rattle covers, since it is lent a list of structs: it is proved by hand (proofs/zarfolin_correct), and all that judges stands in
 // `corrections`.
-#[unsafe(no_mangle)]
-pub extern "C" fn zarfolin_correct(table: &[i64], list: &mut [Correction], bytes: &mut [u8]) -> u64
+pub fn zarfolin_correct(table: &[i64], list: &mut [Correction], bytes: &mut [u8]) -> u64
     ensures { ListCorrected table.now list.old list.new bytes.old bytes.new result }
 {
     let answer = corrections::admit(table, bytes.len());
@@ -665,8 +647,7 @@ fn normal_cells(n: Normal) -> Told
 }
 
 // Gives a record its normal form, in place.
-#[unsafe(no_mangle)]
-pub extern "C" fn zarfolin_normal(table: &[i64], bytes: &mut [u8], answer: &mut [i64; 4]) -> u64
+pub fn zarfolin_normal(table: &[i64], bytes: &mut [u8], answer: &mut [i64; 4]) -> u64
     ensures { NormalTold table.now bytes.old bytes.new answer.new result }
 {
     tell(answer, normal_cells(normal::normalise(table, bytes)))
@@ -688,8 +669,7 @@ fn mend_cells(m: Mended) -> Told
 }
 
 // Mends a data file into the output: one terminator, one length, no byte below 32; and lists what was changed.
-#[unsafe(no_mangle)]
-pub extern "C" fn zarfolin_mend(
+pub fn zarfolin_mend(
     table: &[i64],
     d: &[u8],
     out: &mut [u8],

@@ -4,8 +4,7 @@ ghost use Rattle.std.specs.Prelude.{◌≡◌};
 ghost use Rattle.zarfolin.specs.rule.Version.{version_number};
 
 // The version of the face that this archive has.
-#[unsafe(no_mangle)]
-pub extern "C" fn zarfolin_version() -> u64
+pub fn zarfolin_version() -> u64
     ensures { result ≡ version_number }
 {
     3

@@ -44,7 +44,7 @@
 //! # Linking
 //!
 //! The feature `ffi`, on unless it is turned off, links `libzarfolin.a` from `target/staticlib` of the repository, where
-//! `rt staticlib zarfolin` puts it, or from the folder that `ZARFOLIN_LIB_DIR` names. When the crate is built it holds its
+//! `tools/build library` puts it, or from the folder that `ZARFOLIN_LIB_DIR` names. When the crate is built it holds its
 //! [`VERSION`] against the header's and the archive's. Without the feature only [`table`], [`Correction`], [`Refusal`],
 //! [`Text`] and [`Value`] are there.
 
@@ -101,7 +101,7 @@ compile_error!(
 
 #[cfg(all(zarfolin_no_archive, not(doc)))]
 compile_error!(
-    "libzarfolin.a is not there: build it with `rt staticlib zarfolin`, name its folder in ZARFOLIN_LIB_DIR, or turn the feature `ffi` off"
+    "libzarfolin.a is not there: build it with `tools/build library`, name its folder in ZARFOLIN_LIB_DIR, or turn the feature `ffi` off"
 );
 
 /// Whether a version that build.rs found is this crate's; where it found none there is nothing to compare.

@@ -4,7 +4,8 @@
 use mir.Syntax.{w64}
 use mir.ValLaws.{to_z-of_z}
 use Rattle.quotient.specs.rule.Value.{value_of}
-use Rattle.quotient.specs.Exact.{scaled_in, power_in}
+use Rattle.quotient.specs.Exact.{power_in}
+use Rattle.quotient.proofs.Exact.{scaled_in}
 use Rattle.quotient.proofs.value_of.Goals as goal
 
 pub int_to_float-n : goal.int_to_float-n

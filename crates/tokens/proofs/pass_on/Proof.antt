@@ -28,6 +28,7 @@ returns-2 c = let l = c.before.loop in (l.invariant.0, l.invariant.1, λ h. absu
 
 pub pass-on-spec : {M : Type 1} → statement M
 pass-on-spec =
-    tie.close (tie.spec invariant-loop decreases-loop (λ c. (refl, omega arith)) (λ c. omega arith) returns (λ c. omega arith) (λ c. omega arith)
+    tie.close (tie.spec invariant-loop decreases-loop (λ c. (refl, omega arith)) (λ c. omega arith) returns (λ c. omega arith)
+    (λ c. omega arith)
     loop-again
     returns-2)

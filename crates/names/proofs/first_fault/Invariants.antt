@@ -1,0 +1,24 @@
+-- `names::first_fault` meets its contract. The invariants: no row before j is wrong, and those rows have left their marks; no row before
+-- i has the name of row j.
+use mathlib.Core.Path.{◌≡◌}
+use mathlib.Core.Bool.{false}
+use Prim.Native.Nat.{◌-◌, ◌≤◌}
+use lib.Dec.{eqb}
+use lib.ListN.{get_or, length}
+use Rattle.below.specs.rule.Below.{any_below}
+use Rattle.names.specs.Clash.{fault_from, fault_of}
+use Rattle.names.proofs.Clashes.{Marked}
+use Rattle.names.proofs.first_fault.Given as goal
+
+abbrev pub invariant-loop-i : goal.invariant-loop-i
+invariant-loop-i l = (l.i ≤ l.j) × (l.found ≡ l.initial.found) × (any_below l.i (λ k. eqb (get_or l.keys k 0) l.key) ≡ false)
+
+abbrev pub decreases-loop-i : goal.decreases-loop-i
+decreases-loop-i l = l.j - l.i
+
+abbrev pub invariant-rows : goal.invariant-rows
+invariant-rows l = (fault_of l.keys l.count ≡ fault_from l.keys (l.count - l.j) l.j) × (l.j ≤ l.count) × (l.found ≡ l.count)
+    × (length l.marks ≡ 2048) × Marked l.keys l.j l.marks
+
+abbrev pub decreases-rows : goal.decreases-rows
+decreases-rows l = l.count - l.j
