@@ -99,7 +99,8 @@ module _ (d : List ℕ) where
   notes_within : (f : ℕ) (t : Reading) → left d t < f → left d (notes_here d t) ≤ left d t
   notes_within zero t h = absurd (omega arith)
   notes_within (suc f) t h = by (choice_of d t NOTE) refl (notes_within f) where
-    by : (k : Choice) → choice_of d t NOTE ≡ k → ((u : Reading) → left d u < f → left d (notes_here d u) ≤ left d u) → left d (notes_here d t)
+    by : (k : Choice) → choice_of d t NOTE ≡ k → ((u : Reading) → left d u < f → left d (notes_here d u) ≤ left d u)
+        → left d (notes_here d t)
         ≤ left d t
     by (Taken m) e ih =
         let l = note_left t refl e in

@@ -62,7 +62,8 @@ module _ (d : List ℕ) where
   past n = run_of is_digit n (text d n)
 
   -- digits, and what the run has behind them
-  after_digits : {n : ℕ} {t : Text} → From d n t → t ≡ text d n → run_bytes is_value t ≡ run_bytes is_digit t ++ run_at (run_of is_digit n t)
+  after_digits : {n : ℕ} {t : Text} → From d n t → t ≡ text d n → run_bytes is_value t ≡ run_bytes is_digit t
+      ++ run_at (run_of is_digit n t)
   unfolding run_bytes run_of
   after_digits at_stop q = ap (run_bytes is_value) q
   after_digits {n} (at_sign {p = p} {b = b} {u = u} g w i r) q = by (is_digit b) refl (after_digits r i) where
@@ -101,7 +102,8 @@ module _ (d : List ℕ) where
   past_digits {n} (at_sign {p = p} {b = b} {u = u} g w i r) q = by (is_digit b) refl (past_digits r i) where
     by : (x : Bool) → is_digit b ≡ x
         → run_of is_value (p + 1) u ≡ run_of is_value (run_of is_digit (p + 1) u) (text d (run_of is_digit (p + 1) u))
-        → run_of is_value n (sign p b u) ≡ run_of is_value (cond x (run_of is_digit (p + 1) u) n) (text d (cond x (run_of is_digit (p + 1) u) n))
+        → run_of is_value n (sign p b u) ≡ run_of is_value (cond x (run_of is_digit (p + 1) u) n)
+        (text d (cond x (run_of is_digit (p + 1) u) n))
     by true f ih = rw (digit_value b f) ih
     by false f ih = ap (run_of is_value n) q
 

@@ -44,7 +44,8 @@ module _ (d : List ℕ) where
   unfolding word_of
   word_within {at} {n} f [] h e = let q : at ≡ n = cc in (omega arith, omega arith)
   word_within at_stop (x ∷ w) h e = let z : ◌≡◌ {A = ℕ} 0 1 = cc in absurd (omega arith)
-  word_within {at} {n} (at_sign {p = p} {b = b} {u = u} g l q r) (x ∷ w) h e = by (eqb (upper_of b) x) (word_within r w (omega arith)) e
+  word_within {at} {n} (at_sign {p = p} {b = b} {u = u} g l q r) (x ∷ w) h e = by (eqb (upper_of b) x)
+      (word_within {at = p + 1} {n = n} r w (omega arith)) e
     where
       by : (y : Bool) → (word_of (p + 1) u w ≡ Matched n → (p + 1 ≤ n) × (n ≤ length d)) → cond y (word_of (p + 1) u w) Not ≡ Matched n
           → (at ≤ n) × (n ≤ length d)
@@ -54,11 +55,12 @@ module _ (d : List ℕ) where
   word_ahead : {at n : ℕ} {t : Text} → From d at t → (x : ℕ) (w : List ℕ) → word_of at t (x ∷ w) ≡ Matched n → (at < n) × (n ≤ length d)
   unfolding word_of
   word_ahead at_stop x w e = let z : ◌≡◌ {A = ℕ} 0 1 = cc in absurd (omega arith)
-  word_ahead {at} {n} (at_sign {p = p} {b = b} {u = u} g l q r) x w e = by (eqb (upper_of b) x) (word_within r w (omega arith)) e where
-    by : (y : Bool) → (word_of (p + 1) u w ≡ Matched n → (p + 1 ≤ n) × (n ≤ length d)) → cond y (word_of (p + 1) u w) Not ≡ Matched n
-        → (at < n) × (n ≤ length d)
-    by true ih e = let k = ih e in (omega arith, k.1)
-    by false ih e = let z : ◌≡◌ {A = ℕ} 0 1 = cc in absurd (omega arith)
+  word_ahead {at} {n} (at_sign {p = p} {b = b} {u = u} g l q r) x w e = by (eqb (upper_of b) x)
+      (word_within {at = p + 1} {n = n} r w (omega arith)) e where
+        by : (y : Bool) → (word_of (p + 1) u w ≡ Matched n → (p + 1 ≤ n) × (n ≤ length d)) → cond y (word_of (p + 1) u w) Not ≡ Matched n
+            → (at < n) × (n ≤ length d)
+        by true ih e = let k = ih e in (omega arith, k.1)
+        by false ih e = let z : ◌≡◌ {A = ℕ} 0 1 = cc in absurd (omega arith)
 
   -- a word that was taken: less is left
   pub taken_less : (t : Reading) (x : ℕ) (w : List ℕ) {m : ℕ} → choice_of d t (x ∷ w) ≡ Taken m → left d (At m) < left d t

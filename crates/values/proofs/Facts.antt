@@ -116,7 +116,8 @@ module _ (room : List ℤ) (first last : ℕ) (z : ℤ) where
       rw (n, any_next (λ i. eq_z (room_at room first i) z) (i - first), e, k, f)
 
   -- a line that says it
-  pub one_says : (i : ℕ) → first ≤ i → i < last → eq_z (cell room (4 * i)) z ≡ true → true ≡ repeated_in (room_at room first) (last - first) z
+  pub one_says : (i : ℕ) → first ≤ i → i < last → eq_z (cell room (4 * i)) z ≡ true → true
+      ≡ repeated_in (room_at room first) (last - first) z
   unfolding repeated_in room_at
   one_says i h l f =
       let k : first + (i - first) ≡ i = omega arith in
@@ -151,7 +152,8 @@ marked_more f n stamp marks z h e m = record { left = λ i k. go i (eqb (slot_of
     each : (i : ℕ) → i < n + 1 → (i ≡ n) ⊎ (i < n)
     each i k = let g : i ≤ n = omega arith in eq-or-lt_of_le g
 
-    go : (i : ℕ) (b : Bool) → eqb (slot_of (f i)) (slot_of z) ≡ b → (i ≡ n) ⊎ (i < n) → get_or (set marks (slot_of z) stamp) (slot_of (f i)) 0
+    go : (i : ℕ) (b : Bool) → eqb (slot_of (f i)) (slot_of z) ≡ b → (i ≡ n) ⊎ (i < n)
+        → get_or (set marks (slot_of z) stamp) (slot_of (f i)) 0
         ≡ stamp
     go i true q c = rw (eqb-true (slot_of (f i)) (slot_of z) q) (get_or-set_same marks (slot_of z) stamp 0 (omega (arith, h, slot_small z)))
     go i false q c =

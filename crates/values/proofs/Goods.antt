@@ -202,17 +202,17 @@ module _ (quantity : Bool) (below : Bool) (x y : Value) (n m' : ℕ) (gx : Genui
     (order : below ≡ lt_z (number_of y.minus m') (number_of x.minus n)) where
   range_good_lem : Fit quantity x → Fit quantity y → x.decimals ≡ y.decimals → below ≡ false → GoodBlock quantity (range_block x y)
   range_good_lem fx fy s e = record {
-    few-decimals = fx.places;
-    point-code = codes_low (point_of x) (point_of y) (code_low x);
+    few_decimals = fx.places;
+    point_code = codes_low (point_of x) (point_of y) (code_low x);
     pointed = ⊎_elim inl (λ p. inr (codes_first (point_of x) (point_of y) (code_some x p))) gx.pointed;
     shared = λ p. (fx.share (codes_same (point_of x) (point_of y) p).0).0;
     category = λ q. (whole gx (fx.category q).1, rw (code_none x (fx.category q).1, code_none y (fy.category q).1));
     unranged = λ q. holds_not refl q;
     ordered = λ q. not_below (scaled_of x) (scaled_of y) (rw (true_said gx fx, true_said gy fy) at (sym order ∙ e));
-    from-limited = λ q. value_limited quantity x fx;
-    to-limited = λ q. value_limited quantity y fy;
-    from-near = λ q p. near_said fx (codes_same (point_of x) (point_of y) p).0;
-    to-near = λ q p. rw s (near_said fy (codes_same (point_of x) (point_of y) p).1);
+    from_limited = λ q. value_limited quantity x fx;
+    to_limited = λ q. value_limited quantity y fy;
+    from_near = λ q p. near_said fx (codes_same (point_of x) (point_of y) p).0;
+    to_near = λ q p. rw s (near_said fy (codes_same (point_of x) (point_of y) p).1);
   }
 
   -- a range that stands is a good block, whatever road its values came by
@@ -269,17 +269,17 @@ module _ (d : List ℕ) (quantity : Bool) where
 -- ---- lines
 none_good : (quantity : Bool) → GoodBlock quantity empty_block
 none_good quantity = record {
-  few-decimals = omega arith;
-  point-code = omega arith;
+  few_decimals = omega arith;
+  point_code = omega arith;
   pointed = inl refl;
   shared = λ p. absurd (omega arith);
   category = λ q. (refl, refl);
   unranged = λ q. (refl, refl);
   ordered = λ q. holds_not q refl;
-  from-limited = λ q. holds_not q refl;
-  to-limited = λ q. holds_not q refl;
-  from-near = λ q. holds_not q refl;
-  to-near = λ q. holds_not q refl;
+  from_limited = λ q. holds_not q refl;
+  to_limited = λ q. holds_not q refl;
+  from_near = λ q. holds_not q refl;
+  to_near = λ q. holds_not q refl;
 }
 
 -- the code of a block that has grown: 2 only where the number is bare, and the block had it before or had no number
@@ -321,17 +321,17 @@ grown_good : {z : ℕ} (quantity : Bool) (b : Block) (v : Value) → GoodBlock q
     → (b.known ≡ true → v.decimals ≡ b.decimals) → Genuine z v → Fit quantity v → GoodBlock quantity (grown_by b v)
 unfolding grown_by
 grown_good quantity b v k r s g f = record {
-  few-decimals = f.places;
-  point-code = grown_low b v k.point_code;
+  few_decimals = f.places;
+  point_code = grown_low b v k.point_code;
   pointed = ⊎_elim inl (λ p. inr (grown_some b v p)) g.pointed;
   shared = λ p. (f.share (grown_shares b v p).own).0;
   category = λ q. (whole g (f.category q).1, grown_none b v (k.category q).1 (f.category q).1);
   unranged = k.unranged;
   ordered = k.ordered;
-  from-limited = k.from_limited;
-  to-limited = k.to_limited;
-  from-near = λ q. near_still b v b.from (r q) s (k.from_near q);
-  to-near = λ q. near_still b v b.to (r q) s (k.to_near q);
+  from_limited = k.from_limited;
+  to_limited = k.to_limited;
+  from_near = λ q. near_still b v b.from (r q) s (k.from_near q);
+  to_near = λ q. near_still b v b.to (r q) s (k.to_near q);
 }
 
 each_more : {l : List Said} {s : Said} → EachGood l → GoodLine s → EachGood (l ++ s ∷ [])
@@ -501,6 +501,7 @@ module _ (d : List ℕ) (quantity : Bool) (first : ℕ) (h : length d ≤ 104857
     by Left = lines_given a empty_block r (value_genuine d n) (none_good quantity) (λ q. holds_not q refl)
 
 -- VALUES that were read are good
-pub values_good_lem : (d : List ℕ) (quantity : Bool) (first : ℕ) (t : Reading) {b : Block} {l : List Said} {n : ℕ} → length d ≤ 1048576 → first
+pub values_good_lem : (d : List ℕ) (quantity : Bool) (first : ℕ) (t : Reading) {b : Block} {l : List Said} {n : ℕ} → length d ≤ 1048576
+    → first
     ≤ 4096 → values_on d quantity first t ≡ Is b l n → GoodValues quantity first b l
 values_good_lem d quantity first t h r e = (all_given d quantity first h r t).of e

@@ -110,12 +110,13 @@ module _ (d : List ℕ) (a : Amount) (s : Said) (h : length d ≤ 1048576) where
       × (s.special ≡ n) → GoodLine s
   within q n e l p =
       let k = quoted_within d (past_value a) s.text (sym e ∙ p.1) in
-      record { special = omega (arith, p.2); text-place = omega (arith, k.0); text-length = omega (arith, k.1) }
+      record { special = omega (arith, p.2); text_place = omega (arith, k.0); text_length = omega (arith, k.1) }
 
   pub line_good : line_rest d a ≡ lined.Is s → GoodLine s
   unfolding line_rest
   line_good = by (choice_of d (gap_on d (past_string (string_on d (past_value a)))) SPECIAL) where
-    by : (k : Choice) → special_or a (string_on d (past_value a)) (gap_on d (past_string (string_on d (past_value a)))) k ≡ lined.Is s → GoodLine s
+    by : (k : Choice) → special_or a (string_on d (past_value a)) (gap_on d (past_string (string_on d (past_value a)))) k ≡ lined.Is s
+        → GoodLine s
     by (Taken m) e = within (string_on d (past_value a)) 1 refl (omega arith) (said_parts a (string_on d (past_value a)) 1 (At m) s e)
     by Left e = within (string_on d (past_value a)) 0 refl (omega arith)
         (said_parts a (string_on d (past_value a)) 0 (gap_on d (past_string (string_on d (past_value a)))) s e)
@@ -216,7 +217,8 @@ module _ (d : List ℕ) (quantity : Bool) (first : ℕ) (a : Amount) (b : Block)
   unfolding turn_of room_after marks_after line_step
   turned w t = by (line_rest d a) refl where
     judged : (s : Said) (v : Verdict) → line_rest d a ≡ lined.Is s → judged_at quantity first at s ≡ v → t ≡ judged_turn d b s v
-        → ((f : Fault) → t ≡ turn.Not f → ⊥) → Onward d quantity n first start (judged_room room last s v) stamp (judged_marks marks stamp v)
+        → ((f : Fault) → t ≡ turn.Not f → ⊥) → Onward d quantity n first start (judged_room room last s v) stamp
+        (judged_marks marks stamp v)
         last (state_of a b l) t
     judged s (Good z) j i e o =
         let g = good_line (room_at room first) (last - first) first quantity b s.value i in

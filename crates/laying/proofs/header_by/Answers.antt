@@ -1,0 +1,5 @@
+use Rattle.laying.proofs.header_by.Goals as goal
+
+pub returns : goal.returns
+unfolding header_by
+returns c = rw c.base.ensures

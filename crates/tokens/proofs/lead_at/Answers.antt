@@ -1,0 +1,44 @@
+use mathlib.Core.Path.{◌≡◌, ◌∙◌}
+use Prim.Native.Nat.{◌+◌, ◌-◌}
+use native.Mathlib.Omega.{arith}
+use Rattle.tokens.proofs.Leads.{lead_next}
+use Rattle.tokens.proofs.lead_at.Goals as goal
+
+pub loop-i-init : goal.loop-i-init
+loop-i-init c =
+    let z : c.args.at - c.args.at ≡ 0 = omega arith in
+    (rw z, omega arith, omega arith)
+
+pub loop-i-preserved : goal.loop-i-preserved
+loop-i-preserved c =
+    let l = c.loop-i in
+    let at = c.args.at in
+    let q : (l.i - at) + 1 ≡ (l.i + 1) - at = omega (arith, l.invariant.1) in (
+      l.invariant.0 ∙ lead_next _ l.i l.v (l.i - at) (omega arith) (omega arith) (omega arith) (omega arith) ∙ rw q,
+      omega (arith, l.invariant.1),
+      omega arith,
+    )
+
+pub returns-then-b-lt48 : goal.returns-then-b-lt48
+returns-then-b-lt48 c = let l = c.loop-i in record {
+  at_value = l.invariant.0;
+  at_le_end = (l.invariant.1, l.invariant.2);
+}
+
+pub returns-then-b-gt57 : goal.returns-then-b-gt57
+returns-then-b-gt57 c = let l = c.loop-i in record {
+  at_value = l.invariant.0;
+  at_le_end = (l.invariant.1, l.invariant.2);
+}
+
+pub returns-then-v-gt99999999999999 : goal.returns-then-v-gt99999999999999
+returns-then-v-gt99999999999999 c = let l = c.loop-i in record {
+  at_value = l.invariant.0;
+  at_le_end = (l.invariant.1, l.invariant.2);
+}
+
+pub returns : goal.returns
+returns c = let l = c.loop-i in record {
+  at_value = l.invariant.0;
+  at_le_end = (l.invariant.1, l.invariant.2);
+}
