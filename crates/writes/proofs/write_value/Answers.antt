@@ -8,10 +8,10 @@ use Rattle.writes.proofs.write_value.Goals.{After-read-h}
 
 -- the table is well formed
 good : (c : After-read-h) → well_formed c.args.table.now ≡ true
-good c = sym c.well-formed-2.ensures.says ∙ c.if-not-well_formed.false
+good c = sym c.well_formed-2.ensures.says ∙ c.if-not-well_formed.false
 
 pub returns-then-not-well_formed : goal.returns-then-not-well_formed
-returns-then-not-well_formed c = not_formed _ _ _ _ (sym c.well-formed-2.ensures.says ∙ c.if-not-well_formed.true)
+returns-then-not-well_formed c = not_formed _ _ _ _ (sym c.well_formed-2.ensures.says ∙ c.if-not-well_formed.true)
 
 pub returns-then-rows-row : goal.returns-then-rows-row
 returns-then-rows-row c = no_row _ _ _ _ (good (goal.at.returns-then-rows-row c).After-read-h) (rw c.read-h.ensures at c.if-rows-row.true)

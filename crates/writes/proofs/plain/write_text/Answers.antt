@@ -27,13 +27,17 @@ returns-else-not-text_fits c =
     c.put_text.ensures)
 
 pub returns-in-Single : goal.returns-in-Single
+unfolding lent_value fits_by
 returns-in-Single c = other_kind_lem c.in-Single.is refl
 
 pub returns-in-Multiple : goal.returns-in-Multiple
+unfolding lent_value fits_by
 returns-in-Multiple c = other_kind_lem c.in-Multiple.is refl
 
 pub returns-in-Quantity : goal.returns-in-Quantity
+unfolding lent_value fits_by
 returns-in-Quantity c = other_kind_lem c.in-Quantity.is refl
 
 pub returns-in-Logical : goal.returns-in-Logical
+unfolding lent_value fits_by
 returns-in-Logical c = other_kind_lem c.in-Logical.is refl
