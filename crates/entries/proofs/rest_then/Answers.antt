@@ -5,9 +5,10 @@ use Rattle.values.proofs.Rooms.{unless_on, unless_told}
 use Rattle.entries.proofs.Heads.{none}
 use Rattle.entries.proofs.Entries.{Known, known, measure_here, stood_here, stored_here, stood_not, stored_not}
 use Rattle.entries.proofs.rest_then.Goals as goal
+use Rattle.entries.proofs.rest_then.Goals.{After-end_variable-end}
 
 -- what was told, behind the call
-known_here : (c : tie.After-settle-arg)
+known_here : (c : After-end_variable-end)
     → Known c.args.d.now c.args.h
     c.args.before c.args.lines.now c.rest_on.new.lines
     c.in-Is.r
@@ -19,7 +20,7 @@ known_here c =
     c.rest_on.auto.lines _ _ e.0 e.1 c.in-Is.is
 
 -- the room is as long as before
-kept_here : (c : tie.After-settle-arg)
+kept_here : (c : After-end_variable-end)
     → length c.rest_on.new.lines
     ≡ length c.args.lines.now
 kept_here c = c.rest_on.auto.lines
@@ -36,13 +37,13 @@ settle-requires c =
 pub returns-in-Is : goal.returns-in-Is
 returns-in-Is c =
     let a = c.args in
-    let p = c.pre in
-    let k = known_here c.before in
-    let e = kept_here c.before in
+    let p = c.requires in
+    let k = known_here (goal.at.returns-in-Is c).After-end_variable-end in
+    let e = kept_here (goal.at.returns-in-Is c).After-end_variable-end in
     holds (
-      stood_here a.d.now a.h a.before p.1.1.0 p.1.1.1.0.1 p.1.1.1.1 a.lines.now _ p.1.1.1.0.0 e _ k
+      stood_here a.d.now a.h a.before p.d_len_bound p.before_in_bounds.1 p.good_head a.lines.now _ p.before_in_bounds.0 e _ k
           _ _ c.end_variable-end.ensures c.settle.ensures,
-      stored_here a.d.now a.h a.before p.1.1.0 p.1.1.1.0.1 p.1.1.1.1 a.lines.now _ p.1.1.1.0.0 e _
+      stored_here a.d.now a.h a.before p.d_len_bound p.before_in_bounds.1 p.good_head a.lines.now _ p.before_in_bounds.0 e _
           k,
     )
 
