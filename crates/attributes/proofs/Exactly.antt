@@ -1,14 +1,14 @@
 -- An attribute, in XML's words: white space, a name, white space or none, =, white space or none, a value in either quotes.
-use mathlib.Core.Path.{◌≡◌, refl, sym, ap, ◌∙◌}
+use mathlib.Core.Path.{◌≡◌, refl}
 use mathlib.Core.Logic.{◌↔◌, ◌⊎◌, inl, inr, ⊎_elim}
 use mathlib.Core.Bool.{Bool, true, false, cond, ◌||◌}
-use mathlib.Core.List.{List, [], ◌∷◌, ◌++◌}
-use Prim.Native.Nat.{ℕ, zero, suc, ◌+◌, ◌-◌, ◌≤◌, ◌<◌}
+use mathlib.Core.List.{List, ◌++◌}
+use Prim.Native.Nat.{ℕ, ◌+◌, ◌<◌}
 use native.Mathlib.Omega.{arith}
 use lib.Dec.{leb, eqb}
 use lib.ListN.{length, drop, get_or}
-use borrow.Author.Tests.{eq-eqb, ne_eqb, eqb-true, eqb-false, le-leb, lt-leb, leb-true, leb-false}
-use Rattle.below.specs.Below.{either_true, holds_not, lt_or_le}
+use borrow.Author.Tests.{eq-eqb, ne_eqb, eqb-true, eqb-false, lt-leb, leb-false}
+use Rattle.below.specs.Below.{either_true, holds_not}
 use Rattle.utf.proofs.Strides.{apart}
 use Rattle.markup.specs.rule.Bytes.{is_white, is_name, is_digit, starts_name, of_kind, end_fault}
 use Rattle.markup.specs.rule.Grammar.{Each, no_more, each}
@@ -17,7 +17,6 @@ use Rattle.markup.specs.declared.Skip.TheVariants.{Past, Broken}
 use Rattle.markup.proofs.Runs.{first_at, run_long}
 use Rattle.markup.proofs.Stretches.{Stretch, run_stretch, stretch_run}
 use Rattle.attributes.specs.rule.Attribute.{quoted_of, run_at, on_quoted, valued_of, equals_of, named_of, slash_of, behind_of, attribute_of}
-use Rattle.attributes.specs.declared.Attribute.{Attribute}
 use Rattle.attributes.specs.declared.Attribute.TheVariants.{One, Shut, Faulty}
 use Rattle.attributes.proofs.Values.{Quoted, quoted_sound, value_exactly}
 use Rattle.attributes.proofs.Places.{slash_one}
@@ -88,7 +87,8 @@ module _ (bad : Bool) (d : List ℕ) (opened : ℕ) where
   value_is : (n e w : ℕ) {n' e' v k next : ℕ} → valued_of bad d opened n e w ≡ One n' e' v k next → (n' ≡ n) × (e' ≡ e) × ValueIs w v k next
   unfolding valued_of
   value_is n e w {n'} {e'} {v} {k} {next} f = by (leb (length d) w) (eqb (get_or d w 0) 34 || eqb (get_or d w 0) 39) refl refl f where
-    on : (r : Skip) → quoted_of bad opened (get_or d w 0) d (w + 1) ≡ r → w < length d → (eqb (get_or d w 0) 34 || eqb (get_or d w 0) 39) ≡ true
+    on : (r : Skip) → quoted_of bad opened (get_or d w 0) d (w + 1) ≡ r → w < length d → (eqb (get_or d w 0) 34 || eqb (get_or d w 0) 39)
+        ≡ true
         → on_quoted n e (w + 1) r ≡ One n' e' v k next → (n' ≡ n) × (e' ≡ e) × ValueIs w v k next
     on (Past j) g h q f =
         let i : v ≡ w + 1 = cc in
@@ -108,7 +108,8 @@ module _ (bad : Bool) (d : List ℕ) (opened : ℕ) where
     on (Broken p) g h q f = let z : ◌≡◌ {A = ℕ} 0 1 = cc in absurd (omega arith)
 
     by : (x y : Bool) → leb (length d) w ≡ x → (eqb (get_or d w 0) 34 || eqb (get_or d w 0) 39) ≡ y
-        → cond x (Faulty (end_fault bad w opened)) (cond y (on_quoted n e (w + 1) (quoted_of bad opened (get_or d w 0) d (w + 1))) (Faulty w))
+        → cond x (Faulty (end_fault bad w opened))
+        (cond y (on_quoted n e (w + 1) (quoted_of bad opened (get_or d w 0) d (w + 1))) (Faulty w))
         ≡ One n' e' v k next
         → (n' ≡ n) × (e' ≡ e) × ValueIs w v k next
     by true y g h f = let z : ◌≡◌ {A = ℕ} 0 1 = cc in absurd (omega arith)
@@ -120,7 +121,8 @@ module _ (bad : Bool) (d : List ℕ) (opened : ℕ) where
   unfolding equals_of
   equals_is n e m {n'} {e'} {v} {k} {next} f = by (leb (length d) m) (eqb (get_or d m 0) 61) refl refl f where
     by : (x y : Bool) → leb (length d) m ≡ x → eqb (get_or d m 0) 61 ≡ y
-        → cond x (Faulty (end_fault bad m opened)) (cond y (valued_of bad d opened n e (run_at 0 d (m + 1))) (Faulty m)) ≡ One n' e' v k next
+        → cond x (Faulty (end_fault bad m opened)) (cond y (valued_of bad d opened n e (run_at 0 d (m + 1))) (Faulty m))
+        ≡ One n' e' v k next
         → (n' ≡ n) × (e' ≡ e) × (m < length d) × (get_or d m 0 ≡ 61) × ValueIs (run_at 0 d (m + 1)) v k next
     by true y g h f = let z : ◌≡◌ {A = ℕ} 0 1 = cc in absurd (omega arith)
     by false true g h f = let r = value_is n e (run_at 0 d (m + 1))
@@ -156,7 +158,8 @@ module _ (bad : Bool) (d : List ℕ) (opened : ℕ) where
   attribute_sound : (at : ℕ) {n e v k next : ℕ} → attribute_of bad d opened at ≡ One n e v k next → Attributed d at n e v k next
   unfolding attribute_of behind_of
   attribute_sound at {n} {e} {v} {k} {next} f =
-      by (leb (length d) (run_at 0 d at)) (eqb (get_or d (run_at 0 d at) 0) 62) (eqb (get_or d (run_at 0 d at) 0) 47) (eqb (run_at 0 d at) at)
+      by (leb (length d) (run_at 0 d at)) (eqb (get_or d (run_at 0 d at) 0) 62) (eqb (get_or d (run_at 0 d at) 0) 47)
+      (eqb (run_at 0 d at) at)
       (starts_name (get_or d (run_at 0 d at) 0)) refl refl f where
         spaced : eqb (run_at 0 d at) at ≡ false → at < run_at 0 d at
         spaced g = apart at (run_at 0 d at) (omega (arith, run_long (of_kind 0) at (drop at d))) (eqb-false (run_at 0 d at) at g)

@@ -1,21 +1,20 @@
 -- Where an attribute leads: onward, and not beyond the end.
-use mathlib.Core.Path.{◌≡◌, refl, sym, ap, ◌∙◌}
+use mathlib.Core.Path.{◌≡◌, refl}
 use mathlib.Core.Bool.{Bool, true, false, cond, ◌||◌}
-use mathlib.Core.List.{List, [], ◌∷◌}
-use Prim.Native.Nat.{ℕ, zero, suc, ◌+◌, ◌-◌, ◌≤◌, ◌<◌}
+use mathlib.Core.List.{List}
+use Prim.Native.Nat.{ℕ, ◌+◌, ◌≤◌, ◌<◌}
 use native.Mathlib.Omega.{arith}
 use lib.Dec.{leb, eqb}
 use lib.ListN.{length, drop, get_or}
-use borrow.Author.Tests.{leb-false, eqb-false}
-use Rattle.markup.specs.rule.Bytes.{of_kind, bytes_while, starts_name, end_fault}
+use borrow.Author.Tests.{eqb-false}
+use Rattle.markup.specs.rule.Bytes.{of_kind, starts_name, end_fault}
 use Rattle.markup.specs.declared.Skip.{Skip}
 use Rattle.markup.specs.declared.Skip.TheVariants.{Past, Broken}
 use Rattle.utf.proofs.Strides.{apart}
 use Rattle.markup.proofs.Runs.{run_long}
 use Rattle.attributes.specs.rule.Attribute.{quoted_of, run_at, on_quoted, valued_of, equals_of, named_of, slash_of, behind_of, attribute_of}
-use Rattle.attributes.specs.declared.Attribute.{Attribute}
 use Rattle.attributes.specs.declared.Attribute.TheVariants.{One, Shut, Faulty}
-use Rattle.attributes.proofs.Values.{Quoted, quoted_sound}
+use Rattle.attributes.proofs.Values.{quoted_sound}
 
 -- an attribute behind `at`: white space up to its name, the name, then its value up to its quote, and the place behind that
 pub record Found (d : List ℕ) (at n e v k next : ℕ) : Type 0 where
@@ -30,7 +29,8 @@ run_on : (kind : ℕ) (d : List ℕ) (p : ℕ) → p ≤ run_at kind d p
 run_on kind d p = omega (arith, run_long (of_kind kind) p (drop p d))
 
 module _ (bad : Bool) (d : List ℕ) (opened : ℕ) where
-  valued_one : (n e w : ℕ) {n' e' v k next : ℕ} → valued_of bad d opened n e w ≡ One n' e' v k next → (n' ≡ n) × (e' ≡ e) × (w < v) × (v ≤ k)
+  valued_one : (n e w : ℕ) {n' e' v k next : ℕ} → valued_of bad d opened n e w ≡ One n' e' v k next → (n' ≡ n) × (e' ≡ e) × (w < v)
+      × (v ≤ k)
       × (k < length d) × (next ≡ k + 1)
   unfolding valued_of
   valued_one n e w {n'} {e'} {v} {k} {next} f = by (leb (length d) w) (eqb (get_or d w 0) 34 || eqb (get_or d w 0) 39) f where
@@ -47,13 +47,15 @@ module _ (bad : Bool) (d : List ℕ) (opened : ℕ) where
     on (Broken p) g f = let z : ◌≡◌ {A = ℕ} 0 1 = cc in absurd (omega arith)
 
     by : (x y : Bool) → cond x (Faulty (end_fault bad w opened))
-        (cond y (on_quoted n e (w + 1) (quoted_of bad opened (get_or d w 0) d (w + 1))) (Faulty w)) ≡ One n' e' v k next → (n' ≡ n) × (e' ≡ e)
+        (cond y (on_quoted n e (w + 1) (quoted_of bad opened (get_or d w 0) d (w + 1))) (Faulty w)) ≡ One n' e' v k next → (n' ≡ n)
+        × (e' ≡ e)
         × (w < v) × (v ≤ k) × (k < length d) × (next ≡ k + 1)
     by true y f = let z : ◌≡◌ {A = ℕ} 0 1 = cc in absurd (omega arith)
     by false true f = on (quoted_of bad opened (get_or d w 0) d (w + 1)) refl f
     by false false f = let z : ◌≡◌ {A = ℕ} 0 1 = cc in absurd (omega arith)
 
-  equals_one : (n e m : ℕ) {n' e' v k next : ℕ} → equals_of bad d opened n e m ≡ One n' e' v k next → (n' ≡ n) × (e' ≡ e) × (m < v) × (v ≤ k)
+  equals_one : (n e m : ℕ) {n' e' v k next : ℕ} → equals_of bad d opened n e m ≡ One n' e' v k next → (n' ≡ n) × (e' ≡ e) × (m < v)
+      × (v ≤ k)
       × (k < length d) × (next ≡ k + 1)
   unfolding equals_of
   equals_one n e m {n'} {e'} {v} {k} {next} f = by (leb (length d) m) (eqb (get_or d m 0) 61) f where

@@ -7,14 +7,13 @@ use Prim.Native.Nat.{ℕ, zero, suc, ◌+◌, ◌-◌, ◌≤◌, ◌<◌}
 use native.Mathlib.Omega.{arith}
 use lib.Dec.{leb, eqb}
 use lib.ListN.{length, drop, get_or, length-append, length-drop}
-use borrow.Author.Tests.{eq-eqb, ne_eqb, eqb-true, eqb-false, le-leb, lt-leb, leb-true, leb-false}
-use Rattle.scan.specs.rule.Loop.{Next, Again, Done, loop_of}
+use borrow.Author.Tests.{eq-eqb, ne_eqb, eqb-true, eqb-false, lt-leb, leb-false}
+use Rattle.scan.specs.rule.Loop.{Next, Again}
 use Rattle.scan.proofs.Loops.{loop_again, loop_done}
 use Rattle.utf.proofs.Strides.{drop_1}
 use Rattle.markup.specs.rule.Bytes.{end_fault}
 use Rattle.markup.specs.rule.Reference.{reference_of}
 use Rattle.markup.specs.rule.Gap.{next_move}
-use Rattle.markup.specs.rule.Grammar.{Ref}
 use Rattle.markup.specs.declared.Char.{Char}
 use Rattle.markup.specs.declared.Char.TheVariants.{Is, Bad}
 use Rattle.markup.specs.declared.Skip.{Skip}
@@ -56,33 +55,36 @@ module _ (bad : Bool) (opened quote : ℕ) (d : List ℕ) where
 
   pub value_go : (p m : ℕ) → value_move bad opened quote d p ≡ Go m → Step quote d p m
   unfolding value_move
-  value_go p m e = by (leb (length d) p) (eqb (get_or d p 0) quote) (eqb (get_or d p 0) 60) (eqb (get_or d p 0) 38) refl refl refl refl e where
-    char : (r : Char) → reference_of p (drop (p + 1) d) ≡ r → leb (length d) p ≡ false → eqb (get_or d p 0) 38 ≡ true → on_value_char p r ≡ Go m
-        → Step quote d p m
-    char (Is c n) f g h e =
-        let k : n ≡ m = cc in
-        with_ref p c m (leb-false (length d) p g) (eqb-true (get_or d p 0) 38 h) (rw (← k) (reference_sound p c n (drop (p + 1) d) f))
-    char Bad f g h e = let z : ◌≡◌ {A = ℕ} 0 1 = cc in absurd (omega arith)
+  value_go p m e = by (leb (length d) p) (eqb (get_or d p 0) quote) (eqb (get_or d p 0) 60) (eqb (get_or d p 0) 38) refl refl refl refl e
+    where
+      char : (r : Char) → reference_of p (drop (p + 1) d) ≡ r → leb (length d) p ≡ false → eqb (get_or d p 0) 38 ≡ true → on_value_char p r
+          ≡ Go m
+          → Step quote d p m
+      char (Is c n) f g h e =
+          let k : n ≡ m = cc in
+          with_ref p c m (leb-false (length d) p g) (eqb-true (get_or d p 0) 38 h) (rw (← k) (reference_sound p c n (drop (p + 1) d) f))
+      char Bad f g h e = let z : ◌≡◌ {A = ℕ} 0 1 = cc in absurd (omega arith)
 
-    by : (a b c r : Bool) → leb (length d) p ≡ a → eqb (get_or d p 0) quote ≡ b → eqb (get_or d p 0) 60 ≡ c → eqb (get_or d p 0) 38 ≡ r
-        → cond a (Stop (Broken (end_fault bad p opened)))
-        (cond b (Stop (Past p)) (cond c (Stop (Broken p)) (cond r (on_value_char p (reference_of p (drop (p + 1) d))) (Go (p + 1))))) ≡ Go m
-        → Step quote d p m
-    by true b c r f g h i e = let z : ◌≡◌ {A = ℕ} 0 1 = cc in absurd (omega arith)
-    by false true c r f g h i e = let z : ◌≡◌ {A = ℕ} 0 1 = cc in absurd (omega arith)
-    by false false true r f g h i e = let z : ◌≡◌ {A = ℕ} 0 1 = cc in absurd (omega arith)
-    by false false false true f g h i e = char (reference_of p (drop (p + 1) d)) refl f i e
-    by false false false false f g h i e =
-        let l = leb-false (length d) p f in
-        let k : p + 1 ≡ m = cc in
-        record {
-          bytes = get_or d p 0 ∷ [];
-          split = drop_1 d p l ∙ rw k;
-          some = omega arith;
-          place = omega arith;
-          within = omega arith;
-          values = λ s v. plain (eqb-false (get_or d p 0) quote g) (eqb-false (get_or d p 0) 60 h) (eqb-false (get_or d p 0) 38 i) v;
-        }
+      by : (a b c r : Bool) → leb (length d) p ≡ a → eqb (get_or d p 0) quote ≡ b → eqb (get_or d p 0) 60 ≡ c → eqb (get_or d p 0) 38 ≡ r
+          → cond a (Stop (Broken (end_fault bad p opened)))
+          (cond b (Stop (Past p)) (cond c (Stop (Broken p)) (cond r (on_value_char p (reference_of p (drop (p + 1) d))) (Go (p + 1)))))
+          ≡ Go m
+          → Step quote d p m
+      by true b c r f g h i e = let z : ◌≡◌ {A = ℕ} 0 1 = cc in absurd (omega arith)
+      by false true c r f g h i e = let z : ◌≡◌ {A = ℕ} 0 1 = cc in absurd (omega arith)
+      by false false true r f g h i e = let z : ◌≡◌ {A = ℕ} 0 1 = cc in absurd (omega arith)
+      by false false false true f g h i e = char (reference_of p (drop (p + 1) d)) refl f i e
+      by false false false false f g h i e =
+          let l = leb-false (length d) p f in
+          let k : p + 1 ≡ m = cc in
+          record {
+            bytes = get_or d p 0 ∷ [];
+            split = drop_1 d p l ∙ rw k;
+            some = omega arith;
+            place = omega arith;
+            within = omega arith;
+            values = λ s v. plain (eqb-false (get_or d p 0) quote g) (eqb-false (get_or d p 0) 60 h) (eqb-false (get_or d p 0) 38 i) v;
+          }
 
   abbrev step : ℕ → Next ℕ Skip
   step p = next_move (value_move bad opened quote d p)
@@ -170,9 +172,11 @@ module _ (bad : Bool) (opened quote : ℕ) (d : List ℕ) where
 pub quoted_sound : (bad : Bool) (opened quote : ℕ) (d : List ℕ) (p k : ℕ) → quoted_of bad opened quote d p ≡ Past k → Quoted quote d p k
 quoted_sound bad opened quote d p k e = sound bad opened quote d (length d) p k (omega arith) e
 
-module _ (bad : Bool) (opened quote : ℕ) (d : List ℕ) (apart : quote ≡ 38 → ⊥) (k : ℕ) (in-file : k < length d) (ends : get_or d k 0 ≡ quote)
+module _ (bad : Bool) (opened quote : ℕ) (d : List ℕ) (apart : quote ≡ 38 → ⊥) (k : ℕ) (in-file : k < length d)
+    (ends : get_or d k 0 ≡ quote)
   where
-    complete : {u : List ℕ} → AttributeValue quote u → (p : ℕ) → drop p d ≡ u ++ drop k d → k ≡ p + length u → quoted_of bad opened quote d p
+    complete : {u : List ℕ} → AttributeValue quote u → (p : ℕ) → drop p d ≡ u ++ drop k d → k ≡ p + length u
+        → quoted_of bad opened quote d p
         ≡ Past k
     unfolding value_move
     complete empty p e f =

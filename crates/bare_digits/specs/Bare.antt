@@ -1,6 +1,9 @@
 -- A number's bytes are its digits: without the zeros in front they are what is written for it.
-use Rattle.std.specs.Prelude.{◌≡◌, refl, Bool, true, false, cond, ◌&&◌, List, [], ◌∷◌, ◌++◌, ℕ, zero, suc, ◌+◌, ◌-◌, ◌*◌, ◌/◌, ◌%◌, ◌^◌, ◌≤◌, ◌<◌, eqb, leb, ℤ, pos, take, drop, get_or}
-use Rattle.std.proofs.Common.{sym, ap, ◌∙◌, append-nil, mul-one, mul_assoc, mul-le-mul_right, lt_of_le_of_lt, div-le_self, eq-or-lt_of_le, eqb-true, eq-eqb, ne_eqb, leb-true, length-drop, length-take, take-append-drop, drop_of_length-le, drop-cons, length-take-le}
+use Rattle.std.specs.Prelude.{◌≡◌, refl, Bool, true, false, cond, ◌&&◌, List, [], ◌∷◌, ◌++◌, ℕ, zero, suc, ◌+◌, ◌-◌, ◌*◌, ◌/◌, ◌%◌, ◌^◌}
+use Rattle.std.specs.Prelude.{◌≤◌, ◌<◌, eqb, leb, ℤ, pos, take, drop, get_or}
+use Rattle.std.proofs.Common.{sym, ap, ◌∙◌, append-nil, mul-one, mul_assoc, mul-le-mul_right, lt_of_le_of_lt, div-le_self, eq-or-lt_of_le}
+use Rattle.std.proofs.Common.{eqb-true, eq-eqb, ne_eqb, leb-true, length-drop, length-take, take-append-drop, drop_of_length-le, drop-cons}
+use Rattle.std.proofs.Common.{length-take-le}
 use Rattle.std.proofs.Math.Logic.{⊎_elim}
 use Rattle.std.proofs.Math.Nat.{pow-zero, pow-succ', one-mul, le_trans, sub-zero, div-eq_of_lt-le, pow-le-pow_right}
 use native.Mathlib.Omega.{arith}

@@ -2,4 +2,3 @@
 // for places; so it is read, its table is the same but for text places and lengths, its texts decode alike, and it is its own clean text.
 // Theorems only.
 #![tactic(auto)]
-

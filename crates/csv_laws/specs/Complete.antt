@@ -1,14 +1,15 @@
 -- What the grammar derives is what is read; and every line that export writes is derived.
 use Rattle.std.specs.Prelude.{◌≡◌, refl, Bool, true, false, cond, ◌||◌, List, [], ◌∷◌, ◌++◌, ℕ, eqb}
-use Rattle.std.proofs.Common.{sym, ap, ◌∙◌, append-nil, append_assoc, arith, eq-eqb, ne_eqb, eqb-true}
+use Rattle.std.proofs.Common.{sym, ap, ◌∙◌, append-nil, append_assoc, arith, eqb-true}
 use Rattle.std.proofs.lemmas.Bool.{eqb-false}
 use Rattle.below.specs.Below.{holds_not}
 use Rattle.commas.specs.rule.Csv.{is_special, holds_special, doubled_byte, doubled, field_bytes, behind_first, line_bytes, csv_bytes}
 use Rattle.commas.specs.Csv.{field_quoted, field_plain}
-use Rattle.csv_fields.specs.rule.Page.{Page, over, torn, more, last, start, fresh, bare, ending, inside, closing, bare_step, page_step}
+use Rattle.csv_fields.specs.rule.Page.{Page, more, last, start, fresh, bare, inside, bare_step, page_step}
 use Rattle.csv_fields.specs.rule.Page.{with_byte, taken, page_at_end, page}
-use Rattle.csv_fields.specs.rule.Page.{Lines, done, broken, line, with_field, page_lines}
-use Rattle.csv_fields.specs.Page.{with_bytes, with_more, with_last, special_quote, bare_keeps, inside_keeps}
+use Rattle.csv_fields.specs.rule.Page.{Lines, line, with_field, page_lines}
+use Rattle.csv_fields.specs.Page.{with_bytes, with_more, with_last, special_quote, inside_keeps}
+use Rattle.csv_fields.proofs.Page.{bare_keeps}
 use Rattle.csv_laws.specs.rule.Grammar.{FieldSpelt, plainly, quoted, IsLine, alone, and_more, IsText, no_line, and_lines, all_of}
 
 plain_head : (b : ℕ) (f : List ℕ) → holds_special (b ∷ f) ≡ false → (is_special b ≡ false) × (holds_special f ≡ false)

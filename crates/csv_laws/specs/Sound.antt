@@ -1,10 +1,8 @@
 -- What is read is what the grammar derives; and so, both ways, a text is read as these lines exactly when the grammar derives them from it.
 use Rattle.std.specs.Prelude.{◌≡◌, refl, ◌↔◌, Bool, true, false, cond, ◌||◌, List, [], ◌∷◌, ◌++◌, ℕ, zero, suc, ◌+◌, ◌≤◌, ◌<◌, eqb, length}
 use Rattle.std.proofs.Common.{sym, ap, ◌∙◌, append_assoc, arith, eqb-true, length-append}
-use Rattle.std.proofs.lemmas.Bool.{eqb-false}
-use Rattle.below.specs.Below.{holds_not}
 use Rattle.commas.specs.rule.Csv.{is_special, holds_special, doubled_byte, doubled}
-use Rattle.csv_fields.specs.rule.Page.{Page, over, torn, more, last, PageMode, start, fresh, bare, ending, inside, closing, skip, keep}
+use Rattle.csv_fields.specs.rule.Page.{Page, torn, more, last, PageMode, start, fresh, bare, ending, inside, closing, skip, keep}
 use Rattle.csv_fields.specs.rule.Page.{comma}
 use Rattle.csv_fields.specs.rule.Page.{ended, wrong}
 use Rattle.csv_fields.specs.rule.Page.{bare_step, page_step, with_byte, taken, page_at_end, page, Lines, done, broken, line, with_field}

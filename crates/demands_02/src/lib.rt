@@ -3,4 +3,3 @@
 // filters, texts of both kinds, and comma-separated text. What their statements cite is held to the rule (tools/believe). Nothing stands
 // above it.
 #![tactic(auto)]
-

@@ -2,4 +2,3 @@
 // and
 // laws only.
 #![tactic(auto)]
-

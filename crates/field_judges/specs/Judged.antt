@@ -21,7 +21,8 @@ use Rattle.fieldlaws.specs.RisingLaws.{Rising, none, skip, keep, rising_empty, f
 use Rattle.sets.specs.Full.{EachLegal}
 use Rattle.lines.specs.rule.Text.{numeral}
 use Rattle.commas.specs.rule.Csv.{is_special, holds_special}
-use Rattle.csv_fields.specs.Page.{part, part_none, part_more, part_rest, Bared, bared_none, bared_more, bared_to, BareTo, Bounded}
+use Rattle.csv_fields.specs.Page.{part, part_none, part_more, part_rest, Bared, bared_none, bared_to, BareTo, Bounded}
+use Rattle.csv_fields.proofs.Page.{bared_more}
 use Rattle.value_fields.specs.rule.Values.{export_number, codes_behind, set_text, export_value}
 use Rattle.widths.specs.rule.Width.{decimals_of}
 use Rattle.value_fields.specs.Plain.{number_plain, set_plain, truth_plain}

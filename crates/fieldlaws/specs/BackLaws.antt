@@ -206,7 +206,8 @@ module _ (t : List ℤ) (v : ℕ) (r : Row) where
   length_members Character ms e = no_other e
   length_members Logical ms e = no_other e
 
-  length_text_by : (k : Kind) (s : List ℕ) → fits_by k t v r (text s) ≡ fits → length (bytes_by k t v r (text s)) ≡ length (places_by k t v r)
+  length_text_by : (k : Kind) (s : List ℕ) → fits_by k t v r (text s) ≡ fits → length (bytes_by k t v r (text s))
+      ≡ length (places_by k t v r)
   unfolding bytes_by fits_by places_by
   length_text_by Character s e =
       length_text r.width s (fitting r.width s (fit_legal (text_fits r.width s) e)) ∙ sym (length_run (r.start - 1) r.width)
@@ -215,7 +216,8 @@ module _ (t : List ℤ) (v : ℕ) (r : Row) where
   length_text_by (Quantity f) s e = no_other e
   length_text_by Logical s e = no_other e
 
-  length_truth_by : (k : Kind) (b : Bool) → fits_by k t v r (truth b) ≡ fits → length (bytes_by k t v r (truth b)) ≡ length (places_by k t v r)
+  length_truth_by : (k : Kind) (b : Bool) → fits_by k t v r (truth b) ≡ fits → length (bytes_by k t v r (truth b))
+      ≡ length (places_by k t v r)
   unfolding bytes_by fits_by places_by
   length_truth_by Logical b e = length_truth b
   length_truth_by Single b e = no_other e
@@ -223,7 +225,8 @@ module _ (t : List ℤ) (v : ℕ) (r : Row) where
   length_truth_by (Quantity f) b e = no_other e
   length_truth_by Character b e = no_other e
 
-  length_by : (k : Kind) → Limits k t v r → (x : Value) → fits_by k t v r x ≡ fits → length (bytes_by k t v r x) ≡ length (places_by k t v r)
+  length_by : (k : Kind) → Limits k t v r → (x : Value) → fits_by k t v r x ≡ fits → length (bytes_by k t v r x)
+      ≡ length (places_by k t v r)
   unfolding bytes_by
   length_by k l missing e = length_spaces (length (places_by k t v r))
   length_by k l (number z) e = length_number k l z e

@@ -16,7 +16,8 @@ use Rattle.fields.specs.rule.Legal.{legal}
 use Rattle.fields.specs.rule.Number.{all_spaces}
 use Rattle.fields.specs.rule.Field.{Value, missing, members, text, truth, holds, illegal, all_bits}
 use Rattle.fields.specs.rule.Field.{set_bits, bits_field, all_plain, unended, text_field, truth_field, spaces}
-use Rattle.fields.specs.rule.Row.{categories, places_by, places_of, field_by, field_of, reading_of, fits, fit_of, bytes_by, bytes_of, written_of}
+use Rattle.fields.specs.rule.Row.{categories, places_by, places_of, field_by, field_of, reading_of, fits, fit_of, bytes_by, bytes_of}
+use Rattle.fields.specs.rule.Row.{written_of}
 use Rattle.fields.specs.Facts.{RowFacts}
 use Rattle.fieldlaws.specs.PlaceLaws.{places_once, places_inside, length_bits}
 use Rattle.fieldlaws.specs.BackLaws.{Topped, bytes_many, bytes_say, missing_back, held_fits, held, illegal_holds}

@@ -1,7 +1,8 @@
 -- The bytes of a number: how many there are, and that they read back as the number.
 use Rattle.std.specs.Prelude.{◌≡◌, Bool, ℕ, zero, suc, ◌+◌, ◌-◌, ◌*◌, ◌/◌, ◌%◌, ◌^◌, ◌≤◌, ◌<◌, ℤ, pos, negsuc}
 use Rattle.std.proofs.Math.Path.{refl, ap}
-use Rattle.std.proofs.Common.{sym, ◌∙◌, add-mul, mul_assoc, add_assoc, mod-lt, mod-eq_of_lt, div-one, lt_of_lt_of_le, zero-mul, zero-add, arith, lit<, length-append}
+use Rattle.std.proofs.Common.{sym, ◌∙◌, add-mul, mul_assoc, add_assoc, mod-lt, mod-eq_of_lt, div-one, lt_of_lt_of_le, zero-mul, zero-add}
+use Rattle.std.proofs.Common.{arith, lit<, length-append}
 use Rattle.std.proofs.Math.Bool.{true, false, cond}
 use mathlib.Core.List.{List, [], ◌∷◌, ◌++◌, append-nil}
 use Rattle.std.proofs.Math.Nat.{pow-succ', div-add-mod', pow-le-pow_right, sub-zero}

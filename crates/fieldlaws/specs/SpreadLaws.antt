@@ -55,7 +55,8 @@ module _ (ok : ℤ → Bool) (w : ℕ) (wide : 1 ≤ w) (reads : (z : ℤ) → o
   unused_good : (n : ℕ) → all_entries ok w n (spread_bytes w n []) ≡ true
   unfolding all_entries spread_bytes entry_good eq_z
   unused_good zero = refl
-  unused_good (suc n) = rw (front w (pos 0) (spread_bytes w n []), others w (pos 0) (spread_bytes w n []), entry_zero w wide) (unused_good n)
+  unused_good (suc n) = rw (front w (pos 0) (spread_bytes w n []), others w (pos 0) (spread_bytes w n []), entry_zero w wide)
+      (unused_good n)
 
   bytes_good : (n : ℕ) (ms : List ℤ) → all_legal ok ms ≡ true → all_entries ok w n (spread_bytes w n ms) ≡ true
   unfolding all_entries spread_bytes entry_good

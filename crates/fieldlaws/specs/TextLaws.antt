@@ -10,7 +10,8 @@ use Rattle.std.proofs.Math.Dec.{eqb, leb, ltb}
 use Rattle.std.proofs.Math.ListN.{length}
 use Rattle.below.specs.Below.{holds_not, and_left, and_right, and_true}
 use Rattle.fields.specs.rule.Number.{all_spaces, unspaced}
-use Rattle.fields.specs.rule.Field.{text, truth, holds, all_plain, unended, text_field, truth_field, spaces, text_bytes, truth_bytes, text_fits}
+use Rattle.fields.specs.rule.Field.{text, truth, holds, all_plain, unended, text_field, truth_field, spaces, text_bytes, truth_bytes}
+use Rattle.fields.specs.rule.Field.{text_fits}
 
 -- ---- spaces
 pub length_spaces : (n : ℕ) → length (spaces n) ≡ n

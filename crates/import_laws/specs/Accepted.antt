@@ -26,7 +26,7 @@ use Rattle.files.specs.rule.File.{sound_with, file_verdict}
 use Rattle.file_laws.specs.rule.Files.{records_before, AllSound, none_yet, one_more}
 use Rattle.commas.specs.rule.Csv.{each}
 use Rattle.csv_fields.specs.rule.Page.{Page, torn, start, fresh, page, page_at_end, Lines, done, broken, line, page_lines}
-use Rattle.csv_fields.specs.Page.{start_fresh}
+use Rattle.csv_fields.proofs.Page.{start_fresh}
 use Rattle.csv_laws.specs.rule.Grammar.{IsText, all_of}
 use Rattle.csv_laws.specs.Complete.{text_read_fresh}
 use Rattle.csv_laws.specs.Sound.{text_exactly}

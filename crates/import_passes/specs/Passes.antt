@@ -10,7 +10,7 @@ use Rattle.places.specs.Laws.{pick_run, length_put, back, once_run, below_run, l
 use Rattle.fields.specs.rule.Field.{spaces}
 use Rattle.fieldlaws.specs.TextLaws.{length_spaces}
 use Rattle.csv_fields.specs.rule.Page.{Page, over, start, fresh, page, Lines, done, broken, line, page_lines}
-use Rattle.csv_fields.specs.Page.{start_fresh, start_over}
+use Rattle.csv_fields.proofs.Page.{start_fresh, start_over}
 use Rattle.import_rule.specs.rule.Line.{LineSays, builds, faulty, line_says}
 use Rattle.import_rule.specs.rule.Text.{TextSays, accepts, refuses, and_record, after_line, lines_say}
 use Rattle.import_lines.specs.declared.LineEnd.{LineEnd}

@@ -2,4 +2,3 @@
 // them, and that tables of both kinds that say the same differ only where no record rule looks. Definitions and theorems only; the demands
 // stand above it.
 #![tactic(auto)]
-

@@ -1,5 +1,6 @@
 -- What follows from rule/Appended.antt, and what the code keeps.
-use Rattle.std.specs.Prelude.{◌≡◌, refl, Bool, true, false, cond, List, [], ◌∷◌, ◌++◌, ℕ, ◌+◌, ◌-◌, ◌^◌, ◌≤◌, ◌<◌, length, set, take, drop, ℤ}
+use Rattle.std.specs.Prelude.{◌≡◌, refl, Bool, true, false, cond, List, [], ◌∷◌, ◌++◌, ℕ, ◌+◌, ◌-◌, ◌^◌, ◌≤◌, ◌<◌, length, set, take, drop}
+use Rattle.std.specs.Prelude.{ℤ}
 use Rattle.std.proofs.Common.{sym, ap, ◌∙◌, add-zero, arith, length-append, length-drop, length-set, take_all, length-take-le}
 use Rattle.places.specs.rule.Places.{put, run}
 use Rattle.ascii.specs.rule.Tens.{digits_of}
@@ -49,7 +50,8 @@ unfolding laid_at
 nothing_more out at h = record { leaves = refl; ends = sym (add-zero at); inside = h }
 
 -- ---- the digits of a count
-pub count_laid : (out : List ℕ) (at n w : ℕ) {out' : List ℕ} → at + w ≤ length out → w ≡ digits_of n → out' ≡ put out (run at w) (padded w n)
+pub count_laid : (out : List ℕ) (at n w : ℕ) {out' : List ℕ} → at + w ≤ length out → w ≡ digits_of n → out'
+    ≡ put out (run at w) (padded w n)
     → Appended out at (numeral n) out' (at + w)
 unfolding laid_at numeral
 count_laid out at n w h e p = record {

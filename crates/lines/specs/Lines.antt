@@ -88,7 +88,8 @@ module _ {list : List ℤ} {n j : ℕ} (c : Codes list n) (h : j < n) {z : ℤ} 
   pub code_ends : {out out' : List ℕ} {at at' : ℕ} → Appended out at (number_text z) out' at' → at' ≤ at + 4
   code_ends b = let f = code_length c j h in let g = b.ends in let q = ap (λ (x : ℤ). length (number_text x)) e in omega arith
 
-  pub code_step : {out out₀ whole out' out'' : List ℕ} {at at₀ at' at'' : ℕ} → Left out at (codes_after (drop j (take n list))) out₀ at₀ whole
+  pub code_step : {out out₀ whole out' out'' : List ℕ} {at at₀ at' at'' : ℕ}
+      → Left out at (codes_after (drop j (take n list))) out₀ at₀ whole
       → Appended out at (44 ∷ []) out' at' → Appended out' at' (number_text z) out'' at''
       → Left out'' at'' (codes_after (drop (j + 1) (take n list))) out₀ at₀ whole
   code_step l a b = less_left (less_left (left_as (codes_next list n j h c.many) l) a) (as_text b (ap number_text e))

@@ -13,10 +13,9 @@ use cuts::Terminator;
 use definition::Answer;
 use layout::Header;
 use listing::{Place, Turn};
-use std::fs;
 use std::fs::Files;
-use std::io;
 use std::io::{Read, Write};
+use std::{fs, io};
 
 // The most bytes that a file may have.
 const MOST: usize = 65_536;

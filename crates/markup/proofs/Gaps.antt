@@ -10,7 +10,7 @@ use lib.Seq.{drop-drop}
 use borrow.Author.Tests.{eqb-true, eqb-false, ne_eqb}
 use Rattle.markup.specs.rule.Grammar.{Note, close, plain, dash, Gap, none, white, note}
 use lib.ListN.{length, drop, get_or, drop_of_length-le, length-drop, length-append}
-use Rattle.scan.specs.rule.Loop.{Next, Again, Done, loop_of}
+use Rattle.scan.specs.rule.Loop.{Next, Again}
 use Rattle.scan.proofs.Loops.{loop_again, loop_done}
 use Rattle.utf.proofs.Strides.{drop_1}
 use Rattle.markup.specs.rule.Bytes.{is_white, stands}

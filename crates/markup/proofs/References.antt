@@ -1,20 +1,19 @@
 -- A reference, in XML's words.
 use mathlib.Core.Path.{◌≡◌, refl, sym, ap, ◌∙◌}
 use mathlib.Core.Logic.{◌↔◌}
-use mathlib.Core.Bool.{Bool, true, false, cond, ◌&&◌}
+use mathlib.Core.Bool.{Bool, true, false, cond}
 use mathlib.Core.List.{List, [], ◌∷◌, ◌++◌, append_assoc}
-use Prim.Native.Nat.{ℕ, zero, suc, ◌+◌, ◌-◌, ◌≤◌, ◌<◌}
+use Prim.Native.Nat.{ℕ, suc, ◌+◌, ◌≤◌, ◌<◌}
 use native.Mathlib.Omega.{arith}
 use lib.Dec.{ltb, leb, eqb}
 use lib.ListN.{length, drop, length-append}
 use borrow.Author.Tests.{eqb-true, ne_eqb, ltb-true, leb-true, le-leb, lt-leb}
-use Rattle.below.specs.Below.{and_right, and_left, holds_not}
+use Rattle.below.specs.Below.{and_right, holds_not}
 use Rattle.utf.specs.rule.Chars.{legal_character}
 use Rattle.markup.specs.rule.Bytes.{is_digit, is_hex, is_name, starts_name, of_kind, run_of, bytes_while, rest_of, stands}
 use Rattle.markup.specs.rule.Reference.{reference_number, held_below, digit_kind, closed_reference, named_character, numbered_of}
 use Rattle.markup.specs.rule.Reference.{reference_of}
 use Rattle.markup.specs.rule.Grammar.{Each, no_more, each, ReferenceDigits, digits, Ref, lt, gt, amp, apos, quot, decimal, hex}
-use Rattle.markup.specs.declared.Char.{Char}
 use Rattle.markup.specs.declared.Char.TheVariants.{Is, Bad}
 use Rattle.markup.proofs.Runs.{run_splits, run_long, each_bytes, small}
 use Rattle.markup.proofs.Gaps.{stands_split}
@@ -132,7 +131,8 @@ closed_is : (n c c' n' : ℕ) (r : List ℕ) → closed_reference n c r ≡ Is c
 unfolding closed_reference
 closed_is n c c' n' [] e = let z : ◌≡◌ {A = ℕ} 0 1 = cc in absurd (omega arith)
 closed_is n c c' n' (b ∷ s) e = by (eqb b 59) (legal_character c) refl refl e where
-  by : (q r : Bool) → eqb b 59 ≡ q → legal_character c ≡ r → cond q (cond r (Is c (n + 1)) (Bad)) (Bad) ≡ Is c' n' → Closed c c' n n' (b ∷ s)
+  by : (q r : Bool) → eqb b 59 ≡ q → legal_character c ≡ r → cond q (cond r (Is c (n + 1)) (Bad)) (Bad) ≡ Is c' n'
+      → Closed c c' n n' (b ∷ s)
   by true true f g e = let h = eqb-true b 59 f in record { after = s; semicolon = rw h; good = g; same = cc; next = cc }
   by true false f g e = let z : ◌≡◌ {A = ℕ} 0 1 = cc in absurd (omega arith)
   by false r f g e = let z : ◌≡◌ {A = ℕ} 0 1 = cc in absurd (omega arith)
@@ -164,7 +164,8 @@ numbered_sound h n c' n' s e =
       good = rw x k.good;
       next = omega arith;
     } where
-      some : (l : List ℕ) → Each (of_kind (digit_kind h)) l → legal_character (held_below (reference_number h 0 l)) ≡ true → ReferenceDigits h l
+      some : (l : List ℕ) → Each (of_kind (digit_kind h)) l → legal_character (held_below (reference_number h 0 l)) ≡ true
+          → ReferenceDigits h l
       some [] a g = no_zero (rw (small 0 (omega arith)) at g)
       some (b ∷ l) a g = digits a
 
@@ -239,7 +240,8 @@ no_code n (b ∷ s) = by (eqb b 59) where
   by true = refl
   by false = refl
 
-pub name_bad : (p : ℕ) (s : List ℕ) → stands (35 ∷ 120 ∷ []) s ≡ false → stands (35 ∷ []) s ≡ false → named_character s ≡ 0 → reference_of p s
+pub name_bad : (p : ℕ) (s : List ℕ) → stands (35 ∷ 120 ∷ []) s ≡ false → stands (35 ∷ []) s ≡ false → named_character s ≡ 0
+    → reference_of p s
     ≡ Bad
 unfolding reference_of
 name_bad p s f g h = rw (f, g, h) (no_code (run_of (of_kind 1) (p + 1) s) (rest_of (of_kind 1) s))
@@ -278,7 +280,8 @@ reference_sound p c n s e = by (stands (35 ∷ 120 ∷ []) s) (stands (35 ∷ []
 
   by : (q r : Bool) → stands (35 ∷ 120 ∷ []) s ≡ q → stands (35 ∷ []) s ≡ r
       → cond q (numbered_of true (p + 3) (drop 2 s))
-      (cond r (numbered_of false (p + 2) (drop 1 s)) (closed_reference (run_of (of_kind 1) (p + 1) s) (named_character s) (rest_of (of_kind 1) s)))
+      (cond r (numbered_of false (p + 2) (drop 1 s))
+      (closed_reference (run_of (of_kind 1) (p + 1) s) (named_character s) (rest_of (of_kind 1) s)))
       ≡ Is c n
       → Referred s p c n
   by true r f g e = let x = stands_split (35 ∷ 120 ∷ []) s f in

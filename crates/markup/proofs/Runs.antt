@@ -1,19 +1,17 @@
 -- Runs, given bytes and digits, one byte on.
 use mathlib.Core.Path.{◌≡◌, refl, sym, ap, ◌∙◌}
-use mathlib.Core.Bool.{Bool, true, false, cond, ◌&&◌}
+use mathlib.Core.Bool.{Bool, true, false, cond}
 use mathlib.Core.List.{List, [], ◌∷◌, ◌++◌}
-use Prim.Native.Nat.{ℕ, zero, suc, ◌+◌, ◌*◌, ◌-◌, ◌≤◌, ◌<◌}
-use native.Mathlib.Nat.{add-zero}
+use Prim.Native.Nat.{ℕ, ◌+◌, ◌≤◌, ◌<◌}
 use native.Mathlib.Omega.{arith}
-use lib.Dec.{ltb, eqb}
+use lib.Dec.{ltb}
 use lib.ListN.{length, drop, get_or, drop_of_length-le, length-drop}
 use lib.Seq.{drop-drop, drop_at, get_or-drop}
-use borrow.Author.Tests.{eq-eqb, ne_eqb, ltb-true, ltb-false, lt-ltb, le-ltb}
+use borrow.Author.Tests.{eq-eqb, ne_eqb, ltb-true, ltb-false, le-ltb}
 use Rattle.utf.proofs.Strides.{drop_1}
 use Rattle.markup.specs.rule.Bytes.{of_kind, run_of, bytes_while, rest_of, stands}
 use Rattle.markup.specs.rule.Grammar.{Each, no_more, each}
 use Rattle.markup.specs.rule.Reference.{push_of, reference_number, held_below, digit_kind, reference_figure}
-use Rattle.markup.specs.declared.Figure.{Figure}
 
 -- ---- bytes that stand at a place: the first of them, and what follows them
 pub first_at : (d : List ℕ) (p b : ℕ) (t : List ℕ) → drop p d ≡ b ∷ t → (p < length d) × (get_or d p 0 ≡ b)
@@ -136,7 +134,8 @@ module _ (hex : Bool) (v : ℕ) (d : List ℕ) (p : ℕ) where
   pub figure_next : p < length d → of_kind (digit_kind hex) (get_or d p 0) ≡ true
       → reference_figure hex v p (drop p d) ≡ reference_figure hex (held_below (push_of hex v (get_or d p 0))) (p + 1) (drop (p + 1) d)
   unfolding reference_figure run_of bytes_while reference_number
-  figure_next h e = rw (drop_1 d p h, e) (rw (held hex (push_of hex v (get_or d p 0)) (bytes_while (of_kind (digit_kind hex)) (drop (p + 1) d))))
+  figure_next h e = rw (drop_1 d p h, e) (rw (held hex (push_of hex v (get_or d p 0))
+      (bytes_while (of_kind (digit_kind hex)) (drop (p + 1) d))))
 
   pub figure_over : p < length d → of_kind (digit_kind hex) (get_or d p 0) ≡ false → v ≤ 2000000 → reference_figure hex v p (drop p d)
       ≡ record { value = v; next = p }

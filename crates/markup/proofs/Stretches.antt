@@ -1,6 +1,6 @@
 -- A run, in words: bytes from a place to another that all pass, behind which one stands that doesn't.
 use mathlib.Core.Path.{◌≡◌, refl, sym, ap, ◌∙◌}
-use mathlib.Core.Bool.{Bool, true, false}
+use mathlib.Core.Bool.{Bool, false}
 use mathlib.Core.List.{List, [], ◌∷◌, ◌++◌}
 use Prim.Native.Nat.{ℕ, ◌+◌, ◌<◌}
 use native.Mathlib.Omega.{arith}
@@ -35,5 +35,6 @@ run_to f d q h l (each {b} {s} t r) p e k =
     run_next f d p i.0 (rw i.1 t)
     ∙ run_to f d q h l r (p + 1) (onward d p 1 (b ∷ []) (s ++ drop q d) e refl) (omega arith)
 
-pub stretch_run : (f : ℕ → Bool) (d : List ℕ) (p q : ℕ) → Stretch f d p q → f (get_or d q 0) ≡ false → q < length d → run_of f p (drop p d) ≡ q
+pub stretch_run : (f : ℕ → Bool) (d : List ℕ) (p q : ℕ) → Stretch f d p q → f (get_or d q 0) ≡ false → q < length d → run_of f p (drop p d)
+    ≡ q
 stretch_run f d p q s h l = run_to f d q h l s.passes p s.split s.place

@@ -46,7 +46,14 @@ fn newline(rt: &impl Print) -> io::Result<()> {
 }
 
 // One write, its answer and the record after it.
-fn put(rt: &impl Print, row: usize, value: Value, list: &[i64], text: &[u8], record: &mut [u8]) -> io::Result<()> {
+fn put(
+    rt: &impl Print,
+    row: usize,
+    value: Value,
+    list: &[i64],
+    text: &[u8],
+    record: &mut [u8],
+) -> io::Result<()> {
     let table = TABLE;
     let answer = number(writes::write_value(&table, row, value, list, text, record));
     say(rt, &answer)?;

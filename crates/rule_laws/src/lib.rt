@@ -2,4 +2,3 @@
 // which values a row takes, the width w, a file's terminator, a statement judged, tokens that are due. Theorems only; nothing stands above
 // it.
 #![tactic(auto)]
-

@@ -1,12 +1,11 @@
 -- A row's places by its kind, and their room in the stamps.
-use mathlib.Core.Path.{◌≡◌, refl, sym, ap, subst, ◌∙◌}
+use mathlib.Core.Path.{◌≡◌, refl, sym, subst, ◌∙◌}
 use mathlib.Core.Bool.{Bool, true, false}
-use mathlib.Core.List.{List, []}
-use Prim.Native.Nat.{ℕ, zero, suc, ◌+◌, ◌-◌, ◌*◌, ◌≤◌, ◌<◌}
+use mathlib.Core.List.{List}
+use Prim.Native.Nat.{ℕ, zero, suc, ◌+◌, ◌-◌, ◌*◌, ◌≤◌}
 use native.Mathlib.Omega.{arith}
 use lib.IntN.{ℤ}
-use lib.ListN.{length, get_or, replicate}
-use Rattle.below.specs.rule.Below.{all_below}
+use lib.ListN.{get_or, replicate}
 use Rattle.layout.specs.declared.Row.{Row}
 use Rattle.layout.specs.declared.Format.{Format}
 use Rattle.layout.specs.declared.Kind.{Kind}

@@ -1,12 +1,12 @@
 -- Places claimed for a row: each gets the row's stamp, unless it has another's. What holds of one place, and of places after places.
-use Rattle.std.specs.Prelude.{◌≡◌, Bool, cond, not, ◌&&◌, ◌||◌, ℕ, zero, suc, ◌+◌, ◌≤◌, ◌<◌, eqb, length, get_or, set}
+use Rattle.std.specs.Prelude.{◌≡◌, Bool, cond, not, ◌&&◌, ◌||◌, ℕ, ◌<◌, eqb, length, get_or, set}
 use Rattle.std.proofs.Math.Path.{refl}
-use Rattle.std.proofs.Common.{sym, ap, ◌∙◌, arith, eqb-true, eq-eqb, ne_eqb, get_or-set_same, get_or-set_other}
+use Rattle.std.proofs.Common.{sym, ◌∙◌, eqb-true, eq-eqb, ne_eqb, get_or-set_same, get_or-set_other}
 use Rattle.std.proofs.Math.Bool.{true, false}
 use mathlib.Core.List.{List, [], ◌∷◌, ◌++◌}
 use Rattle.std.proofs.lemmas.Bool.{eqb-false}
-use Rattle.below.specs.Below.{and_true, and_left, and_right, same_bool, decided, holds_not, or_true}
-use Rattle.sharing.specs.rule.Sharing.{is_out, are_apart}
+use Rattle.below.specs.Below.{and_true, and_left, and_right, same_bool, holds_not, or_true}
+use Rattle.sharing.specs.rule.Sharing.{is_out}
 
 -- ---- a place among places
 pub out_both : (q : ℕ) (ps qs : List ℕ) → is_out q (ps ++ qs) ≡ (is_out q ps && is_out q qs)

@@ -1,5 +1,5 @@
 -- Rows that follow one another share no value place: those of a row lie in its position.
-use Rattle.std.specs.Prelude.{◌≡◌, Bool, true, false, ◌&&◌, List, ℤ}
+use Rattle.std.specs.Prelude.{◌≡◌, true, false, List, ℤ}
 use Rattle.std.proofs.Common.{sym, ◌∙◌, ⊎_elim, eq-or-lt_of_le, arith}
 use Prim.Native.Nat.{ℕ, zero, suc, ◌+◌, ◌-◌, ◌*◌, ◌≤◌, ◌<◌}
 use Rattle.std.proofs.Math.Nat.{suc-mul}
@@ -13,8 +13,8 @@ use Rattle.layout.specs.declared.Spread.TheVariants.{Bits, Fields}
 use Rattle.places.specs.rule.Places.{run}
 use Rattle.fields.specs.rule.Legal.{legal}
 use Rattle.fields.specs.rule.Row.{spread_places, places_by}
-use Rattle.fields.specs.Facts.{KindFacts, RowFacts}
-use Rattle.sharing.specs.rule.Sharing.{is_out, are_apart, places_at, shares_none}
+use Rattle.fields.specs.Facts.{KindFacts}
+use Rattle.sharing.specs.rule.Sharing.{is_out, are_apart, places_at}
 use Rattle.sharing.specs.Claims.{by_cases, none_out, out_both}
 use Rattle.sharing.specs.Known.{TableKnown, in_run, in_bits}
 use Rattle.sharing.specs.Pairs.{apart_of, apart_before}

@@ -1,18 +1,16 @@
 -- What a row must give for its value places to be claimed; a bitstring's places as those of its range and those of its lines.
-use Rattle.std.specs.Prelude.{◌≡◌, Bool, cond, not, ◌&&◌, ◌||◌, List, [], ◌∷◌, ◌++◌, eqb, leb, ℤ, negsuc, length, get_or}
+use Rattle.std.specs.Prelude.{◌≡◌, Bool, cond, ◌&&◌, List, [], ◌∷◌, ◌++◌, ℤ, negsuc, length}
 use Rattle.std.proofs.Math.Path.{refl, ap}
-use Rattle.std.proofs.Common.{sym, subst, ◌∙◌, eqb-true, eq-eqb, ne_eqb, leb-true, le-leb}
+use Rattle.std.proofs.Common.{sym, subst, ◌∙◌, leb-true, le-leb}
 use Rattle.std.proofs.Math.Bool.{true, false}
 use Rattle.std.proofs.Math.Logic.{⊎_elim}
-use Prim.Native.Nat.{ℕ, zero, suc, ◌+◌, ◌-◌, ◌*◌, ◌≤◌, ◌<◌}
+use Prim.Native.Nat.{ℕ, zero, suc, ◌+◌, ◌-◌, ◌≤◌, ◌<◌}
 use native.Mathlib.Omega.{arith}
-use Rattle.std.proofs.lemmas.Bool.{eqb-false}
 use Rattle.std.proofs.Math.IntN.{pos}
 use Rattle.std.specs.Int.Signed.{le_z}
-use Rattle.below.specs.rule.Below.{all_below, any_below}
-use Rattle.below.specs.Below.{any_holds, any_some, lt_or_le, and_true, and_left, and_right, decided, holds_not, either_true, or_true}
+use Rattle.below.specs.Below.{any_holds, any_some, lt_or_le, and_left, and_right, either_true, or_true}
 use Rattle.cells.specs.rule.Cell.{cell, count_of, eq_z, signed_of}
-use Rattle.cells.specs.Cell.{same_true, same_self, count_is}
+use Rattle.cells.specs.Cell.{same_true, same_self}
 use Rattle.cells.specs.Order.{le_self, le_join}
 use Rattle.layout.specs.rule.Layout.{most_rows, lines_base, line_base}
 use Rattle.layout.specs.rule.Row.{row_at}
@@ -21,7 +19,7 @@ use Rattle.layout.specs.declared.Kind.{Kind}
 use Rattle.layout.specs.declared.Kind.TheVariants.{Multiple}
 use Rattle.layout.specs.declared.Spread.TheVariants.{Bits}
 use Rattle.places.specs.rule.Places.{run}
-use Rattle.widths.specs.rule.Width.{need, lowest, highest}
+use Rattle.widths.specs.rule.Width.{need, lowest}
 use Rattle.fields.specs.rule.Legal.{line_value, in_range, on_line, legal}
 use Rattle.fields.specs.rule.Row.{defined, bit_places, categories}
 use Rattle.fields.specs.Facts.{LineFacts, WidthFacts, KindFacts, RowFacts}
@@ -109,7 +107,8 @@ module _ (ok : ℤ → Bool) (p : ℕ) where
       (λ y. out_cases q (p + (c - 1)) (bit_places p (defined ok (suc c) n)) (rw y at e) (λ z. f c (omega arith) (omega arith) y z) later)
       (λ y. later (rw y at e))
 
-  bits_there : (q c : ℕ) (cs : List ℕ) (b : Bool) → is_out q (bit_places p cs) ≡ false → is_out q (bit_places p (cond b (c ∷ cs) cs)) ≡ false
+  bits_there : (q c : ℕ) (cs : List ℕ) (b : Bool) → is_out q (bit_places p cs) ≡ false → is_out q (bit_places p (cond b (c ∷ cs) cs))
+      ≡ false
   unfolding bit_places
   bits_there q c cs true x = out_there q (p + (c - 1)) (bit_places p cs) x
   bits_there q c cs false x = x

@@ -1,12 +1,13 @@
 -- Rows claimed one after the other: the stamps tell the places of the rows before, and a claim is refused just where a row before
 -- shares one of them.
-use Rattle.std.specs.Prelude.{◌≡◌, refl, Bool, true, false, cond, not, ◌&&◌, ◌||◌, List, [], ◌∷◌, ℕ, zero, suc, ◌+◌, ◌≤◌, ◌<◌, eqb, ℤ, length, get_or}
+use Rattle.std.specs.Prelude.{◌≡◌, refl, Bool, true, false, cond, not, ◌&&◌, ◌||◌, List, [], ◌∷◌, ℕ, ◌+◌, ◌≤◌, ◌<◌, eqb, ℤ}
+use Rattle.std.specs.Prelude.{get_or}
 use Rattle.std.proofs.Math.Path.{sym}
-use Rattle.std.proofs.Common.{ap, ◌∙◌, eqb-true, eq-eqb, ne_eqb}
+use Rattle.std.proofs.Common.{◌∙◌, eq-eqb, ne_eqb}
 use native.Mathlib.Omega.{arith}
-use Rattle.std.proofs.lemmas.Bool.{eqb-false}
 use Rattle.below.specs.rule.Below.{all_below}
-use Rattle.below.specs.Below.{all_none, all_more, all_next, all_fails, all_at_lem, all_of, and_true, and_left, and_right, same_bool, decided}
+use Rattle.below.specs.Below.{all_none, all_next, all_fails, all_at_lem, all_of, and_true, and_left, and_right, same_bool}
+use Rattle.below.specs.Below.{decided}
 use Rattle.below.specs.Below.{holds_not}
 use Rattle.places.specs.rule.Places.{Out, Apart}
 use Rattle.sharing.specs.rule.Sharing.{is_out, are_apart, places_at, shares_none}

@@ -7,8 +7,8 @@ use Prim.Native.Nat.{ℕ, zero, suc, ◌+◌, ◌-◌, ◌≤◌, ◌<◌}
 use native.Mathlib.Omega.{arith}
 use lib.Dec.{leb, eqb}
 use lib.ListN.{length, drop, get_or, length-append, length-drop, drop_of_length-le}
-use borrow.Author.Tests.{eq-eqb, ne_eqb, eqb-true, eqb-false, le-leb, lt-leb, leb-true, leb-false}
-use Rattle.scan.specs.rule.Loop.{Next, Again, Done, loop_of}
+use borrow.Author.Tests.{ne_eqb, eqb-true, eqb-false, le-leb, lt-leb, leb-true, leb-false}
+use Rattle.scan.specs.rule.Loop.{Next, Again}
 use Rattle.scan.proofs.Loops.{loop_again, loop_done}
 use Rattle.utf.proofs.Strides.{drop_1}
 use Rattle.markup.specs.rule.Bytes.{stands}
@@ -20,7 +20,7 @@ use Rattle.markup.specs.declared.Skip.{Skip}
 use Rattle.markup.specs.declared.Skip.TheVariants.{Past, Broken}
 use Rattle.markup.proofs.Runs.{first_at, onward}
 use Rattle.markup.proofs.References.{Referred, reference_sound, reference_complete}
-use Rattle.markup.proofs.Gaps.{Noted, comment_sound, comment_complete, stands_split}
+use Rattle.markup.proofs.Gaps.{comment_sound, comment_complete, stands_split}
 use Rattle.spans.specs.rule.Heard.{Says, nothing, plain, refer, note, of_char, of_note, noted_of, part_of, of_part, first_heard, Heard, All}
 use Rattle.spans.specs.rule.Heard.{Ill, after, on_first, heard_by, heard}
 use Rattle.spans.specs.declared.First.{First}

@@ -1,13 +1,13 @@
 -- Numbers over the characters of a stretch, one digit on, and in the paper's words.
 use mathlib.Core.Path.{◌≡◌, refl, sym, ap, ◌∙◌}
 use mathlib.Core.Logic.{◌↔◌}
-use mathlib.Core.Bool.{Bool, true, false, cond, ◌&&◌}
+use mathlib.Core.Bool.{Bool, true, false, cond}
 use mathlib.Core.List.{List, [], ◌∷◌}
-use Prim.Native.Nat.{ℕ, zero, suc, ◌+◌, ◌*◌, ◌-◌, ◌≤◌, ◌<◌}
+use Prim.Native.Nat.{ℕ, suc, ◌+◌, ◌*◌, ◌-◌, ◌≤◌}
 use native.Mathlib.Omega.{arith}
 use lib.Dec.{ltb, eqb}
 use lib.ListN.{length}
-use borrow.Author.Tests.{eq-eqb, ne_eqb, eqb-false, ltb-true, ltb-false, le-ltb}
+use borrow.Author.Tests.{ne_eqb, eqb-false, ltb-true, ltb-false, le-ltb}
 use Rattle.scan.specs.rule.Number.{decimal_of}
 use Rattle.scan.specs.Number.{capped, push_of}
 use Rattle.markup.specs.rule.Bytes.{is_digit}
@@ -16,7 +16,6 @@ use Rattle.spans.specs.declared.First.TheVariants.{One, End, Not}
 use Rattle.spans.proofs.Hearing.{heard_one, heard_end, heard_not, heard_exactly}
 use Rattle.spans.specs.rule.Says.{each_char}
 use Rattle.spans.specs.Figures.{figures_after, figures_of}
-use Rattle.spans.specs.declared.Figures.{Figures}
 use Rattle.spans.specs.declared.Figures.TheVariants.{Good, Wrong}
 
 -- ---- held values

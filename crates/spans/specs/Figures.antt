@@ -1,5 +1,5 @@
 -- THE CODE'S BOOKS: numbers are held at 10 ^ 15, as scan holds them.
-use Rattle.std.specs.Prelude.{cond, List, [], ℕ, ◌+◌, eqb, length}
+use Rattle.std.specs.Prelude.{cond, ℕ, ◌+◌, eqb, length}
 use Rattle.scan.specs.rule.Number.{decimal_of}
 use Rattle.scan.specs.Number.{capped}
 use Rattle.markup.specs.rule.Bytes.{is_digit}
@@ -11,7 +11,8 @@ use Rattle.spans.specs.declared.Figures.TheVariants.{Good, Wrong}
 -- ---- a number: digits, one or more; what they say is held at 10 ^ 15, which every limit lies below
 -- after digits that said v and were k
 unfoldable pub figures_after : ℕ → ℕ → Heard → Figures
-figures_after v k (All cs) = cond (each_char is_digit cs) (cond (eqb (k + length cs) 0) Wrong (Good (capped (decimal_of v cs)) (k + length cs)))
+figures_after v k (All cs) = cond (each_char is_digit cs)
+    (cond (eqb (k + length cs) 0) Wrong (Good (capped (decimal_of v cs)) (k + length cs)))
     Wrong
 figures_after v k Ill = Wrong
 

@@ -4,12 +4,11 @@ use mathlib.Core.Logic.{◌↔◌}
 use mathlib.Core.Bool.{Bool, true, false, cond, ◌&&◌, and-false}
 use mathlib.Core.List.{List, [], ◌∷◌, ◌++◌, append_assoc}
 use Prim.Native.Nat.{ℕ, zero, suc, ◌+◌, ◌*◌, ◌-◌, ◌≤◌, ◌<◌}
-use native.Mathlib.Nat.{add-zero}
 use native.Mathlib.Omega.{arith}
-use lib.Dec.{ltb, leb, eqb}
+use lib.Dec.{ltb, leb}
 use lib.ListN.{length, drop, length-append, length-drop}
 use lib.Seq.{drop_at, drop-drop}
-use borrow.Author.Tests.{lt-ltb, le-ltb, le-leb, ltb-true, ltb-false, leb-true, eqb-true, eqb-false}
+use borrow.Author.Tests.{lt-ltb, le-ltb, le-leb, ltb-true, ltb-false, leb-true}
 use Rattle.below.specs.Below.{and_left, and_right}
 use Rattle.utf.specs.rule.Chars.{legal_character, Spelt, latin, one, two, three, four, Chars, none, more, NoneAt, Cut}
 use Rattle.utf.specs.rule.Cut.{plain_of, follows, valid_pair, triple_of, valid_four, two_in, three_in, four_in, long_of, character_width}
@@ -237,7 +236,8 @@ module _ (l : Bool) (d : List ℕ) where
       rw b (record { chars = []; bytes = []; legals = none; split = refl; place = omega arith; over = none_at l (drop p d) e })
 
   -- a character, and what follows it
-  then : (p k : ℕ) → Found l (drop p d) (suc k) → first_bad l d p ≡ first_bad l d (p + suc k) → Cut l d (p + suc k) (first_bad l d (p + suc k))
+  then : (p k : ℕ) → Found l (drop p d) (suc k) → first_bad l d p ≡ first_bad l d (p + suc k)
+      → Cut l d (p + suc k) (first_bad l d (p + suc k))
       → Cut l d p (first_bad l d p)
   then p k f b c =
       let o : drop (p + suc k) d ≡ f.rest = onward p (suc k) f.bytes f.rest f.split f.long in

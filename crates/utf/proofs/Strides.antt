@@ -1,5 +1,5 @@
 -- The first bad place from a character on, from a place without one, and past sixteen plain bytes.
-use mathlib.Core.Path.{◌≡◌, refl, sym, ap, ◌∙◌}
+use mathlib.Core.Path.{◌≡◌, refl, ◌∙◌}
 use mathlib.Core.Bool.{Bool, true, false, cond}
 use mathlib.Core.List.{List, [], ◌∷◌}
 use Prim.Native.Nat.{ℕ, zero, suc, ◌+◌, ◌-◌, ◌≤◌, ◌<◌}
@@ -9,9 +9,9 @@ use native.Mathlib.Omega.{arith}
 use lib.Dec.{ltb, eqb}
 use lib.ListN.{length, drop, get_or, length-drop, drop_of_length-le}
 use lib.Seq.{drop-cons}
-use borrow.Author.Tests.{eq-eqb, ne_eqb, eqb-true, eqb-false, ltb-true}
+use borrow.Author.Tests.{eq-eqb, ne_eqb, eqb-false}
 use Rattle.below.specs.Below.{all_at_lem}
-use Rattle.scan.specs.rule.Loop.{Next, Again, Done, loop_of}
+use Rattle.scan.specs.rule.Loop.{Again, Done}
 use Rattle.scan.proofs.Loops.{loop_again, loop_done}
 use Rattle.utf.specs.rule.Cut.{plain_of, valid_pair, triple_of, valid_four, two_in, three_in, four_in, long_of, character_width, bad_step}
 use Rattle.utf.specs.rule.Cut.{first_bad}
@@ -138,7 +138,8 @@ module _ (l : Bool) (d : List ℕ) where
       let w = width_plain p h e in
       bad_next p (λ z. let o : ◌≡◌ {A = ℕ} 0 1 = cc in omega arith) ∙ rw w
 
-  plains : (p n : ℕ) → p + n ≤ length d → ((k : ℕ) → k < n → plain_of l (get_or d (p + k) 0) ≡ true) → first_bad l d p ≡ first_bad l d (p + n)
+  plains : (p n : ℕ) → p + n ≤ length d → ((k : ℕ) → k < n → plain_of l (get_or d (p + k) 0) ≡ true) → first_bad l d p
+      ≡ first_bad l d (p + n)
   plains p zero h g = rw (add-zero p)
   plains p (suc n) h g =
       let e : p + n + 1 ≡ p + suc n = omega arith in

@@ -147,7 +147,14 @@ fn table_size(rows: usize, lines: usize) -> usize {
 }
 
 // ---- the cases
-fn put_read(rt: &impl Print, out: &mut [u8], at: usize, table: &[i64], rows: usize, lines: usize) -> io::Result<usize> {
+fn put_read(
+    rt: &impl Print,
+    out: &mut [u8],
+    at: usize,
+    table: &[i64],
+    rows: usize,
+    lines: usize,
+) -> io::Result<usize> {
     let used = bounded(table_size(rows, lines), table.len());
     let mut n = put_all(rt, out, at, b"read ")?;
     n = put_count(rt, out, n, rows as u64)?;
@@ -157,14 +164,27 @@ fn put_read(rt: &impl Print, out: &mut [u8], at: usize, table: &[i64], rows: usi
     put_table(rt, out, n, &table[..used])
 }
 
-fn put_refused(rt: &impl Print, out: &mut [u8], at: usize, number: usize, place: usize, kept: bool) -> io::Result<usize> {
+fn put_refused(
+    rt: &impl Print,
+    out: &mut [u8],
+    at: usize,
+    number: usize,
+    place: usize,
+    kept: bool,
+) -> io::Result<usize> {
     let mut n = put_count(rt, out, at, number as u64)?;
     n = put(rt, out, n, b' ')?;
     n = put_count(rt, out, n, place as u64)?;
     put_held(rt, out, n, kept)
 }
 
-fn put_signs(rt: &impl Print, out: &mut [u8], at: usize, list: &[i64], count: usize) -> io::Result<usize> {
+fn put_signs(
+    rt: &impl Print,
+    out: &mut [u8],
+    at: usize,
+    list: &[i64],
+    count: usize,
+) -> io::Result<usize> {
     let used = bounded(count, list.len());
     let mut n = put_all(rt, out, at, b"text ")?;
     n = put_count(rt, out, n, used as u64)?;
@@ -172,13 +192,26 @@ fn put_signs(rt: &impl Print, out: &mut [u8], at: usize, list: &[i64], count: us
     put_table(rt, out, n, &list[..used])
 }
 
-fn put_no_text(rt: &impl Print, out: &mut [u8], at: usize, list: &[i64], number: u64) -> io::Result<usize> {
+fn put_no_text(
+    rt: &impl Print,
+    out: &mut [u8],
+    at: usize,
+    list: &[i64],
+    number: u64,
+) -> io::Result<usize> {
     let n = put_count(rt, out, at, number)?;
     put_held(rt, out, n, held(list, 0))
 }
 
 // A text of the definition decoded, by its place and length.
-fn run_text(rt: &impl Print, out: &mut [u8], at: usize, d: &[u8], h: Head, list: &mut [i64]) -> io::Result<usize> {
+fn run_text(
+    rt: &impl Print,
+    out: &mut [u8],
+    at: usize,
+    d: &[u8],
+    h: Head,
+    list: &mut [i64],
+) -> io::Result<usize> {
     fill(list);
     match decoding::decode_text(d, h.place, h.long, list) {
         Decoded::Signs(count) => put_signs(rt, out, at, list, count),
@@ -187,7 +220,13 @@ fn run_text(rt: &impl Print, out: &mut [u8], at: usize, d: &[u8], h: Head, list:
     }
 }
 
-fn put_clean(rt: &impl Print, out: &mut [u8], at: usize, page: &[u8], count: usize) -> io::Result<usize> {
+fn put_clean(
+    rt: &impl Print,
+    out: &mut [u8],
+    at: usize,
+    page: &[u8],
+    count: usize,
+) -> io::Result<usize> {
     let used = bounded(count, page.len());
     let mut n = put_all(rt, out, at, b"clean ")?;
     n = put_count(rt, out, n, used as u64)?;
@@ -196,12 +235,20 @@ fn put_clean(rt: &impl Print, out: &mut [u8], at: usize, page: &[u8], count: usi
 }
 
 // The definition written clean, with the table that was read of it, if it has room.
-fn run_clean(rt: &impl Print, out: &mut [u8], at: usize, d: &[u8], h: Head, table: &[i64]) -> io::Result<usize> {
+fn run_clean(
+    rt: &impl Print,
+    out: &mut [u8],
+    at: usize,
+    d: &[u8],
+    h: Head,
+    table: &[i64],
+) -> io::Result<usize> {
     let mut room = [BLANK; 4096];
     let page = &mut room[..bounded(h.long, 4096)];
     match clean::write_definition(d, table, page) {
         Written::Done(count) => put_clean(rt, out, at, page, count),
-        Written::Refused { number, place } => put_refused(rt,
+        Written::Refused { number, place } => put_refused(
+            rt,
             out,
             at,
             number,
@@ -211,7 +258,14 @@ fn run_clean(rt: &impl Print, out: &mut [u8], at: usize, d: &[u8], h: Head, tabl
     }
 }
 
-fn run_read(rt: &impl Print, out: &mut [u8], at: usize, d: &[u8], h: Head, table: &mut [i64]) -> io::Result<usize> {
+fn run_read(
+    rt: &impl Print,
+    out: &mut [u8],
+    at: usize,
+    d: &[u8],
+    h: Head,
+    table: &mut [i64],
+) -> io::Result<usize> {
     fill(table);
     let read = kinds::read_definition(d, table);
     if h.clean {
@@ -219,11 +273,25 @@ fn run_read(rt: &impl Print, out: &mut [u8], at: usize, d: &[u8], h: Head, table
     }
     match read {
         Answer::Read { rows, lines } => put_read(rt, out, at, table, rows, lines),
-        Answer::Refused { number, place } => put_refused(rt, out, at, number, place, held(table, 0)),
+        Answer::Refused { number, place } => put_refused(
+            rt,
+            out,
+            at,
+            number,
+            place,
+            held(table, 0),
+        ),
     }
 }
 
-fn run_case(rt: &impl Print, out: &mut [u8], at: usize, d: &[u8], h: Head, table: &mut [i64]) -> io::Result<usize> {
+fn run_case(
+    rt: &impl Print,
+    out: &mut [u8],
+    at: usize,
+    d: &[u8],
+    h: Head,
+    table: &mut [i64],
+) -> io::Result<usize> {
     if h.decode {
         return run_text(rt, out, at, d, h, table);
     }
@@ -326,7 +394,8 @@ fn either(q: bool, a: usize, b: usize) -> usize {
 }
 
 // The case that starts at a place: `LEN ROOM`, `LEN ROOM PLACE LENGTH` or `LEN ROOM OUTPUT`, LF, the definition, LF.
-fn one_case(rt: &impl Print,
+fn one_case(
+    rt: &impl Print,
     text: &[u8],
     at: usize,
     case: usize,

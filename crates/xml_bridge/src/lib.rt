@@ -2,4 +2,3 @@
 // the
 // readers of XML blocks and sheets.
 #![tactic(auto)]
-

@@ -2,4 +2,3 @@
 // stands inside in the order of the table, an end tag, by places in the file. Definitions only, and no reader; crate `xml_derivation_laws`
 // above it proves that a definition is read exactly so.
 #![tactic(auto)]
-

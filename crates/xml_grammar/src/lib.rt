@@ -2,4 +2,3 @@
 // knows nothing but this data and what each element says. Definitions and theorems only; the derivations over it (`xml_derivations`) stand
 // above it.
 #![tactic(auto)]
-

@@ -2,4 +2,3 @@
 // refused, with its number and place. Definitions only; crate `reading` has those of 1.1. Above it stand the readers of the XML road
 // (`elements`, `blocks`, `filters`, `prefaces`, `sheets`) and the call that reads both kinds.
 #![tactic(auto)]
-

@@ -2,4 +2,3 @@
 // what stands before is derived with nothing charged, and there it stops. Definitions and theorems only; the final page `demands_02` stands
 // above it.
 #![tactic(auto)]
-

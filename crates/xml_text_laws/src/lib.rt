@@ -2,4 +2,3 @@
 // says; and a sample that is derived. Theorems only, over the derivations of crate `xml_derivations`; the final page `demands_02` stands
 // above it.
 #![tactic(auto)]
-

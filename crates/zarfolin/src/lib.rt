@@ -423,12 +423,7 @@ pub fn zarfolin_judge_part(
 }
 
 // Writes a data file as a matrix of 64-bit floats: header, summaries, presence bytes, values.
-pub fn zarfolin_matrix(
-    table: &[i64],
-    d: &[u8],
-    out: &mut [u8],
-    answer: &mut [i64; 4],
-) -> u64
+pub fn zarfolin_matrix(table: &[i64], d: &[u8], out: &mut [u8], answer: &mut [i64; 4]) -> u64
     ensures { MatrixTold table.now d.now out.old out.new answer.new result }
 {
     tell(answer, matrix_cells(matrices::write_matrix(table, d, out)))
@@ -467,11 +462,7 @@ pub fn zarfolin_import(
 }
 
 // Reads a definition, 1.1 or XML, into a table.
-pub fn zarfolin_read_definition(
-    d: &[u8],
-    table: &mut [i64],
-    answer: &mut [i64; 4],
-) -> u64
+pub fn zarfolin_read_definition(d: &[u8], table: &mut [i64], answer: &mut [i64; 4]) -> u64
     ensures { DefinitionTold d.now table.old table.new answer.new result }
 {
     tell(answer, definition_cells(kinds::read_definition(d, table)))
@@ -528,12 +519,7 @@ pub fn zarfolin_write_missing(table: &[i64], row: u64, bytes: &mut [u8]) -> u64
 }
 
 // Writes a number, scaled.
-pub fn zarfolin_write_number(
-    table: &[i64],
-    row: u64,
-    number: i64,
-    bytes: &mut [u8],
-) -> u64
+pub fn zarfolin_write_number(table: &[i64], row: u64, number: i64, bytes: &mut [u8]) -> u64
     ensures { Written table.now row (field.number number) bytes.old bytes.new result }
 {
     let text = [0u8; 1];

@@ -6,4 +6,4 @@ use Rattle.ascii.proofs.classes.Goals as goal
 
 pub returns : goal.returns
 unfolding class_of table_from
-returns c =  refl
+returns c = refl

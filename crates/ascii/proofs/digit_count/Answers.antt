@@ -24,18 +24,18 @@ end k n h = let e : 16 - k ≡ 0 = omega arith in rw e
 
 pub loop-k-init : goal.loop-k-init
 unfolding digits_of
-loop-k-init c =  (omega arith, refl)
+loop-k-init c = (omega arith, refl)
 
 pub returns-then-n-power : goal.returns-then-n-power
-returns-then-n-power c =     sym (stop _ _ _ c.loop-k-test.true c.power.ensures c.if-n-power.true)
+returns-then-n-power c = sym (stop _ _ _ c.loop-k-test.true c.power.ensures c.if-n-power.true)
     ∙ c.loop-k.invariant.1
 
 pub loop-k-preserved : goal.loop-k-preserved
-loop-k-preserved c =  (
+loop-k-preserved c = (
   omega arith,
   sym (on _ _ _ c.loop-k-test.true c.power.ensures c.if-n-power.false)
       ∙ c.loop-k.invariant.1,
 )
 
 pub returns : goal.returns
-returns c =  sym (end _ _ c.loop-k-test.false) ∙ c.loop-k.invariant.1
+returns c = sym (end _ _ c.loop-k-test.false) ∙ c.loop-k.invariant.1

@@ -5,4 +5,4 @@ use Rattle.ascii.proofs.powers.Goals as goal
 
 pub returns : goal.returns
 unfolding table_from
-returns c =  refl
+returns c = refl

@@ -1,6 +1,6 @@
 -- The next attribute of a tag: white space, name, =, quoted value; or the tag's end. 62 is >, 47 /, 61 =, 34 and 39 quotes, 60 <, 38 &.
 use Rattle.std.specs.Prelude.{◌≡◌, Bool, true, false, cond, ◌||◌, List, [], ◌∷◌, ◌++◌, ℕ, suc, ◌+◌, ◌-◌, leb, eqb, length, drop, get_or}
-use Rattle.scan.specs.rule.Loop.{Next, Again, Done, loop_of}
+use Rattle.scan.specs.rule.Loop.{loop_of}
 use Rattle.markup.specs.rule.Bytes.{of_kind, run_of, starts_name, end_fault}
 use Rattle.markup.specs.rule.Reference.{reference_of}
 use Rattle.markup.specs.rule.Gap.{next_move}
@@ -42,7 +42,8 @@ on_quoted n e v (Broken p) = Faulty p
 unfoldable pub valued_of : Bool → List ℕ → ℕ → ℕ → ℕ → ℕ → Attribute
 valued_of bad d opened n e v =
     cond (leb (length d) v) (Faulty (end_fault bad v opened))
-    (cond (eqb (get_or d v 0) 34 || eqb (get_or d v 0) 39) (on_quoted n e (v + 1) (quoted_of bad opened (get_or d v 0) d (v + 1))) (Faulty v))
+    (cond (eqb (get_or d v 0) 34 || eqb (get_or d v 0) 39) (on_quoted n e (v + 1) (quoted_of bad opened (get_or d v 0) d (v + 1)))
+    (Faulty v))
 
 -- at m = is due
 unfoldable pub equals_of : Bool → List ℕ → ℕ → ℕ → ℕ → ℕ → Attribute

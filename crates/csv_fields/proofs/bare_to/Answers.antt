@@ -1,6 +1,7 @@
 use mathlib.Core.Path.{sym, ◌∙◌}
 use native.Mathlib.Omega.{arith}
-use Rattle.csv_fields.specs.Page.{bared_none, bared_more, bared_to}
+use Rattle.csv_fields.specs.Page.{bared_none, bared_to}
+use Rattle.csv_fields.proofs.Page.{bared_more}
 use Rattle.csv_fields.proofs.bare_to.Goals as goal
 
 pub loop-i-init : goal.loop-i-init

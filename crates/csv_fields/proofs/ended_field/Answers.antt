@@ -1,6 +1,7 @@
 -- `csv_fields::ended_field` meets its contract.
 use native.Mathlib.Omega.{arith}
-use Rattle.csv_fields.specs.Page.{bare_ends, bare_stands, found_by, ahead_by, cut_from}
+use Rattle.csv_fields.specs.Page.{bare_stands, found_by, ahead_by, cut_from}
+use Rattle.csv_fields.proofs.Page.{bare_ends}
 use Rattle.csv_fields.proofs.ended_field.Goals as goal
 
 pub returns : goal.returns

@@ -2,7 +2,8 @@
 use mathlib.Core.Path.{sym, ◌∙◌}
 use Prim.Native.Nat.{◌+◌}
 use native.Mathlib.Omega.{arith}
-use Rattle.csv_fields.specs.Page.{fresh_quote, fresh_bare, ahead_more, quote_at_lem, not_quote, cut_as}
+use Rattle.csv_fields.specs.Page.{ahead_more, quote_at_lem, not_quote, cut_as}
+use Rattle.csv_fields.proofs.Page.{fresh_quote, fresh_bare}
 use Rattle.csv_fields.proofs.next_field.Goals as goal
 
 pub quoted_field-requires : goal.quoted_field-requires

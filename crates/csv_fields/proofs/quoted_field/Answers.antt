@@ -1,7 +1,8 @@
 use mathlib.Core.Path.{sym, ◌∙◌}
 use native.Mathlib.Omega.{arith}
 use Prim.Native.Nat.{◌+◌, ◌≤◌}
-use Rattle.csv_fields.specs.Page.{inside_none, inside_two, inside_closed, inside_open, found_by, ahead_by, quote_at_lem}
+use Rattle.csv_fields.specs.Page.{inside_none, inside_two, found_by, ahead_by, quote_at_lem}
+use Rattle.csv_fields.proofs.Page.{inside_closed, inside_open}
 use Rattle.csv_fields.specs.Page.{not_quote}
 use Rattle.csv_fields.proofs.quoted_field.Goals as goal
 

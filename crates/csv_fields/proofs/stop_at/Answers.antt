@@ -1,6 +1,6 @@
 -- `csv_fields::stop_at` meets its contract.
 use native.Mathlib.Omega.{arith}
-use Rattle.csv_fields.specs.Page.{stop_end, stop_comma, stop_other, stop_cut, stop_last, stop_lone}
+use Rattle.csv_fields.proofs.Page.{stop_end, stop_comma, stop_other, stop_cut, stop_last, stop_lone}
 use Rattle.csv_fields.proofs.stop_at.Goals as goal
 
 pub returns-then-d-i : goal.returns-then-d-i

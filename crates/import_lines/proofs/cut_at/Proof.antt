@@ -2,7 +2,8 @@
 use mathlib.Core.Path.{◌≡◌, refl}
 use native.Mathlib.Omega.{arith}
 use borrow.Author.Rules.{rules}
-use Rattle.csv_fields.specs.Page.{bounded_bare, bounded_fresh, cut_as}
+use Rattle.csv_fields.specs.Page.{cut_as}
+use Rattle.csv_fields.proofs.Page.{bounded_bare, bounded_fresh}
 use Rattle.import_lines.proofs.cut_at.Statement.{statement}
 use Rattle.import_lines.proofs.cut_at.Tie as tie
 

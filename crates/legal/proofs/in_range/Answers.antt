@@ -17,4 +17,4 @@ to_back c = search rules
 pub returns : goal.returns
 unfolding in_range
 returns c =
-        rw (c.not_above.ensures, c.not_above-2.ensures, from_back c, to_back c, to_z-of_z c.ranges.z)
+    rw (c.not_above.ensures, c.not_above-2.ensures, from_back c, to_back c, to_z-of_z c.ranges.z)

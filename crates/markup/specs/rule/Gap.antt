@@ -1,5 +1,5 @@
 -- Comments, and what may stand between two tags: white space and comments. 60 33 45 45 is <!--, 45 45 62 is -->.
-use Rattle.std.specs.Prelude.{Bool, true, false, cond, List, [], ◌∷◌, ℕ, suc, ◌+◌, ◌-◌, length, drop}
+use Rattle.std.specs.Prelude.{Bool, cond, List, [], ◌∷◌, ℕ, suc, ◌+◌, ◌-◌, length, drop}
 use Rattle.scan.specs.rule.Loop.{Next, Again, Done, loop_of}
 use Rattle.markup.specs.rule.Bytes.{is_white, stands, end_fault}
 use Rattle.markup.specs.declared.Skip.{Skip}

@@ -1,7 +1,7 @@
 -- "References: lt gt amp apos quot, `&#d;`, `&#xh;`, in texts and in attribute values, numbers and words included (`start="&#49;"` is 1)."
 -- "Comments stand wherever XML lets them, in texts too (`<size>1<!--x-->0</size>` is 10)": they say nothing.
 -- What a stretch says: each byte itself, a reference its character, a comment nothing. 38 is &, 60 33 45 45 is <!--.
-use Rattle.std.specs.Prelude.{◌≡◌, Bool, true, false, cond, List, [], ◌∷◌, ◌++◌, ℕ, zero, suc, ◌+◌, ◌-◌, leb, eqb, length, drop, get_or}
+use Rattle.std.specs.Prelude.{◌≡◌, false, cond, List, [], ◌∷◌, ◌++◌, ℕ, zero, suc, ◌+◌, ◌-◌, leb, eqb, length, drop, get_or}
 use Rattle.scan.specs.rule.Loop.{Next, Again, Done, loop_of}
 use Rattle.markup.specs.rule.Bytes.{stands}
 use Rattle.markup.specs.rule.Reference.{reference_of}

@@ -1,0 +1,12 @@
+use mathlib.Core.Path.{◌≡◌}
+use native.Mathlib.Omega.{arith}
+use Rattle.utf.proofs.of_three.Goals as goal
+
+pub returns-then-k-eq0 : goal.returns-then-k-eq0
+returns-then-k-eq0 c = rw c.if-k-eq0.true c.lead.ensures
+
+pub returns-then-k-eq1 : goal.returns-then-k-eq1
+returns-then-k-eq1 c = rw c.if-k-eq1.true c.six.ensures
+
+pub returns : goal.returns
+returns c = let e : c.args.k ≡ 2 = omega arith in rw e c.six-2.ensures
