@@ -1,3 +1,4 @@
+use Rattle.laying.specs.Code.{filled_in, filled_over}
 use borrow.Author.Tests.{lt-ltb, le-ltb}
 use Rattle.laying.proofs.fill.Goals as goal
 

@@ -1,3 +1,4 @@
+use Rattle.laying.specs.Code.{header_by}
 use Rattle.laying.proofs.header_by.Goals as goal
 
 pub returns : goal.returns

@@ -3,6 +3,7 @@ use Prim.Native.Nat.{◌*◌}
 use native.Mathlib.Omega.{arith}
 use lib.Seq.{length-take-le}
 use Rattle.layout.specs.rule.Layout.{row_size}
+use Rattle.laying.specs.Code.{header_by}
 use borrow.Author.Rules.{rules}
 use Rattle.laying.proofs.Matched.{short_differs, parts_match}
 use Rattle.laying.proofs.matches.Goals as goal

@@ -1,4 +1,5 @@
 use mathlib.Core.Path.{sym}
+use Rattle.laying.specs.Code.{tally_with}
 use Rattle.laying.proofs.tally_with.Goals as goal
 
 pub returns : goal.returns
