@@ -56,7 +56,8 @@ module _ (m : ℕ) (y : Tally) (rows lines : List ℤ) (r : row_size * y.rows �
       past : drop (length (take (row_size * y.rows) rows)) (drop (length (header_cells (header_by m y))) t) ≡ drop (lines_base y.rows) t
       past = rw (six (header_by m y), length-take-le (row_size * y.rows) rows r) (drop-drop (row_size * y.rows) 6 t)
 
-      rest : begins_table (take (row_size * y.rows) rows ++ take (line_size * y.lines) lines) (drop (length (header_cells (header_by m y))) t)
+      rest : begins_table (take (row_size * y.rows) rows ++ take (line_size * y.lines) lines)
+          (drop (length (header_cells (header_by m y))) t)
           ≡ (begins_table (take (row_size * y.rows) rows) (drop header_size t)
           && begins_table (take (line_size * y.lines) lines) (drop (lines_base y.rows) t))
       rest =

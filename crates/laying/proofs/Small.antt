@@ -89,63 +89,64 @@ beq_zero true true e f = refl
 beq_zero true false e f = e
 beq_zero false b e f = holds_not f refl
 
-module _ (c : Columns) (counts : counts_good c ≡ true) (places : places_good c ≡ true) (room : room_good (kind_of c) (row_of c) ≡ true) where
-  abbrev p2 : (ident_good c and position_good c) and subfields_good c ≡ true
-  unfolding places_good
-  p2 = (and_both places).0
+module _ (c : Columns) (counts : counts_good c ≡ true) (places : places_good c ≡ true) (room : room_good (kind_of c) (row_of c) ≡ true)
+  where
+    abbrev p2 : (ident_good c and position_good c) and subfields_good c ≡ true
+    unfolding places_good
+    p2 = (and_both places).0
 
-  pub finish_low : c.finish ≤ 16384
-  finish_low = leb-true c.finish 16384 (and_right (leb 1 c.start && leb c.start c.finish) (leb c.finish 16384)
-      (and_both (and_both p2).0).1)
+    pub finish_low : c.finish ≤ 16384
+    finish_low = leb-true c.finish 16384 (and_right (leb 1 c.start && leb c.start c.finish) (leb c.finish 16384)
+        (and_both (and_both p2).0).1)
 
-  start_low : c.start ≤ c.finish
-  start_low = leb-true c.start c.finish (and_right (leb 1 c.start) (leb c.start c.finish)
-      (and_left (leb 1 c.start && leb c.start c.finish) (leb c.finish 16384) (and_both (and_both p2).0).1))
+    start_low : c.start ≤ c.finish
+    start_low = leb-true c.start c.finish (and_right (leb 1 c.start) (leb c.start c.finish)
+        (and_left (leb 1 c.start && leb c.start c.finish) (leb c.finish 16384) (and_both (and_both p2).0).1))
 
-  pub ident_low : c.ident ≤ 9999
-  ident_low = leb-true c.ident 9999 (and_right (leb 1 c.ident) (leb c.ident 9999) (and_both (and_both p2).0).0)
+    pub ident_low : c.ident ≤ 9999
+    ident_low = leb-true c.ident 9999 (and_right (leb 1 c.ident) (leb c.ident 9999) (and_both (and_both p2).0).0)
 
-  few : Few c
-  few =
-      ⊎_elim
-      (λ k. spread_few c finish_low
-      (λ z. eqb-true c.subfields 0 (beq_zero (eqb c.subwidth 0) (eqb c.subfields 0)
-      (beq_sym (eqb c.subfields 0) (eqb c.subwidth 0) (and_both p2).1) (eq-eqb c.subwidth 0 z)))
-      (λ z. eqb-true c.subwidth 0 (beq_zero (eqb c.subfields 0) (eqb c.subwidth 0) (and_both p2).1 (eq-eqb c.subfields 0 z)))
-      k room)
-      (λ z. plain_few c finish_low z room)
-      (lacked_sub c counts)
+    few : Few c
+    few =
+        ⊎_elim
+        (λ k. spread_few c finish_low
+        (λ z. eqb-true c.subfields 0 (beq_zero (eqb c.subwidth 0) (eqb c.subfields 0)
+        (beq_sym (eqb c.subfields 0) (eqb c.subwidth 0) (and_both p2).1) (eq-eqb c.subwidth 0 z)))
+        (λ z. eqb-true c.subwidth 0 (beq_zero (eqb c.subfields 0) (eqb c.subwidth 0) (and_both p2).1 (eq-eqb c.subfields 0 z)))
+        k room)
+        (λ z. plain_few c finish_low z room)
+        (lacked_sub c counts)
 
-  pub small_columns : c.before ≤ 4096 → c.lines ≤ 4096 → c.usage ≤ 2 → c.filter ≤ 512 → SmallRow c
-  unfolding counts_good places_good
-  small_columns b l u f =
-      let n3 = and_both (and_both (and_both (and_both (and_both counts).0).0).0).0 in
-      let n2 = and_both n3.0 in
-      let n1 = and_both n2.0 in
-      let x = (and_both places).1 in
-      let t1 = leb c.name 1048576 in
-      let t2 = leb c.name_len 1048576 in
-      let t3 = leb c.label 1048576 in
-      let t4 = leb c.label_len 1048576 in
-      let x3 = and_left (t1 && t2 && t3) t4 x in
-      let x2 = and_left (t1 && t2) t3 x3 in
-      record {
-        ident = omega (arith, ident_low);
-        kind = omega (arith, leb-true c.kind 5 (and_right (leb 1 c.kind) (leb c.kind 5) n1.0));
-        start = omega (arith, start_low, finish_low);
-        finish = omega (arith, finish_low);
-        width = omega (arith, few.width);
-        decimals = omega (arith, leb-true c.decimals 9 n1.1);
-        point = omega (arith, leb-true c.point 2 n3.1);
-        subfields = omega (arith, few.subfields);
-        subwidth = omega (arith, few.subwidth);
-        range = omega (arith, leb-true c.range 1 n2.1);
-        before = omega arith;
-        lines = omega arith;
-        name = omega (arith, leb-true c.name 1048576 (and_left t1 t2 x2));
-        name-len = omega (arith, leb-true c.name_len 1048576 (and_right t1 t2 x2));
-        label = omega (arith, leb-true c.label 1048576 (and_right (t1 && t2) t3 x3));
-        label-len = omega (arith, leb-true c.label_len 1048576 (and_right (t1 && t2 && t3) t4 x));
-        usage = omega arith;
-        filter = omega arith;
-      }
+    pub small_columns : c.before ≤ 4096 → c.lines ≤ 4096 → c.usage ≤ 2 → c.filter ≤ 512 → SmallRow c
+    unfolding counts_good places_good
+    small_columns b l u f =
+        let n3 = and_both (and_both (and_both (and_both (and_both counts).0).0).0).0 in
+        let n2 = and_both n3.0 in
+        let n1 = and_both n2.0 in
+        let x = (and_both places).1 in
+        let t1 = leb c.name 1048576 in
+        let t2 = leb c.name_len 1048576 in
+        let t3 = leb c.label 1048576 in
+        let t4 = leb c.label_len 1048576 in
+        let x3 = and_left (t1 && t2 && t3) t4 x in
+        let x2 = and_left (t1 && t2) t3 x3 in
+        record {
+          ident = omega (arith, ident_low);
+          kind = omega (arith, leb-true c.kind 5 (and_right (leb 1 c.kind) (leb c.kind 5) n1.0));
+          start = omega (arith, start_low, finish_low);
+          finish = omega (arith, finish_low);
+          width = omega (arith, few.width);
+          decimals = omega (arith, leb-true c.decimals 9 n1.1);
+          point = omega (arith, leb-true c.point 2 n3.1);
+          subfields = omega (arith, few.subfields);
+          subwidth = omega (arith, few.subwidth);
+          range = omega (arith, leb-true c.range 1 n2.1);
+          before = omega arith;
+          lines = omega arith;
+          name = omega (arith, leb-true c.name 1048576 (and_left t1 t2 x2));
+          name_len = omega (arith, leb-true c.name_len 1048576 (and_right t1 t2 x2));
+          label = omega (arith, leb-true c.label 1048576 (and_right (t1 && t2) t3 x3));
+          label_len = omega (arith, leb-true c.label_len 1048576 (and_right (t1 && t2 && t3) t4 x));
+          usage = omega arith;
+          filter = omega arith;
+        }

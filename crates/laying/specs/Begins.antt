@@ -1,5 +1,6 @@
 -- What follows from rule/Begins.antt: numbers in two parts, one number on, too few of them.
-use Rattle.std.specs.Prelude.{◌≡◌, refl, Bool, true, false, cond, ◌&&◌, List, [], ◌∷◌, ◌++◌, ℕ, suc, ◌+◌, ◌≤◌, ◌<◌, ℤ, pos, length, take, drop, get_or}
+use Rattle.std.specs.Prelude.{◌≡◌, refl, Bool, true, false, cond, ◌&&◌, List, [], ◌∷◌, ◌++◌, ℕ, suc, ◌+◌, ◌≤◌, ◌<◌, ℤ, pos, length, take}
+use Rattle.std.specs.Prelude.{drop, get_or}
 use Rattle.std.proofs.Common.{sym, ap, ◌∙◌, le_of_suc-le-suc, not-suc-le-zero, add-one, arith, drop-cons}
 use Rattle.cells.specs.rule.Cell.{cell, eq_z}
 use Rattle.cells.specs.Cell.{same_true, same_self}
@@ -31,7 +32,8 @@ begins_short (x ∷ l) (y ∷ t) h = and_never (eq_z x y) (begins_table l t) (be
 
 -- one number on
 pub begins_on : (l t : List ℤ) (at j : ℕ) → j < length l → at + j < length t
-    → begins_table (drop j l) (drop (at + j) t) ≡ (eq_z (cell l j) (cell t (at + j)) && begins_table (drop (j + 1) l) (drop (at + (j + 1)) t))
+    → begins_table (drop j l) (drop (at + j) t) ≡ (eq_z (cell l j) (cell t (at + j))
+    && begins_table (drop (j + 1) l) (drop (at + (j + 1)) t))
 unfolding begins_table
 begins_on l t at j h g =
     let e : at + (j + 1) ≡ suc (at + j) = omega arith in

@@ -73,7 +73,7 @@ module _ (room : List ℤ) (h : Head) (r : Rest) (before : ℕ) (m : Measurable 
 
   pub placed_wide : (w : ℕ) → Placed (row_of (widened w (plain_columns h r before)))
   unfolding plain_columns widened row_of kind_of
-  placed_wide w = record { from_one = m.from_one; low = omega (arith, m.ordered, m.low); finish-low = m.low; subfields = m.subfields }
+  placed_wide w = record { from_one = m.from_one; low = omega (arith, m.ordered, m.low); finish_low = m.low; subfields = m.subfields }
 
 -- ---- the result
 module _ (f : ℕ → ℤ) (h : Head) (r : Rest) (before w : ℕ) (c full : Columns) where

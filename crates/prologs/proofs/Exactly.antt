@@ -1,9 +1,9 @@
 -- The declaration and the DOCTYPE, in words: what is told of a form at a place, each piece of it, with the place of every refusal.
 use mathlib.Core.Path.{◌≡◌, refl, sym, ap, ◌∙◌}
-use mathlib.Core.Logic.{◌⊎◌, inl, inr, ⊎_elim, ◌↔◌}
+use mathlib.Core.Logic.{⊎_elim, ◌↔◌}
 use mathlib.Core.Bool.{Bool, true, false, cond}
-use mathlib.Core.List.{List, [], ◌∷◌, ◌++◌}
-use Prim.Native.Nat.{ℕ, ◌+◌, ◌-◌, ◌≤◌, ◌<◌}
+use mathlib.Core.List.{List, [], ◌∷◌}
+use Prim.Native.Nat.{ℕ, ◌+◌, ◌≤◌, ◌<◌}
 use native.Mathlib.Omega.{arith}
 use lib.Dec.{leb, eqb}
 use lib.ListN.{length, drop, get_or}
@@ -11,11 +11,11 @@ use lib.Seq.{drop-cons}
 use borrow.Author.Tests.{eq-eqb, ne_eqb, eqb-true, eqb-false, le-leb, lt-leb, leb-true, leb-false}
 use Rattle.below.specs.Below.{holds_not, lt_or_le, and_left}
 use Rattle.utf.proofs.Strides.{apart}
-use Rattle.markup.specs.rule.Bytes.{of_kind, run_of, stands, starts_name, end_fault}
+use Rattle.markup.specs.rule.Bytes.{of_kind, stands, starts_name, end_fault}
 use Rattle.markup.specs.declared.Skip.{Skip}
 use Rattle.markup.specs.declared.Skip.TheVariants.{Past, Broken}
 use Rattle.prologs.specs.rule.Form.{Form, done, white, room, word, value, encoding, literal, root, bracket, perhaps, which}
-use Rattle.prologs.specs.rule.Form.{XML, UTF-8, ISO-8859-1, sss, declaration, doctype}
+use Rattle.prologs.specs.rule.Form.{UTF-8, ISO-8859-1, sss, doctype}
 use Rattle.prologs.specs.rule.Told.{quoted_string, among_of, alike_of, due_of, miss_of, blanks, on_passed, root_missed, tell_of}
 use Rattle.prologs.specs.declared.Prolog.{Prolog}
 use Rattle.prologs.specs.declared.Prolog.TheVariants.{Read, Fault}
@@ -39,7 +39,8 @@ pub data Tells (bad : Bool) (d : List ℕ) (o : ℕ) : Form → Bool → ℕ →
       → Tells bad d o (word w f) l p r
   word_off : {w : List ℕ} {f : Form} {l : Bool} {p : ℕ} → NoBytes w d p → Tells bad d o (word w f) l p (Fault 50 (due_of bad d o p))
   -- a value: one of these, another, or none
-  value_on_lem : {ws : List (List ℕ)} {f : Form} {l : Bool} {p k : ℕ} {r : Prolog} → Quotes true false bad d o p (Past k) → Among d (p + 1) k ws
+  value_on_lem : {ws : List (List ℕ)} {f : Form} {l : Bool} {p k : ℕ} {r : Prolog} → Quotes true false bad d o p (Past k)
+      → Among d (p + 1) k ws
       → Tells bad d o f l (k + 1) r → Tells bad d o (value ws f) l p r
   value_not : {ws : List (List ℕ)} {f : Form} {l : Bool} {p k : ℕ} → Quotes true false bad d o p (Past k) → (Among d (p + 1) k ws → ⊥)
       → Tells bad d o (value ws f) l p (Fault 50 (p + 1))
@@ -195,7 +196,8 @@ module _ (bad : Bool) (d : List ℕ) (o : ℕ) where
       (cond (stands w (drop (blanks d p) d)) (tell_of bad d o f l (blanks d p + length w)) (tell_of bad d o g l p)) ≡ tell_of bad d o g l p
   perhaps_no w f g l p h = by (eqb (blanks d p) p) (stands w (drop (blanks d p) d)) refl refl where
     by : (x y : Bool) → eqb (blanks d p) p ≡ x → stands w (drop (blanks d p) d) ≡ y
-        → cond x (tell_of bad d o g l p) (cond y (tell_of bad d o f l (blanks d p + length w)) (tell_of bad d o g l p)) ≡ tell_of bad d o g l p
+        → cond x (tell_of bad d o g l p) (cond y (tell_of bad d o f l (blanks d p + length w)) (tell_of bad d o g l p))
+        ≡ tell_of bad d o g l p
     by true y e k = refl
     by false false e k = refl
     by false true e k = absurd (h (blanks d p) (blanks d p + length w) (blank p (blanks d p) refl) (longer p e)

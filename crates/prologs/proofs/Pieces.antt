@@ -1,24 +1,22 @@
 -- White space, given bytes and strings at a place, in words; and how far they go.
 use mathlib.Core.Path.{◌≡◌, refl, sym, ap, ◌∙◌}
-use mathlib.Core.Logic.{◌⊎◌, inl, inr, ⊎_elim}
-use mathlib.Core.Bool.{Bool, true, false, cond, ◌&&◌, ◌||◌}
+use mathlib.Core.Logic.{⊎_elim}
+use mathlib.Core.Bool.{Bool, true, false, cond, ◌||◌}
 use mathlib.Core.List.{List, [], ◌∷◌, ◌++◌}
 use Prim.Native.Nat.{ℕ, ◌+◌, ◌-◌, ◌≤◌, ◌<◌}
 use native.Mathlib.Omega.{arith}
-use lib.Dec.{leb, eqb}
+use lib.Dec.{eqb}
 use lib.ListN.{length, drop, get_or, length-append, length-drop, drop_of_length-le}
-use borrow.Author.Tests.{eq-eqb, ne_eqb, eqb-true, eqb-false, le-leb, lt-leb, leb-true, leb-false}
+use borrow.Author.Tests.{eq-eqb, ne_eqb, eqb-true}
 use Rattle.below.specs.Below.{holds_not, either_true, lt_or_le, and_left, and_right}
 use Rattle.ascii.specs.rule.Class.{upper_of}
 use Rattle.utf.proofs.Strides.{drop_1}
-use Rattle.markup.specs.rule.Bytes.{of_kind, run_of, bytes_while, rest_of, stands, end_fault}
+use Rattle.markup.specs.rule.Bytes.{run_of, bytes_while, rest_of, stands}
 use Rattle.markup.specs.rule.Grammar.{Each, no_more, each}
-use Rattle.markup.specs.declared.Skip.{Skip}
-use Rattle.markup.specs.declared.Skip.TheVariants.{Past, Broken}
 use Rattle.markup.proofs.Runs.{first_at, onward, run_next, run_over, run_end, run_splits, run_long, rest_at}
 use Rattle.markup.proofs.Stretches.{Stretch, run_stretch}
 use Rattle.markup.proofs.Gaps.{stands_split, stands_long}
-use Rattle.prologs.specs.rule.Told.{between_quotes, closed_string, quoted_string, spelt_of, among_of, alikes, alike_of, blanks}
+use Rattle.prologs.specs.rule.Told.{spelt_of, among_of, alikes, alike_of}
 
 -- ---- runs
 rest_stops : (f : ℕ → Bool) (s : List ℕ) {b : ℕ} {t : List ℕ} → rest_of f s ≡ b ∷ t → f b ≡ false
@@ -191,7 +189,8 @@ module _ (d : List ℕ) (at : ℕ) (w : List ℕ) (i : ℕ) where
       let n : at + i + 1 ≡ at + (i + 1) = omega arith in
       rw (drop_1 w i k, drop_1 d (at + i) h, eq-eqb _ _ e, n)
 
-  pub alikes_not : at + i < length d → i < length w → (upper_of (get_or d (at + i) 0) ≡ get_or w i 0 → ⊥) → alikes (drop i w) (drop (at + i) d)
+  pub alikes_not : at + i < length d → i < length w → (upper_of (get_or d (at + i) 0) ≡ get_or w i 0 → ⊥)
+      → alikes (drop i w) (drop (at + i) d)
       ≡ false
   unfolding alikes
   alikes_not h k e = rw (drop_1 w i k, drop_1 d (at + i) h, ne_eqb _ _ e)

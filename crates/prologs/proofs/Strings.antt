@@ -1,9 +1,9 @@
 -- A string in quotes, in words.
-use mathlib.Core.Path.{◌≡◌, refl, sym, ap, ◌∙◌}
+use mathlib.Core.Path.{◌≡◌, refl}
 use mathlib.Core.Logic.{◌⊎◌, inl, inr, ⊎_elim, ◌↔◌}
 use mathlib.Core.Bool.{Bool, true, false, cond, ◌||◌}
-use mathlib.Core.List.{List, [], ◌∷◌, ◌++◌}
-use Prim.Native.Nat.{ℕ, ◌+◌, ◌-◌, ◌≤◌, ◌<◌}
+use mathlib.Core.List.{List}
+use Prim.Native.Nat.{ℕ, ◌+◌, ◌≤◌, ◌<◌}
 use native.Mathlib.Omega.{arith}
 use lib.Dec.{leb, eqb}
 use lib.ListN.{length, drop, get_or}
@@ -62,12 +62,15 @@ module _ (alone public bad : Bool) (d : List ℕ) (o n : ℕ) where
   quotes = by (leb (length d) n) (eqb (get_or d n 0) 34 || eqb (get_or d n 0) 39) refl refl where
     by : (x y : Bool) → leb (length d) n ≡ x → (eqb (get_or d n 0) 34 || eqb (get_or d n 0) 39) ≡ y
         → Quotes alone public bad d o n (cond x (Broken (end_fault bad n o))
-        (cond y (closed_string d (cut_of alone bad d o n (run_of (between_quotes public (get_or d n 0)) (n + 1) (drop (n + 1) d))) (get_or d n 0)
+        (cond y (closed_string d (cut_of alone bad d o n (run_of (between_quotes public (get_or d n 0)) (n + 1) (drop (n + 1) d)))
+        (get_or d n 0)
         (run_of (between_quotes public (get_or d n 0)) (n + 1) (drop (n + 1) d))) (Broken n)))
     by true y e f = gone (leb-true (length d) n e)
     by false true e f =
-        closed (run_of (between_quotes public (get_or d n 0)) (n + 1) (drop (n + 1) d)) (leb-false (length d) n e) (yes_opens (get_or d n 0) f)
-        (run_is (between_quotes public (get_or d n 0)) d (n + 1) (run_of (between_quotes public (get_or d n 0)) (n + 1) (drop (n + 1) d)) refl)
+        closed (run_of (between_quotes public (get_or d n 0)) (n + 1) (drop (n + 1) d)) (leb-false (length d) n e)
+        (yes_opens (get_or d n 0) f)
+        (run_is (between_quotes public (get_or d n 0)) d (n + 1) (run_of (between_quotes public (get_or d n 0)) (n + 1) (drop (n + 1) d))
+        refl)
     by false false e f = bare (leb-false (length d) n e) (λ q. holds_not (opens_yes (get_or d n 0) q) f)
 
   pub quoted_is : {r : Skip} → Quotes alone public bad d o n r → quoted_string alone public bad d o n ≡ r

@@ -1,5 +1,5 @@
 -- THE CODE'S BOOKS: = and a value behind a word of the declaration, read in one.
-use Rattle.std.specs.Prelude.{Bool, true, false, cond, List, ℕ, ◌+◌, leb, eqb, length, get_or}
+use Rattle.std.specs.Prelude.{true, false, cond, List, ℕ, ◌+◌, leb, eqb, length, get_or}
 use Rattle.markup.specs.declared.Skip.{Skip}
 use Rattle.markup.specs.declared.Skip.TheVariants.{Past, Broken}
 use Rattle.prologs.specs.rule.Form.{ISO-8859-1, standalone}

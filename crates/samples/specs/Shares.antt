@@ -12,7 +12,7 @@ use Rattle.layout.specs.declared.Row.{Row}
 use Rattle.widths.specs.rule.Width.{need, tail_of, least_whole, whole_digits, quantity_width, most_size, lowest, highest}
 use Rattle.strides.specs.rule.Stride.{all_differ, number_new}
 use Rattle.fields.specs.rule.Legal.{in_range, on_line, legal}
-use Rattle.fields.specs.rule.Number.{all_spaces, unspaced, digits_only, decimal_from, says, wrong, amount_form, amount_size, amount_of}
+use Rattle.fields.specs.rule.Number.{all_spaces, unspaced, digits_only, decimal_from, says, amount_form, amount_size, amount_of}
 use Rattle.fields.specs.rule.Number.{quantity_after, quantity_of, padded, amount_bytes, quantity_bytes}
 use Rattle.fields.specs.rule.Field.{number, missing, holds, illegal, number_field, quantity_says}
 use Rattle.fields.specs.rule.Row.{field_by, field_of, bytes_by, bytes_of}

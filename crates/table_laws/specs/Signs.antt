@@ -1,5 +1,5 @@
 -- What follows from rule/Signs.antt, and what the code keeps.
-use Rattle.std.specs.Prelude.{◌≡◌, ◌⊎◌, Bool, ◌&&◌, ◌||◌, List, ℤ, pos, negsuc, length}
+use Rattle.std.specs.Prelude.{◌≡◌, Bool, ◌&&◌, ◌||◌, List, ℤ, pos, negsuc, length}
 use Rattle.std.proofs.Math.Path.{refl, subst}
 use Rattle.std.proofs.Math.Logic.{⊎_elim}
 use Rattle.std.proofs.Math.Bool.{true, false, beq}
@@ -10,7 +10,7 @@ use native.Mathlib.Omega.{arith}
 use borrow.Author.Tests.{eqb-true, eq-eqb, ne_eqb, leb-true, le-leb, eqb-false}
 use Rattle.std.proofs.Math.Dec.{eqb, leb}
 use Rattle.std.specs.Int.Signed.{le_z}
-use Rattle.below.specs.rule.Below.{◌and◌, sum_below}
+use Rattle.below.specs.rule.Below.{sum_below}
 use Rattle.below.specs.Below.{and_both, and_left, and_right, either_true, holds_not, all_at_lem, lt_or_le}
 use Rattle.cells.specs.rule.Cell.{cell, count_of, eq_z}
 use Rattle.cells.specs.Cell.{same_true}
@@ -31,7 +31,8 @@ use Rattle.sound.specs.rule.Sound.{values_good}
 use Rattle.sound.specs.rule.Sound.{mark_known, rows_good, well_formed}
 use Rattle.sound.specs.rule.Rows.{rows_of}
 use Rattle.sound.specs.Given.{ColumnFacts, column_facts}
-use Rattle.uses.specs.Uses.{UseFew, use_few}
+use Rattle.uses.specs.Uses.{UseFew}
+use Rattle.uses.proofs.Uses.{use_few}
 use Rattle.sound.specs.Rows.{FitAs, good_fits, line_value_lem, parts, row_facts, length_low}
 use Rattle.table_laws.specs.rule.Signs.{NotNegative, HeaderSigns, RowSigns, LineSigns, TableSigns}
 
