@@ -23,7 +23,8 @@ use Rattle.measures.specs.Survey.{Variable, lines_all, highest_in, header_for, t
 use Rattle.measures.specs.Good.{Good}
 use Rattle.measures.proofs.Snoc.{table_length}
 use Rattle.built.specs.Nth.{Nth, nth, few_rows, few_lines, sum_all, highest_all}
-use Rattle.built.specs.Rows.{unused_column, before_column, lines_here, finish_here, lines_before_lem, row_good_lem, width_here, idents_differ_lem}
+use Rattle.built.specs.Rows.{unused_column, before_column, lines_here, finish_here, lines_before_lem, row_good_lem, width_here}
+use Rattle.built.specs.Rows.{idents_differ_lem}
 use Rattle.built.specs.Cells.{laid, header_back, columns_of_lem}
 
 module _ (t : List ℤ) (l : List Variable) (g : Good l) where

@@ -29,7 +29,8 @@ rows_join b [] q = let e : b + 0 ≡ b = omega arith in rw e
 rows_join b (v ∷ p) q =
     let n = length (lines_in v) in
     let e : b + n + lines_all p ≡ b + (n + lines_all p) = omega arith in
-    rw (rows_join (b + n) p q, e) (sym (append_assoc (row_cells (columns_in b v)) (rows_from (b + n) p) (rows_from (b + (n + lines_all p)) q)))
+    rw (rows_join (b + n) p q, e) (sym (append_assoc (row_cells (columns_in b v)) (rows_from (b + n) p)
+    (rows_from (b + (n + lines_all p)) q)))
 
 cells_join : (p q : List Variable) → all_lines (p ++ q) ≡ all_lines p ++ all_lines q
 unfolding all_lines

@@ -127,7 +127,8 @@ module _ (t : List ℤ) (l : List Variable) where
     unfolding widest widest_of lines_width row_of
     widest_is =
         ap (max (range_width (row_of c)))
-        (max_same c.lines (λ k. need (kind_of c) (f k)) (λ k. need (kind_of c) (said k)) (λ k h. ap (need (kind_of c)) (value_here_lem k h)))
+        (max_same c.lines (λ k. need (kind_of c) (f k)) (λ k. need (kind_of c) (said k))
+        (λ k h. ap (need (kind_of c)) (value_here_lem k h)))
 
     pub width_here : c.width ≡ width_of (kind_of c) (row_of c) f v.rest.size
     unfolding widest widest_of lines_width row_of

@@ -15,7 +15,8 @@ use Rattle.values.specs.Line.{number_at, numbers, cells_of, line_cells}
 use Rattle.values.specs.Value.{scaled_of}
 use Rattle.variables.specs.declared.Head.{Head}
 use Rattle.measures.specs.Width.{flag_of, plain_columns, widened, full_columns, lines_width, widest_of, width_of}
-use Rattle.measures.specs.Survey.{Variable, counted_in, columns_in, holds_in, lines_all, ident_met, rows_from, all_lines, header_for, table_of}
+use Rattle.measures.specs.Survey.{Variable, counted_in, columns_in, holds_in, lines_all, ident_met, rows_from, all_lines, header_for}
+use Rattle.measures.specs.Survey.{table_of}
 use Rattle.measures.specs.Survey.{highest_in}
 use Rattle.rows.specs.rule.Cells.{row_cells, header_cells}
 use Rattle.measures.specs.Good.{GoodVariable, Good}
@@ -78,8 +79,10 @@ abbrev both : List Variable
 both = one ∷ two ∷ []
 
 both_good : GoodVariable 0 one × GoodVariable 2 two
-unfolding counts_good places_good values_fit all_differ number_new range_width width_good room_good ◌and◌ all_below max_below count_of signed_of eq_z
-    number_of line_at row_of kind_of need lowest highest digits_of count_from number_at numbers cells_of line_cells scaled_of flag_of plain_columns
+unfolding counts_good places_good values_fit all_differ number_new range_width width_good room_good ◌and◌ all_below max_below count_of
+    signed_of eq_z
+    number_of line_at row_of kind_of need lowest highest digits_of count_from number_at numbers cells_of line_cells scaled_of flag_of
+    plain_columns
     widened full_columns lines_width widest_of width_of counted_in columns_in holds_in lines_all ident_met
 both_good = (
   record {
@@ -122,8 +125,11 @@ pub table_is : table_of both ≡
     ∷ pos 0 ∷ pos 20 ∷ pos 3 ∷ pos 40 ∷ pos 3 ∷ pos 0 ∷ pos 0
     ∷ pos 1 ∷ pos 0 ∷ pos 80 ∷ pos 3
     ∷ pos 12 ∷ pos 0 ∷ pos 80 ∷ pos 3 ∷ []
-unfolding counts_good places_good values_fit all_differ number_new range_width width_good room_good ◌and◌ all_below max_below count_of signed_of eq_z
-    number_of line_at row_of kind_of need lowest highest digits_of count_from number_at numbers cells_of line_cells scaled_of flag_of plain_columns
-    widened full_columns lines_width widest_of width_of counted_in columns_in holds_in lines_all ident_met table_of header_for header_cells rows_from
+unfolding counts_good places_good values_fit all_differ number_new range_width width_good room_good ◌and◌ all_below max_below count_of
+    signed_of eq_z
+    number_of line_at row_of kind_of need lowest highest digits_of count_from number_at numbers cells_of line_cells scaled_of flag_of
+    plain_columns
+    widened full_columns lines_width widest_of width_of counted_in columns_in holds_in lines_all ident_met table_of header_for header_cells
+    rows_from
     row_cells all_lines highest_in
 table_is = refl

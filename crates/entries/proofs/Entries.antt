@@ -191,7 +191,7 @@ module _ (d : List ℕ) (h : Head) (before : ℕ) where
 pub good_head : (d : List ℕ) (i : Number) (h : Head) (q : Headed) → q ≡ head_on d i → q ≡ headed.Is h → GoodHead h
 good_head d i h q e j =
     let g = head_good d i h (sym e ∙ j) in
-    record { kind-some = g.kind_some; kind-few = g.kind_few; from_one = g.from_one; ordered = g.ordered; low = g.low }
+    record { kind_some = g.kind_some; kind_few = g.kind_few; from_one = g.from_one; ordered = g.ordered; low = g.low }
 
 module _ (d : List ℕ) (t : Reading) (met : ℕ → Bool) (count before : ℕ) (i : Number) (q : Headed) (e : i ≡ ident_on d t met count)
     (o : q ≡ head_on d i) where

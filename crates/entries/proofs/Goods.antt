@@ -276,7 +276,7 @@ module _ (d : List ℕ) (t : Reading) (met : ℕ → Bool) (count before : ℕ) 
   module _ (v : Variable) (n : ℕ) (long : length d ≤ 1048576) (few : before ≤ 4096) where
     -- what the text gave of its head
     own : {h : Head} → heads.GoodHead d (ident_on d t met count) h → GoodHead h
-    own g = record { kind-some = g.kind_some; kind-few = g.kind_few; from_one = g.from_one; ordered = g.ordered; low = g.low }
+    own g = record { kind_some = g.kind_some; kind_few = g.kind_few; from_one = g.from_one; ordered = g.ordered; low = g.low }
 
     texts : {h : Head} → heads.GoodHead d (ident_on d t met count) h → TextsShort h
     texts g = record {
@@ -308,7 +308,8 @@ module _ (d : List ℕ) (t : Reading) (met : ℕ → Bool) (count before : ℕ) 
             left = ident.left;
           })
 
-    rest_then_lem : (h : Head) → heads.GoodHead d (ident_on d t met count) h → rest_then d before h ≡ entry.Is v n → EntryGood met count before v
+    rest_then_lem : (h : Head) → heads.GoodHead d (ident_on d t met count) h → rest_then d before h ≡ entry.Is v n
+        → EntryGood met count before v
     unfolding rest_then
     rest_then_lem h g = by (rest_of d before h.kind (At h.next) (h.finish + 1 - h.start)) refl where
       end : (x : Telling) (r : Reading) → GoodTelling h.kind before x → ended r (held_by before (variable h x)) ≡ entry.Is v n
@@ -333,7 +334,8 @@ pub entry_good :
     → EntryGood met count before v
 unfolding entry_of
 entry_good d t met count before v n long few = by (head_on d (ident_on d t met count)) refl where
-  by : (q : Headed) → head_on d (ident_on d t met count) ≡ q → head_then q (rest_then d before) ≡ entry.Is v n → EntryGood met count before v
+  by : (q : Headed) → head_on d (ident_on d t met count) ≡ q → head_then q (rest_then d before) ≡ entry.Is v n
+      → EntryGood met count before v
   by (headed.Not f) i e = none cc
   by (headed.Is h) i e = rest_then_lem d t met count before v n long few h (head_good d (ident_on d t met count) h i) e
 

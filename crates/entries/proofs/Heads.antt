@@ -131,12 +131,14 @@ pub position_good : (d : List ℕ) (t : Reading) (p : Position) → position_on 
 unfolding position_on
 position_good d t p e =
     let a = number_on d (statement_on d t POSITION) in
-    position_rest_lem d a (gap_on d (past_number a)) p (number_true d (statement_on d t POSITION)) (choice_of d (gap_on d (past_number a)) TO) e
+    position_rest_lem d a (gap_on d (past_number a)) p (number_true d (statement_on d t POSITION))
+    (choice_of d (gap_on d (past_number a)) TO) e
 
 -- ---- TYPE: 1 to 5
 type_here_lem : (d : List ℕ) (t : Reading) (k n : ℕ) → type_here d t ≡ typed.Is k n → (1 ≤ k) × (k ≤ 5)
 unfolding type_here
-type_here_lem d t k n = by (choice_of d t SINGLE) (choice_of d t MULTIPLE) (choice_of d t QUANTITY) (choice_of d t CHARACTER) (word_here d t LOGICAL)
+type_here_lem d t k n = by (choice_of d t SINGLE) (choice_of d t MULTIPLE) (choice_of d t QUANTITY) (choice_of d t CHARACTER)
+    (word_here d t LOGICAL)
   where
     is : (j m : ℕ) → (1 ≤ j) × (j ≤ 5) → typed.Is j m ≡ typed.Is k n → (1 ≤ k) × (k ≤ 5)
     is j m h e = let q : j ≡ k = cc in rw (← q) h

@@ -72,17 +72,18 @@ even_good n w m s h = by (eqb n.size 0) (eqb (w % n.size) 0) refl refl where
 
 pub spread_good : (d : List ℕ) (t : Reading) (w : ℕ) (s : Subfields) → 1 ≤ w → spread_rest d t w ≡ spreading.Is s → GoodSpread s
 unfolding spread_rest fields_of even_of
-spread_good d t w s h = by (number_on d t) (choice_of d (gap_on d (past_number (number_on d t))) OF) (gap_on d (past_number (number_on d t))) where
-  two : (x : Figures) (b : Number) → fields_of (number.Is x) b ≡ spreading.Is s → GoodSpread s
-  two x (number.Is y) e = fields_good x y y.next s e
-  two x (number.Not f) e = none cc
+spread_good d t w s h = by (number_on d t) (choice_of d (gap_on d (past_number (number_on d t))) OF)
+    (gap_on d (past_number (number_on d t))) where
+      two : (x : Figures) (b : Number) → fields_of (number.Is x) b ≡ spreading.Is s → GoodSpread s
+      two x (number.Is y) e = fields_good x y y.next s e
+      two x (number.Not f) e = none cc
 
-  by : (a : Number) (k : Choice) (g : Reading) → rest d a w g k ≡ spreading.Is s → GoodSpread s
-  by (number.Not f) (Taken m) g e = none cc
-  by (number.Not f) Left g e = none cc
-  by (number.Is x) (Taken m) g e = two x (number_on d (At m)) e
-  by (number.Is x) Left (At n) e = even_good x w n s h e
-  by (number.Is x) Left (Refused f) e = none cc
+      by : (a : Number) (k : Choice) (g : Reading) → rest d a w g k ≡ spreading.Is s → GoodSpread s
+      by (number.Not f) (Taken m) g e = none cc
+      by (number.Not f) Left g e = none cc
+      by (number.Is x) (Taken m) g e = two x (number_on d (At m)) e
+      by (number.Is x) Left (At n) e = even_good x w n s h e
+      by (number.Is x) Left (Refused f) e = none cc
 
 -- ---- SIZE
 pub size_good : (d : List ℕ) (t : Reading) (x : Figures) → size_on d t ≡ number.Is x → (1 ≤ x.size) × (x.size ≤ 4096)

@@ -41,17 +41,17 @@ use Rattle.entries.proofs.Spreads.{GoodSpread, spread_good, size_good}
 -- nothing said is good
 empty_block_lem : (q : Bool) → GoodBlock q empty_block
 empty_block_lem q = record {
-  few-decimals = omega arith;
-  point-code = omega arith;
+  few_decimals = omega arith;
+  point_code = omega arith;
   pointed = inl refl;
   shared = λ e. absurd (omega arith);
   category = λ e. (refl, refl);
   unranged = λ e. (refl, refl);
   ordered = λ e. none cc;
-  from-limited = λ e. none cc;
-  to-limited = λ e. none cc;
-  from-near = λ e. none cc;
-  to-near = λ e. none cc;
+  from_limited = λ e. none cc;
+  to_limited = λ e. none cc;
+  from_near = λ e. none cc;
+  to_near = λ e. none cc;
 }
 
 empty_lines : (q : Bool) (first : ℕ) → first ≤ 4096 → GoodLines q first []
