@@ -282,3 +282,7 @@ module _ (d : List ℕ) (from stop lows : ℕ) (h : from < length d) (u : NoBoun
           cuts = rw e at (piece_next d from stop u h x.0 x.1);
           counted = n;
         }
+
+-- a stretch without a byte below 32: one byte more
+pub plain_more : (d : List ℕ) (i k : ℕ) → low_among d i k ≡ false → 32 ≤ get_or d (i + k) 0 → low_among d i (k + 1) ≡ false
+plain_more d i k e h = sym (among_more d i k false (sym e)) ∙ le-ltb (get_or d (i + k) 0) 32 h
