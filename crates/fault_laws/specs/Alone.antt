@@ -78,7 +78,8 @@ module _ (a b : List ℕ) where
   value_alone Character ok w ps e = refl
   value_alone Logical ok w ps e = refl
 
-  pub fault_alone : (t : List ℤ) (v : ℕ) (r : Row) → pick a (places_of t v r) ≡ pick b (places_of t v r) → fault_of t v r a ≡ fault_of t v r b
+  pub fault_alone : (t : List ℤ) (v : ℕ) (r : Row) → pick a (places_of t v r) ≡ pick b (places_of t v r) → fault_of t v r a
+      ≡ fault_of t v r b
   unfolding fault_of
   fault_alone t v r e =
       rw (form_alone r.kind r.width (places_of t v r) e, value_alone r.kind (legal t v r) r.width (places_of t v r) e)

@@ -1,5 +1,6 @@
 -- "A record is refused in the same cases as before": a row has a fault exactly when its reading is illegal.
-use Rattle.std.specs.Prelude.{◌≡◌, refl, Bool, true, false, cond, not, ◌&&◌, ◌||◌, List, [], ◌∷◌, ◌++◌, ℕ, zero, suc, ◌+◌, ◌-◌, ◌*◌, ◌/◌, ◌^◌, ◌≤◌, ◌<◌, eqb, leb, ℤ, pos, take, drop, get_or}
+use Rattle.std.specs.Prelude.{◌≡◌, refl, Bool, true, false, cond, not, ◌&&◌, ◌||◌, List, [], ◌∷◌, ◌++◌, ℕ, zero, suc, ◌+◌, ◌-◌, ◌*◌, ◌/◌}
+use Rattle.std.specs.Prelude.{◌^◌, ◌≤◌, ◌<◌, eqb, leb, ℤ, pos, take, drop, get_or}
 use Rattle.std.proofs.Math.Path.{sym}
 use Rattle.std.proofs.Common.{ap, subst, ◌∙◌, suc-mul, arith, length-drop, length-take-le}
 use Rattle.std.proofs.Math.Bool.{and-true, and-false, or-false, or-true, not-not}

@@ -1,6 +1,7 @@
 -- "Any other byte that cannot stand there after those to its left", "the leftmost fault counts": what the fault of a number's bytes is.
 -- Each byte before it may stand after those to its left, and it may not; no number goes on with it, and some number goes on without it.
-use Rattle.std.specs.Prelude.{◌≡◌, refl, Bool, true, false, cond, not, ◌&&◌, ◌||◌, ℕ, zero, suc, ◌+◌, ◌-◌, ◌≤◌, ◌<◌, eqb, leb, length, take, drop, get_or}
+use Rattle.std.specs.Prelude.{◌≡◌, refl, Bool, true, false, cond, not, ◌&&◌, ◌||◌, ℕ, zero, suc, ◌+◌, ◌-◌, ◌≤◌, ◌<◌, eqb, leb, length, take}
+use Rattle.std.specs.Prelude.{drop, get_or}
 use Rattle.std.proofs.Common.{sym, ap, subst, ◌∙◌, zero-add, arith, le-leb, length-append}
 use Rattle.std.proofs.Math.Bool.{and_assoc, and-false, or-true}
 use mathlib.Core.List.{List, [], ◌∷◌, ◌++◌, append-nil, append_assoc}
@@ -42,7 +43,8 @@ from_leftmost q f r left (p ∷ ps) e =
         → some_fault (cond c (number_from q f r (left ++ (get_or r p 0 ∷ [])) ps) (fault_at q f (length ps) p (get_or r p 0))) ≡ true
         → (some_fault (number_from q f r (left ++ (get_or r p 0 ∷ [])) ps) ≡ true
         → Leftmost q f r (left ++ (get_or r p 0 ∷ [])) ps (number_from q f r (left ++ (get_or r p 0 ∷ [])) ps))
-        → Leftmost q f r left (p ∷ ps) (cond c (number_from q f r (left ++ (get_or r p 0 ∷ [])) ps) (fault_at q f (length ps) p (get_or r p 0)))
+        → Leftmost q f r left (p ∷ ps) (cond c (number_from q f r (left ++ (get_or r p 0 ∷ [])) ps)
+        (fault_at q f (length ps) p (get_or r p 0)))
     go false m u ih = record {
       before = [];
       byte = get_or r p 0;

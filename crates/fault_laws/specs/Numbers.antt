@@ -20,7 +20,8 @@ use Rattle.widths.specs.Width.{tail_point}
 use Rattle.places.specs.rule.Places.{pick}
 use Rattle.places.specs.Laws.{length_pick}
 use Rattle.fields.specs.rule.Number.{Said, blank, says, wrong, all_spaces, unspaced, digits_only, decimal, code_after, code_of}
-use Rattle.fields.specs.rule.Number.{whole_part, decimal_part, point_stands, amount_form, amount_size, amount_of, quantity_after, quantity_of}
+use Rattle.fields.specs.rule.Number.{whole_part, decimal_part, point_stands, amount_form, amount_size, amount_of, quantity_after}
+use Rattle.fields.specs.rule.Number.{quantity_of}
 use Rattle.faults.specs.declared.Fault.{Fault}
 use Rattle.faults.specs.declared.Fault.TheVariants.{Sound, Stray, NotLegal, Point}
 use Rattle.faults.specs.rule.Fault.{code_format, fixed_of, point_place, may_stand, fault_at, number_from}
@@ -51,7 +52,8 @@ from_stands q f r left [] = refl
 from_stands q f r left (p ∷ ps) = rw (length_pick r ps)
     (go (may_stand q f left (length ps) (get_or r p 0)) (from_stands q f r (left ++ (get_or r p 0 ∷ [])) ps))
   where
-    go : (c : Bool) → some_fault (number_from q f r (left ++ (get_or r p 0 ∷ [])) ps) ≡ not (stands q f (left ++ (get_or r p 0 ∷ [])) (pick r ps))
+    go : (c : Bool) → some_fault (number_from q f r (left ++ (get_or r p 0 ∷ [])) ps)
+        ≡ not (stands q f (left ++ (get_or r p 0 ∷ [])) (pick r ps))
         → some_fault (cond c (number_from q f r (left ++ (get_or r p 0 ∷ [])) ps) (fault_at q f (length ps) p (get_or r p 0)))
         ≡ not (c && stands q f (left ++ (get_or r p 0 ∷ [])) (pick r ps))
     go true ih = ih

@@ -17,7 +17,8 @@ use Rattle.widths.specs.Width.{whole_least}
 use Rattle.fields.specs.Facts.{KindFacts, QuantityFacts, RowFacts}
 use Rattle.fields.specs.rule.Row.{reading_of}
 use Rattle.sets.specs.rule.Sets.{is_illegal}
-use Rattle.sound.specs.rule.Sound.{value_at, range_width, widest, width_good, widths_good, row_good, rows_good, good_at, lines_before, columns_of}
+use Rattle.sound.specs.rule.Sound.{value_at, range_width, widest, width_good, widths_good, row_good, rows_good, good_at, lines_before}
+use Rattle.sound.specs.rule.Sound.{columns_of}
 use Rattle.sound.specs.rule.Sound.{well_formed}
 use Rattle.sound.specs.rule.Rows.{rows_of, length_of}
 use Rattle.sound.specs.Rows.{parts, row_facts}

@@ -1,5 +1,6 @@
 -- "Only a row sound in form is judged for values: the first number neither in range nor on a line is given."
-use Rattle.std.specs.Prelude.{◌≡◌, refl, Bool, true, false, cond, not, ◌&&◌, ◌||◌, List, [], ◌∷◌, ◌++◌, ℕ, zero, suc, ◌+◌, ◌-◌, ◌*◌, ◌≤◌, ◌<◌, eqb, ℤ, pos, length, take, drop, get_or}
+use Rattle.std.specs.Prelude.{◌≡◌, refl, Bool, true, false, cond, not, ◌&&◌, ◌||◌, List, [], ◌∷◌, ◌++◌, ℕ, zero, suc, ◌+◌, ◌-◌, ◌*◌, ◌≤◌}
+use Rattle.std.specs.Prelude.{◌<◌, eqb, ℤ, pos, length, take, drop, get_or}
 use Rattle.std.proofs.Common.{sym, ap, subst, ◌∙◌, suc-mul, add_comm, zero-mul, arith, drop-drop}
 use Rattle.below.specs.Below.{holds_not}
 use Rattle.cells.specs.rule.Cell.{eq_z}
@@ -135,7 +136,8 @@ first_number ok w (suc n) r ps z e =
     earlier i q k l zero h y d = value_sound (usable ok) (code_of (pick r (take w ps))) q y (rw (zeroth w ps) at d)
     earlier i q k l (suc j) h y d = l j (omega arith) y (rw (← next w ps j) at d)
 
-    go : (x : Fault) → value_fault (usable ok) (code_of (pick r (take w ps))) ≡ x → or_else x (spread_value ok w r n (drop w ps)) ≡ NotLegal z
+    go : (x : Fault) → value_fault (usable ok) (code_of (pick r (take w ps))) ≡ x → or_else x (spread_value ok w r n (drop w ps))
+        ≡ NotLegal z
         → (spread_value ok w r n (drop w ps) ≡ NotLegal z → FirstNumber ok w n r (drop w ps) z) → FirstNumber ok w (suc n) r ps z
     go Sound q d ih =
         let i = ih d in let h = i.inside in

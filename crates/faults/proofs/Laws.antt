@@ -5,13 +5,12 @@ use mathlib.Core.Bool.{Bool, true, false, cond, not, ◌&&◌, ◌||◌}
 use mathlib.Core.List.{List, [], ◌∷◌, ◌++◌}
 use Prim.Native.Nat.{ℕ, zero, suc, ◌+◌, ◌-◌, ◌≤◌, ◌<◌}
 use native.Mathlib.Omega.{arith}
-use native.Mathlib.Nat.{add-zero, add-suc}
+use native.Mathlib.Nat.{add-zero}
 use native.Mathlib.Numerals.{add-one}
 use lib.Dec.{eqb}
 use lib.IntN.{ℤ, pos}
 use lib.ListN.{length, get_or, take, drop}
 use lib.Seq.{take_at, drop_at}
-use Rattle.below.specs.Below.{holds_not}
 use Rattle.cells.specs.rule.Cell.{eq_z}
 use Rattle.layout.specs.declared.Kind.{Kind}
 use Rattle.layout.specs.declared.Row.{Row}
@@ -23,9 +22,9 @@ use Rattle.fields.specs.rule.Legal.{legal}
 use Rattle.fields.specs.rule.Row.{bit_places, spread_places, places_by, places_of}
 use Rattle.sets.proofs.BitLaws.{rest_of, allowed, passed, no_more}
 use Rattle.faults.specs.declared.Fault.{Fault}
-use Rattle.faults.specs.declared.Fault.TheVariants.{Sound, Stray, NotLegal, Point}
+use Rattle.faults.specs.declared.Fault.TheVariants.{Sound, Stray, NotLegal}
 use Rattle.faults.specs.declared.Test.{Test}
-use Rattle.faults.specs.declared.Test.TheVariants.{Space, Bit, Plain}
+use Rattle.faults.specs.declared.Test.TheVariants.{Space}
 use Rattle.faults.specs.rule.Fault.{or_else, may_stand, fault_at, number_from, number_form, passes, first_failing, plain_form}
 use Rattle.faults.specs.rule.Fault.{code_format, spread_form, spread_value, value_fault, usable, form_by, value_by}
 use Rattle.faults.specs.Joined.{numeral_fault, some_fault, spaces_more}

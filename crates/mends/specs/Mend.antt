@@ -1,7 +1,8 @@
 -- What the code keeps while it mends, and how its counts give the call's outcome.
 use Rattle.std.specs.Prelude.{◌≡◌, Bool, leb, ltb, ℤ, take, drop, get_or}
 use Rattle.std.proofs.Math.Path.{refl, sym, ap}
-use Rattle.std.proofs.Common.{◌∙◌, div-mul-le_self, le-div_iff_mul-le, length-append, length-take, length-drop, drop_of_length-le, drop-cons, take_all, add-one}
+use Rattle.std.proofs.Common.{◌∙◌, div-mul-le_self, le-div_iff_mul-le, length-append, length-take, length-drop, drop_of_length-le}
+use Rattle.std.proofs.Common.{drop-cons, take_all, add-one}
 use Rattle.std.proofs.Math.Bool.{true, false, cond}
 use mathlib.Core.List.{List, [], ◌∷◌, ◌++◌, map, append_assoc, map-append}
 use Prim.Native.Nat.{ℕ, zero, suc, ◌+◌, ◌-◌, ◌*◌, ◌/◌, ◌≤◌, ◌<◌}
@@ -236,7 +237,8 @@ module _ (d : List ℕ) (j stop : ℕ) where
   part_over : stop ≤ j → part d j stop ≡ []
   part_over h = let q : stop - j ≡ 0 = omega arith in rw q
 
-  pub plain_next : j < stop → stop ≤ length d → map plain_byte (part d j stop) ≡ plain_byte (get_or d j 0) ∷ map plain_byte (part d (j + 1) stop)
+  pub plain_next : j < stop → stop ≤ length d → map plain_byte (part d j stop) ≡ plain_byte (get_or d j 0)
+      ∷ map plain_byte (part d (j + 1) stop)
   plain_next h l = ap (map plain_byte) (part_step h l)
 
   pub plain_over : stop ≤ j → map plain_byte (part d j stop) ≡ []
@@ -249,7 +251,8 @@ module _ (d : List ℕ) (n : ℕ) where
   unfolding byte_entries onto first_piece
   left_on j h e =
       ap (λ (x : List Piece). entry_numbers (byte_entries n j (first_piece x).bytes)) (cut_on d j h e)
-      ∙ numbers_append (listed_if (low_at d j) (mend_entry 2 n j)) (byte_entries n (j + 1) (first_piece (cut_from 0 (drop (j + 1) d))).bytes)
+      ∙ numbers_append (listed_if (low_at d j) (mend_entry 2 n j))
+      (byte_entries n (j + 1) (first_piece (cut_from 0 (drop (j + 1) d))).bytes)
 
   left_run : (c j : ℕ) → j + c ≤ length d → ((i : ℕ) → j ≤ i → i < j + c → low_at d i ≡ false) → lows_left d n j ≡ lows_left d n (j + c)
   unfolding entry_numbers listed_if

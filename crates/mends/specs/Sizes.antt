@@ -1,5 +1,5 @@
 -- What the first pass counts, and that it is what the definitions measure.
-use Rattle.std.specs.Prelude.{◌≡◌, Bool, ◌⊎◌, ℕ, zero, suc, ◌+◌, ◌-◌, ◌*◌, ◌≤◌, ◌<◌, ltb}
+use Rattle.std.specs.Prelude.{◌≡◌, Bool, ℕ, zero, suc, ◌+◌, ◌*◌, ◌≤◌, ltb}
 use Rattle.std.proofs.Math.Path.{refl, ap}
 use Rattle.std.proofs.Common.{sym, ◌∙◌, ⊎_elim, zero-mul, add-mul, one-mul, length-append}
 use Rattle.std.proofs.Math.Bool.{true, false, cond}
@@ -200,7 +200,8 @@ length_piece w e n at p = go (is_empty p)
     go true = refl
     go false = simp (length-append, length_bytes, length_listed, length_unended) (omega arith)
 
-pub length_entries : (w : ℕ) (e : Terminator) (n at : ℕ) (ps : List Piece) → length (mend_entries w e n at ps) ≡ others_in e ps + short_in w ps
+pub length_entries : (w : ℕ) (e : Terminator) (n at : ℕ) (ps : List Piece) → length (mend_entries w e n at ps) ≡ others_in e ps
+    + short_in w ps
 unfolding mend_entries others_in short_in
 length_entries w e n at [] = refl
 length_entries w e n at (p ∷ ps) =

@@ -1,29 +1,26 @@
 -- The whole call: what the counts say of it, and what it leaves.
-use Rattle.std.specs.Prelude.{◌≡◌, Bool, ◌&&◌, ◌||◌, ℕ, zero, suc, ◌+◌, ◌-◌, ◌*◌, ◌≤◌, ◌<◌, eqb, ltb, leb, ℤ, drop}
+use Rattle.std.specs.Prelude.{◌≡◌, Bool, ◌&&◌, ◌||◌, ℕ, ◌+◌, ◌-◌, ◌*◌, ◌≤◌, eqb, ltb, leb, ℤ}
 use Rattle.std.proofs.Math.Path.{refl, sym}
-use Rattle.std.proofs.Common.{ap, ◌∙◌, arith, eqb-true, ne_eqb, ltb-true, ltb-false, lt-ltb, le-ltb, leb-true, leb-false}
+use Rattle.std.proofs.Common.{ap, ◌∙◌, arith, eqb-true, ne_eqb, ltb-false, lt-ltb, le-ltb, leb-true, leb-false}
 use Rattle.std.proofs.Math.Bool.{true, false, cond}
 use mathlib.Core.List.{List, [], ◌∷◌, ◌++◌, map, append-nil}
-use Rattle.std.proofs.lemmas.Bool.{eqb-false}
 use Rattle.std.proofs.Math.ListN.{length}
 use Rattle.std.proofs.lemmas.List.Edits.{sets}
-use Rattle.below.specs.Below.{holds_not, and_left, and_right, or_true}
+use Rattle.below.specs.Below.{and_left, and_right, or_true}
 use Rattle.sound.specs.rule.Sound.{well_formed}
 use Rattle.sound.specs.rule.Rows.{length_of}
 use Rattle.cuts.specs.declared.Terminator.{Terminator}
-use Rattle.cuts.specs.rule.Records.{terminator_bytes}
 use Rattle.fields.specs.rule.Field.{spaces}
 use Rattle.pieces.specs.rule.Pieces.{Piece, cut_from, pieces_of, boundary_bytes, laid_pieces}
 use Rattle.pieces.specs.Pieces.{low_count}
 use Rattle.pieces.specs.Laid.{pieces_laid}
 use Rattle.mends.specs.declared.Sizes.{Sizes}
-use Rattle.mends.specs.declared.Mended.{Mended}
 use Rattle.mends.specs.declared.Mended.TheVariants as M
-use Rattle.mends.specs.rule.Mend.{ending_of, plain_byte, width_of, is_empty, mended_record, record_of, mended_of, MendEntry, same_boundary}
+use Rattle.mends.specs.rule.Mend.{ending_of, plain_byte, width_of, mended_record, mended_of, same_boundary}
 use Rattle.mends.specs.rule.Mend.{mend_entries, entry_numbers}
-use Rattle.mends.specs.rule.Mend.{width_of_records, bytes_in, list_in, MendAnswer, done, refused, mend_said, mended_as, kept_or_new, Mends}
+use Rattle.mends.specs.rule.Mend.{width_of_records, bytes_in, list_in, done, refused, mend_said, mended_as, kept_or_new, Mends}
 use Rattle.mends.specs.Stores.{sets_front}
-use Rattle.mends.specs.Sizes.{one, larger, sizes_of, kept_in, short_in, others_in, sizes_width, sizes_kept, sizes_others, sizes_short}
+use Rattle.mends.specs.Sizes.{one, larger, kept_in, short_in, others_in, sizes_width, sizes_kept, sizes_others, sizes_short}
 use Rattle.mends.specs.Sizes.{length_entries, length_numbers, length_mended, Sized, width_rest, width_least}
 use Rattle.mends.specs.Mend.{Ends, Measured, start}
 
@@ -174,7 +171,8 @@ module _ (t : List ℤ) (d out : List ℕ) (list : List ℤ) where
       room_list = rw (length_numbers (list_in t d), ← c.entries)
           (leb-true _ _ (and_left (leb (3 * (z.others + z.short)) (length list)) _ r))
 
-      pub mends_done : (out' : List ℕ) (list' : List ℤ) → out' ≡ sets out 0 (bytes_in t d) → list' ≡ sets list 0 (entry_numbers (list_in t d))
+      pub mends_done : (out' : List ℕ) (list' : List ℤ) → out' ≡ sets out 0 (bytes_in t d) → list'
+          ≡ sets list 0 (entry_numbers (list_in t d))
           → Mends t d out out' list list' (M.Done (z.kept * (z.width + e.size)) (z.others + z.short))
       unfolding mend_said kept_or_new
       mends_done out' list' a b = let m = rooms true r in record {

@@ -214,7 +214,8 @@ fn note_end(
     stop: usize,
 ) -> usize
     requires number_bound { (number < 9223372036854775808) × (stop < 9223372036854775808) }
-    requires stop_in_bounds { k + length (entry_numbers (listed_if padded (mend_entry 3 number stop) ++ cond ended [] (mend_entry 4 number stop ∷ [])))
+    requires stop_in_bounds { k + length (entry_numbers
+        (listed_if padded (mend_entry 3 number stop) ++ cond ended [] (mend_entry 4 number stop ∷ [])))
         ≤ length list.old }
     ensures { Stored list.old list.new k
         (entry_numbers (listed_if padded (mend_entry 3 number stop) ++ cond ended [] (mend_entry 4 number stop ∷ []))) result }

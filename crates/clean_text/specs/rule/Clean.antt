@@ -1,7 +1,7 @@
 -- THE CLEAN TEXT of a survey (document 02, C-11): "a clean 1.1 file: fixed keyword order, one statement a line with CR LF, widths always
 -- stated, texts carried over with dropped bytes removed, comments and notes left out, numbers as they stand, DATE to USER, STANDARD NAMES
 -- and TITLE kept." A text is lines, a line is tokens with a space between two. 13 10 is CR LF, 34 the quote.
-use Rattle.std.specs.Prelude.{Bool, true, false, cond, List, [], ◌∷◌, ◌++◌, map, ℕ, ◌+◌, ◌-◌, ◌/◌}
+use Rattle.std.specs.Prelude.{Bool, true, false, List, [], ◌∷◌, ◌++◌, map, ℕ, ◌+◌, ◌-◌, ◌/◌}
 use Rattle.std.proofs.Math.Option.{Option, none, some, get_or}
 use Rattle.ascii.specs.rule.Tens.{digits_of}
 use Rattle.fields.specs.rule.Number.{padded}

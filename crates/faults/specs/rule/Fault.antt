@@ -1,7 +1,8 @@
 -- "Say what is wrong with a field": the fault of a row, in the request's words, a sentence a line. `quantity` says whether a number is a
 -- quantity (else it is a SINGLE's or a subfield's), f is its format, `left` are the bytes to the left of a byte b in its value places or
 -- its subfield, `after` is how many follow it there. 32 is a space, 45 `-`, 46 the point, 48 to 57 the digits.
-use Rattle.std.specs.Prelude.{Bool, true, false, cond, not, ◌&&◌, ◌||◌, List, [], ◌∷◌, ◌++◌, ℕ, zero, suc, ◌+◌, eqb, leb, ℤ, pos, length, take, drop, get_or}
+use Rattle.std.specs.Prelude.{Bool, true, false, cond, not, ◌&&◌, ◌||◌, List, [], ◌∷◌, ◌++◌, ℕ, zero, suc, ◌+◌, eqb, leb, ℤ, pos, length}
+use Rattle.std.specs.Prelude.{take, drop, get_or}
 use Rattle.ascii.specs.rule.Class.{within}
 use Rattle.cells.specs.rule.Cell.{eq_z}
 use Rattle.widths.specs.rule.Width.{tail_of, least_whole}

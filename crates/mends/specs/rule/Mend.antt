@@ -1,6 +1,7 @@
 -- Document 02, C-19: "Mend a damaged data file". Each sentence of the request stands before the definition that states it; records are the
 -- pieces between boundaries (crate `pieces`).
-use Rattle.std.specs.Prelude.{◌≡◌, Bool, true, false, cond, ◌&&◌, ◌||◌, List, [], ◌∷◌, ◌++◌, map, ℕ, ◌+◌, ◌-◌, ◌*◌, eqb, ltb, ℤ, pos, length, drop}
+use Rattle.std.specs.Prelude.{◌≡◌, Bool, true, false, cond, ◌&&◌, ◌||◌, List, [], ◌∷◌, ◌++◌, map, ℕ, ◌+◌, ◌-◌, ◌*◌, eqb, ltb, ℤ, pos}
+use Rattle.std.specs.Prelude.{length, drop}
 use Rattle.cuts.specs.declared.Terminator.{Terminator}
 use Rattle.cuts.specs.rule.Cut.{two_bytes, terminator_of}
 use Rattle.cuts.specs.rule.Records.{terminator_bytes}
