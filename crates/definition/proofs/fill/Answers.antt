@@ -1,15 +1,13 @@
 use mathlib.Core.Path.{◌≡◌, refl, sym, ◌∙◌}
 use mathlib.Core.Bool.{Bool, true, false, cond}
 use Prim.Native.Nat.{ℕ}
-use borrow.Author.Rules.{rules}
 use lib.Dec.{ltb}
 use Rattle.layout.specs.rule.Layout.{line_base}
 use Rattle.laying.specs.declared.Tally.{Tally}
 use Rattle.laying.specs.Code.{filled_in}
 use Rattle.definition.specs.declared.Answer.TheVariants as answer
 use Rattle.definition.specs.Code.{fill_says}
-use Rattle.definition.proofs.fill.Statement.{statement}
-use Rattle.definition.proofs.fill.Tie as tie
+use Rattle.definition.proofs.fill.Goals as goal
 
 -- what is said, by whether it was filled
 by_room : (y : Tally) (n : ℕ) → fill_says y n ≡ cond (filled_in y n) (answer.Read y.rows y.lines) (answer.Refused 10 0)
@@ -20,15 +18,16 @@ by_room y n = by (ltb n (line_base y.rows y.lines)) where
   by true = refl
   by false = refl
 
-returns : tie.Need-returns
-returns c =
-    let q = c.before.before.fill.ensures in
-    (rw (by_room _ _, sym q.0 ∙ c.if1.true), q.1)
+pub returns-then-fill : goal.returns-then-fill
+returns-then-fill c =
+    let q = c.fill.ensures in record {
+      value = rw (by_room _ _, sym q.value ∙ c.if-fill.true);
+      table_after = q.table_after;
+    }
 
-returns-2 : tie.Need-returns-2
-returns-2 c =
-    let q = c.before.before.fill.ensures in
-    (rw (by_room _ _, sym q.0 ∙ c.if1.false), q.1)
-
-pub fill_spec : {M : Type 1} → statement M
-fill_spec = tie.close (tie.spec (λ c κs. search rules) (λ c. search rules) returns (λ c. search rules) returns-2)
+pub returns-else-fill : goal.returns-else-fill
+returns-else-fill c =
+    let q = c.fill.ensures in record {
+      value = rw (by_room _ _, sym q.value ∙ c.if-fill.false);
+      table_after = q.table_after;
+    }
