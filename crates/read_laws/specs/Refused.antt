@@ -20,6 +20,16 @@ use Rattle.records.proofs.Laws.{first_nowhere}
 use Rattle.read_laws.specs.rule.Refused.{IsFirst, Passes, NoLow, RecordOutcome, not_formed, too_short, low_byte_lem, bad_field_lem, no_fault}
 
 module _ (f : ℕ → Bool) where
+  pub none_found : (n i : ℕ) → first_from f i n ≡ Nothing → (j : ℕ) → i ≤ j → j < i + n → f j ≡ false
+  unfolding first_from
+  none_found zero i e j a b = absurd (omega arith)
+  none_found (suc n) i e j a b = go (f i) refl e (λ q. none_found n (suc i) q)
+    where
+      go : (c : Bool) → f i ≡ c → cond c (At i) (first_from f (suc i) n) ≡ Nothing
+          → (first_from f (suc i) n ≡ Nothing → (j : ℕ) → suc i ≤ j → j < suc i + n → f j ≡ false) → f j ≡ false
+      go true q p ih = let z : ◌≡◌ {A = ℕ} 0 1 = cc in absurd (omega arith)
+      go false q p ih = ⊎_elim (λ s. ap f (sym s) ∙ q) (λ l. ih p j l (omega arith)) (eq-or-lt_of_le a)
+
   pub nothing_found : (n i : ℕ) → ((j : ℕ) → i ≤ j → j < i + n → f j ≡ false) → first_from f i n ≡ Nothing
   unfolding first_from
   nothing_found zero i h = refl
