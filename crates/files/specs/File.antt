@@ -9,8 +9,6 @@ use Rattle.cuts.specs.rule.Records.{Records, over, unended, record_and, records_
 use Rattle.sound.specs.rule.Sound.{well_formed}
 use Rattle.sound.specs.rule.Rows.{rows_of, length_of}
 use Rattle.records.specs.rule.Verdict.{Verdict, sound, refused, low_byte, bad_field, rows_verdict}
-use Rattle.records.specs.declared.Judged.{Judged}
-use Rattle.records.specs.declared.Judged.TheVariants as judged
 use Rattle.files.specs.rule.File.{FileVerdict, sound_with, bad_table, fault_in, record_verdict, go_on, first_length, records_verdict}
 use Rattle.files.specs.rule.File.{is_sound, file_verdict}
 

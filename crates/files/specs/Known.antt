@@ -1,6 +1,6 @@
 -- A record's first byte below 32 that is known, or that it has none: what it says of the record's verdict.
-use Rattle.std.specs.Prelude.{◌≡◌, refl, true, false, List, ℕ, ◌+◌, ◌-◌, ◌≤◌, ◌<◌, ℤ, length, drop, get_or}
-use Rattle.std.proofs.Common.{sym, ap, ◌∙◌, arith, length-take, length-drop, get_or-drop, get_or-take}
+use Rattle.std.specs.Prelude.{◌≡◌, true, false, List, ℕ, ◌+◌, ◌-◌, ◌≤◌, ◌<◌, ℤ, length, drop}
+use Rattle.std.proofs.Common.{sym, ◌∙◌, arith, length-take, length-drop, get_or-drop, get_or-take}
 use Rattle.lows.specs.rule.Lows.{low_at}
 use Rattle.lows.specs.Lows.{Clear}
 use Rattle.cuts.specs.Cut.{FirstLow}

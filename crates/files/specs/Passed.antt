@@ -1,5 +1,5 @@
 -- Sound records that are passed without a search for their ends: the verdict on a file is that on what is left.
-use Rattle.std.specs.Prelude.{◌≡◌, refl, Bool, true, false, cond, List, ℕ, zero, suc, ◌+◌, ◌-◌, ◌*◌, ◌≤◌, ◌<◌, eqb, leb, ℤ, length, drop}
+use Rattle.std.specs.Prelude.{◌≡◌, refl, Bool, true, false, cond, List, ℕ, zero, suc, ◌+◌, ◌*◌, ◌≤◌, ◌<◌, eqb, leb, ℤ, length, drop}
 use Rattle.std.proofs.Common.{sym, ap, ◌∙◌, zero-mul, suc-mul, arith, eqb-true, leb-true, ne_eqb}
 use Rattle.below.specs.Below.{holds_not}
 use Rattle.lows.specs.Lows.{Clear, clear_none}
@@ -32,7 +32,8 @@ first_known : (n first size : ℕ) → 1 ≤ n → first_length n first size ≡
 unfolding first_length
 first_known n first size h = rw (ne_eqb n 0 (λ e. omega arith))
 
-pub sound_next : (t : List ℤ) (d : List ℕ) (w : Terminator) (first from : ℕ) → PlainNext d w from first → length_of t ≤ first → {v : Verdict}
+pub sound_next : (t : List ℤ) (d : List ℕ) (w : Terminator) (first from : ℕ) → PlainNext d w from first → length_of t ≤ first
+    → {v : Verdict}
     → v ≡ rows_verdict t (rows_of t) (part d from (from + first)) → is_sound v ≡ true → SoundNext t d w first from
 sound_next t d w first from p l e s = record {
   next = p;
