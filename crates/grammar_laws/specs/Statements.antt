@@ -91,7 +91,8 @@ module _ (d : List ℕ) where
   pub spread_is : (width : ℕ) {n m : ℕ} {s : says.Spread} → PartsRead width n s m → spread d width n ≡ Is s m
   unfolding spread capitals
   spread_is width {m = m} {s = s} (parts y o c) =
-      rw (number_is d y, optional_is d {w = OF} refl (number d) (λ n m a. number_is d) o) (judged_there (spread_charges width s.count s.width) s m c)
+      rw (number_is d y, optional_is d {w = OF} refl (number d) (λ n m a. number_is d) o)
+      (judged_there (spread_charges width s.count s.width) s m c)
 
   pub spread_halted : (width n : ℕ) {f : Fault} → SpreadStops d width n f → spread d width n ≡ Not f
   unfolding spread capitals

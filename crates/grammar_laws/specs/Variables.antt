@@ -162,7 +162,8 @@ module _ (d : List ℕ) where
         → RestRead d (room p) before t h r i → Statement d END i j → Keyword d VARIABLE j m
         → Clean (width_faults (variable_of x name label p r))
         → VariableRead d earlier n (variable_of x name label p r) m
-    variable_of_lem {x = x} {name = name} {label = label} {p = p} {r = r} (refusal.ident s y c) na la (refusal.type ty w) (sound po c₂) (sound
+    variable_of_lem {x = x} {name = name} {label = label} {p = p} {r = r} (refusal.ident s y c) na la (refusal.type ty w) (sound po c₂)
+        (sound
         re c₃) e k c₄ =
         let v = variable_of x name label p r in
         sound (grammar.variable s y na la ty w po re (token.end e k))
@@ -180,7 +181,8 @@ module _ (d : List ℕ) where
         then (rest_view p before t h) λ r i a₆.
         then (statement_view d {w = END} refl i) λ u j a₇.
         then (word_view d {w = VARIABLE} refl j) λ u m a₈.
-        judge (width_faults (variable_of x name label p r)) (variable_of x name label p r) m (λ k. variable_of_lem a₁ a₂ a₃ a₄ a₅ a₆ a₇ a₈ k)
+        judge (width_faults (variable_of x name label p r)) (variable_of x name label p r) m
+        (λ k. variable_of_lem a₁ a₂ a₃ a₄ a₅ a₆ a₇ a₈ k)
 
     pub variable_is : {n m : ℕ} {v : Variable} → VariableRead d earlier n v m → rules.variable d earlier n ≡ Is v m
     unfolding rules.variable capitals differ
