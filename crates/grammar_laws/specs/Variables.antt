@@ -74,7 +74,7 @@ module _ (d : List ℕ) where
         (either d SPREAD (λ n. bind (spread d (room p) n) λ s m. Is (some s) m) (λ m. Is none m) n)
     unfolding capitals
     spread_or n =
-        either_view d {w = SPREAD} refl n _ _ (λ m h. mapped some (spread_view d (room p) m) (λ s k x. on h x)) (λ o. reads
+        either_view d {w = SPREAD} refl n _ (λ m. Is none m) (λ m h. mapped some (spread_view d (room p) m) (λ s k x. on h x)) (λ o. reads
         (refusal.undivided o)) where
           on : {m k : ℕ} {s : says.Spread} → Here d SPREAD n m → PartsRead d (room p) m s k → SpreadRead d (room p) n (some s) k
           on h (parts y o c) = refusal.SpreadRead.given h y o c
@@ -140,7 +140,7 @@ module _ (d : List ℕ) where
     spread_halts : (n : ℕ) {f : Fault} → Or d SPREAD n (SpreadStops d (room p)) Never f
         → either d SPREAD (λ n. bind (spread d (room p) n) λ s m. Is (some s) m) (λ m. Is none m) n ≡ Not f
     unfolding capitals
-    spread_halts n = either_halted d {w = SPREAD} refl n _ _ (λ m f z. rw (spread_halted d (room p) m z)) (λ f z. absurd z)
+    spread_halts n = either_halted d {w = SPREAD} refl n _ (λ m. Is none m) (λ m f z. rw (spread_halted d (room p) m z)) (λ f z. absurd z)
 
     pub rest_halted : (t : Sort) (n : ℕ) {f : Fault} → RestStops d (room p) before t n f → content d p before t n ≡ Not f
     rest_halted Single n z = rw (values_halted d false before n z)
