@@ -1,16 +1,14 @@
 -- Where a tag leads: not beyond the end.
-use mathlib.Core.Path.{◌≡◌, refl, sym, ap, ◌∙◌}
-use mathlib.Core.Bool.{Bool, true, false, cond, ◌&&◌}
-use mathlib.Core.List.{List, [], ◌∷◌}
-use Prim.Native.Nat.{ℕ, zero, suc, ◌+◌, ◌-◌, ◌≤◌, ◌<◌}
-use native.Mathlib.Omega.{arith}
+use mathlib.Core.Path.{◌≡◌}
+use mathlib.Core.Bool.{Bool}
+use mathlib.Core.List.{List, []}
+use Prim.Native.Nat.{ℕ, ◌≤◌}
 use lib.ListN.{length}
 use Rattle.tags.specs.rule.Tag.{tag_of}
 use Rattle.tags.specs.declared.Held.{Held}
-use Rattle.tags.specs.declared.Tag.{Tag}
 use Rattle.tags.specs.declared.Tag.TheVariants as tag
-use Rattle.pairs.proofs.Lies.{Lies, lies_within}
-use Rattle.pairs.proofs.Tags.{TagSaid, tag_sound}
+use Rattle.pairs.proofs.Lies.{lies_within}
+use Rattle.pairs.proofs.Tags.{tag_sound}
 
 pub bare_on : (bad : Bool) (d : List ℕ) (o e : ℕ) (h : Held) (em : Bool) (q n : ℕ) → e ≤ length d → tag_of bad d o e [] [] [] 0 0 0 0
     ≡ tag.Read h em q n → n ≤ length d

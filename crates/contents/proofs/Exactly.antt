@@ -6,37 +6,31 @@ use mathlib.Core.List.{List, [], ◌∷◌, ◌++◌, append_assoc, append-nil}
 use Prim.Native.Nat.{ℕ, zero, suc, ◌+◌, ◌-◌, ◌≤◌, ◌<◌}
 use native.Mathlib.Omega.{arith}
 use lib.Dec.{leb, eqb}
-use lib.ListN.{length, take, drop, get_or, length-append, length-drop, drop_of_length-le}
+use lib.ListN.{length, take, drop, length-drop, drop_of_length-le}
 use lib.Seq.{take-nil, drop-nil, drop-length, take_at, length-take-le}
 use borrow.Author.Tests.{eq-eqb, eqb-true, lt-leb, le-leb, leb-true, leb-false}
 use Rattle.below.specs.Below.{and_left, and_right}
 use Rattle.signs.specs.declared.Sign.{Sign}
-use Rattle.utf.specs.rule.Chars.{Chars}
 use Rattle.utf.specs.rule.Cut.{first_bad}
-use Rattle.utf.proofs.Exactly.{utf_exactly}
 use Rattle.markup.specs.rule.Bytes.{stands}
-use Rattle.angles.specs.rule.Angle.{angle_of}
-use Rattle.tags.specs.rule.Tag.{is_named}
-use Rattle.pairs.specs.rule.Stand.{shut_of}
 use Rattle.pairs.specs.rule.Grammar.{Name, Ends, ends, Behind, first_of}
 use Rattle.pairs.proofs.Lies.{Lies, lies_none, lies_cut, lies_within}
 use Rattle.pairs.proofs.Given.{first_none, first_join}
-use Rattle.pairs.proofs.Tags.{TagRead, tag_complete}
-use Rattle.pairs.proofs.Ends.{EndAt, Closing, ends_complete}
-use Rattle.contents.specs.rule.Grammar.{br, text, lang, ContentPiece, plain, line, return, refer, note, alone, pair, unsaid}
+use Rattle.pairs.proofs.Tags.{tag_complete}
+use Rattle.pairs.proofs.Ends.{EndAt, ends_complete}
+use Rattle.contents.specs.rule.Grammar.{text, lang, ContentPiece, plain, line, return, refer, note, alone, pair, unsaid}
 use Rattle.contents.specs.rule.Grammar.{ContentText, end, more}
 use Rattle.contents.specs.rule.Grammar.{language}
 use Rattle.contents.specs.rule.Step.{mode_in, close_at, mark_at, step_of}
-use Rattle.contents.specs.rule.Content.{begun, content_from, content_of, signs_of, signs_from, text_from, is_text}
+use Rattle.contents.specs.rule.Content.{begun, content_of, signs_of, signs_from, text_from, is_text}
 use Rattle.contents.specs.declared.Going.{Going}
 use Rattle.contents.specs.declared.Said.{Said}
 use Rattle.contents.specs.declared.Said.TheVariants as said
-use Rattle.contents.specs.declared.Content.{Content}
-use Rattle.contents.specs.declared.Content.TheVariants.{Read, Cut, Fault}
+use Rattle.contents.specs.declared.Content.TheVariants.{Read, Fault}
 use Rattle.contents.specs.declared.Step.{Step}
 use Rattle.contents.specs.declared.Step.TheVariants.{More, Over}
-use Rattle.contents.proofs.Views.{Stop, nothing, mark, Ended, View, passed, entered, left, read, cut, fault, step_view}
-use Rattle.contents.proofs.Goes.{Goes, stay, on, Rest, outer, inner, Owed, goes_back, Reached, content_reached, goes_content}
+use Rattle.contents.proofs.Views.{Stop, nothing, mark, Ended, View, read, step_view}
+use Rattle.contents.proofs.Goes.{Goes, stay, on, Rest, outer, Owed, goes_back, Reached, content_reached, goes_content}
 use Rattle.contents.proofs.Goes.{content_over, step_on, signs_next, signs_over, text_next, text_over, text_end}
 use Rattle.contents.proofs.Pieces.{text_name, stand, StepTo, piece_step, text_start, step_language, no_note, never}
 

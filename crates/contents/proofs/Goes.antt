@@ -6,24 +6,25 @@ use Prim.Native.Nat.{ℕ, zero, suc, ◌+◌, ◌-◌, ◌≤◌, ◌<◌}
 use native.Mathlib.Omega.{arith}
 use lib.Dec.{leb, eqb}
 use lib.ListN.{length, drop, length-append}
-use borrow.Author.Tests.{le-leb, lt-leb, leb-true, leb-false}
-use Rattle.scan.specs.rule.Loop.{Next, Again, Done, loop_of}
+use borrow.Author.Tests.{le-leb, lt-leb}
+use Rattle.scan.specs.rule.Loop.{Next, Again, Done}
 use Rattle.scan.proofs.Loops.{loop_again, loop_done}
 use Rattle.signs.specs.declared.Sign.{Sign}
-use Rattle.pairs.specs.rule.Grammar.{Ends, ends, Behind, first_of}
-use Rattle.pairs.proofs.Lies.{Lies, lies_none, lies_join}
-use Rattle.pairs.proofs.Given.{first_none, first_join}
-use Rattle.contents.specs.rule.Grammar.{text, lang, ContentPiece, ContentText, end, more, language}
+use Rattle.pairs.specs.rule.Grammar.{Ends, ends, first_of}
+use Rattle.pairs.proofs.Lies.{Lies, lies_join}
+use Rattle.pairs.proofs.Given.{first_join}
+use Rattle.contents.specs.rule.Grammar.{text, ContentPiece, ContentText, end, more, language}
 use Rattle.contents.specs.rule.Step.{heard_of, mode_in, step_of}
-use Rattle.contents.specs.rule.Content.{begun, on_step, content_from, signs_of, said_by, signs_by, signs_from, on_text, text_step, text_from}
+use Rattle.contents.specs.rule.Content.{on_step, content_from, signs_of, said_by, signs_by, signs_from, on_text, text_step}
+use Rattle.contents.specs.rule.Content.{text_from}
 use Rattle.contents.specs.declared.Going.{Going}
 use Rattle.contents.specs.declared.Said.{Said}
 use Rattle.contents.specs.declared.Said.TheVariants as said
 use Rattle.contents.specs.declared.Content.{Content}
-use Rattle.contents.specs.declared.Content.TheVariants.{Read, Cut, Fault}
+use Rattle.contents.specs.declared.Content.TheVariants.{Fault}
 use Rattle.contents.specs.declared.Step.{Step}
 use Rattle.contents.specs.declared.Step.TheVariants.{More, Over}
-use Rattle.contents.proofs.Views.{Stop, nothing, mark, Passed, Entered, Left, Ended, View, passed, entered, left, read, cut, fault}
+use Rattle.contents.proofs.Views.{Stop, mark, View, passed, entered, left}
 use Rattle.contents.proofs.Views.{step_view}
 
 -- ---- a step goes on, and not beyond the end

@@ -1,13 +1,12 @@
 -- What the grammar has, a step passes.
-use mathlib.Core.Path.{◌≡◌, refl, sym, ap, ◌∙◌}
-use mathlib.Core.Logic.{◌↔◌}
+use mathlib.Core.Path.{◌≡◌, refl, ap, ◌∙◌}
 use mathlib.Core.Bool.{Bool, true, false, cond, ◌&&◌, not}
-use mathlib.Core.List.{List, [], ◌∷◌, ◌++◌, append_assoc}
-use Prim.Native.Nat.{ℕ, zero, suc, ◌+◌, ◌-◌, ◌≤◌, ◌<◌}
+use mathlib.Core.List.{List, [], ◌∷◌, ◌++◌}
+use Prim.Native.Nat.{ℕ, suc, ◌+◌, ◌-◌, ◌<◌}
 use native.Mathlib.Omega.{arith}
-use lib.Dec.{leb, eqb, ltb}
-use lib.ListN.{length, drop, get_or, length-append}
-use borrow.Author.Tests.{eq-eqb, ne_eqb, eqb-true, eqb-false, lt-leb}
+use lib.Dec.{leb, eqb}
+use lib.ListN.{length, drop, get_or}
+use borrow.Author.Tests.{ne_eqb, eqb-true, lt-leb}
 use Rattle.signs.specs.declared.Sign.{Sign}
 use Rattle.signs.specs.declared.Sign.TheVariants as sign
 use Rattle.utf.specs.rule.Chars.{encode}
@@ -15,37 +14,33 @@ use Rattle.utf.proofs.Strides.{drop_1}
 use Rattle.markup.specs.rule.Bytes.{of_kind, is_name, is_digit, starts_name, stands}
 use Rattle.markup.specs.rule.Reference.{reference_of}
 use Rattle.markup.specs.rule.Gap.{xml_comment}
-use Rattle.markup.specs.rule.Grammar.{Each, no_more, each, Ref, Note}
+use Rattle.markup.specs.rule.Grammar.{no_more, each, Note}
 use Rattle.markup.specs.declared.Char.TheVariants as char
 use Rattle.markup.specs.declared.Skip.TheVariants as skip
 use Rattle.markup.proofs.References.{reference_complete}
 use Rattle.markup.proofs.Gaps.{comment_complete}
 use Rattle.angles.specs.rule.Angle.{angle_of}
 use Rattle.angles.specs.declared.Angle.TheVariants as angle
-use Rattle.tags.specs.rule.Tag.{is_named, tag_of}
-use Rattle.tags.specs.declared.Tag.TheVariants as tag
-use Rattle.pairs.specs.rule.Stand.{shut_of, bare_of}
+use Rattle.tags.specs.rule.Tag.{is_named}
 use Rattle.pairs.specs.rule.Pair.{pair_of}
-use Rattle.pairs.specs.rule.Grammar.{Name, name, Ends, ends, Empties, Behind, first_of}
+use Rattle.pairs.specs.rule.Grammar.{Name, name, Behind, first_of}
 use Rattle.pairs.specs.declared.Pair.TheVariants as pairs
-use Rattle.pairs.proofs.Lies.{Lies, lies_none, lies_join, lies_byte, lies_cut, lies_first, lies_named}
-use Rattle.pairs.proofs.Given.{first_none, first_join}
+use Rattle.pairs.proofs.Lies.{Lies, lies_cut, lies_first, lies_named}
+use Rattle.pairs.proofs.Given.{first_none}
 use Rattle.pairs.proofs.Tags.{TagRead, tag_complete}
-use Rattle.pairs.proofs.Ends.{Edge, edge, behind_edge, start_complete, Closing, ends_complete, pair_exactly}
+use Rattle.pairs.proofs.Ends.{behind_edge, start_complete, pair_exactly}
 use Rattle.contents.specs.rule.Grammar.{br, text, lang, byte_signs, byte_of, ContentPiece, plain, line, return, refer, note, alone}
 use Rattle.contents.specs.rule.Grammar.{pair, unsaid}
-use Rattle.contents.specs.rule.Grammar.{ContentText, end, more, language}
-use Rattle.contents.specs.rule.Step.{heard_of, go_on_saying, bracket_at, return_at, refer_at, note_at, pair_at, break_at, language_at, mode_in}
+use Rattle.contents.specs.rule.Step.{heard_of, go_on_saying, bracket_at, return_at, refer_at, note_at, pair_at, break_at, language_at}
+use Rattle.contents.specs.rule.Step.{mode_in}
 use Rattle.contents.specs.rule.Step.{step_kind}
-use Rattle.contents.specs.rule.Step.{start_at, close_at, mark_at, step_of}
+use Rattle.contents.specs.rule.Step.{start_at, mark_at, step_of}
 use Rattle.contents.specs.rule.Content.{signs_of}
 use Rattle.contents.specs.declared.Going.{Going}
 use Rattle.contents.specs.declared.Said.{Said}
 use Rattle.contents.specs.declared.Said.TheVariants as said
-use Rattle.contents.specs.declared.Step.{Step}
-use Rattle.contents.specs.declared.Step.TheVariants.{More, Over}
-use Rattle.contents.proofs.Views.{Stop, nothing, mark, line_same, bracket_same, byte_ten}
-use Rattle.contents.proofs.Goes.{Goes, stay, on}
+use Rattle.contents.specs.declared.Step.TheVariants.{More}
+use Rattle.contents.proofs.Views.{Stop, line_same, bracket_same, byte_ten}
 
 -- ---- the names
 pub br_name : Name br
@@ -73,7 +68,8 @@ module _ (l bad : Bool) (d : List ℕ) (m : ℕ) (w : List ℕ) where
   heard_signs false s x e = e
 
   -- on without an attribute that isn't known
-  go_to : (i : Bool) (u p n : ℕ) (s : Said) (x : List Sign) → step_of bad d m w (stand i u p) ≡ go_on_saying (stand i u p) n s → signs_of l s
+  go_to : (i : Bool) (u p n : ℕ) (s : Said) (x : List Sign) → step_of bad d m w (stand i u p) ≡ go_on_saying (stand i u p) n s
+      → signs_of l s
       ≡ x
       → StepTo (stand i u p) (stand i (first_of u 0) n) (cond i [] x)
   go_to i u p n s x e f =

@@ -2,10 +2,10 @@
 use mathlib.Core.Path.{◌≡◌, refl, sym, ap, ◌∙◌}
 use mathlib.Core.Bool.{Bool, true, false, cond}
 use mathlib.Core.List.{List, [], ◌∷◌, ◌++◌}
-use Prim.Native.Nat.{ℕ, zero, suc, ◌+◌, ◌-◌, ◌/◌, ◌%◌, ◌≤◌, ◌<◌}
+use Prim.Native.Nat.{ℕ, ◌+◌, ◌/◌, ◌%◌, ◌≤◌, ◌<◌}
 use native.Mathlib.Omega.{arith}
 use lib.Dec.{ltb}
-use lib.ListN.{length, drop, get_or, drop_of_length-le}
+use lib.ListN.{length, drop_of_length-le}
 use Rattle.signs.specs.declared.Sign.{Sign}
 use Rattle.signs.specs.declared.Sign.TheVariants as sign
 use Rattle.utf.specs.rule.Chars.{encode}
@@ -13,7 +13,7 @@ use Rattle.utf.proofs.Strides.{drop_1}
 use Rattle.contents.specs.rule.Grammar.{byte_signs, byte_of}
 use Rattle.contents.specs.rule.Step.{step_of}
 use Rattle.contents.specs.rule.Content.{signs_of, signs_from, going_of, content_signs}
-use Rattle.contents.specs.Told.{heard_signs, heard_next, heard_code, Hears, part_signs, part_next, part_code, Tells, whole_part, first_part}
+use Rattle.contents.specs.Told.{Hears, part_signs, part_next, part_code, Tells, whole_part, first_part}
 use Rattle.contents.specs.Told.{next_part, byte_part}
 use Rattle.contents.specs.declared.Going.{Going}
 use Rattle.contents.specs.declared.Cursor.{Cursor}
@@ -21,7 +21,6 @@ use Rattle.contents.specs.declared.Said.{Said}
 use Rattle.contents.specs.declared.Said.TheVariants as said
 use Rattle.contents.specs.declared.Heard.{Heard}
 use Rattle.contents.specs.declared.Heard.TheVariants as heard
-use Rattle.contents.specs.declared.Part.{Part}
 use Rattle.contents.specs.declared.Part.TheVariants as part
 use Rattle.contents.specs.declared.Content.{Content}
 use Rattle.contents.specs.declared.Step.TheVariants.{More, Over}

@@ -1,16 +1,14 @@
 -- What a step of a text finds: a piece, the tags of a text in another language, the end tag; or none of them.
 use mathlib.Core.Path.{◌≡◌, refl, sym, ap, ◌∙◌}
-use mathlib.Core.Bool.{Bool, true, false, cond, ◌&&◌, not}
-use mathlib.Core.List.{List, [], ◌∷◌, ◌++◌, append_assoc}
-use Prim.Native.Nat.{ℕ, zero, suc, ◌+◌, ◌-◌, ◌≤◌, ◌<◌}
+use mathlib.Core.Bool.{Bool, true, false, cond, ◌&&◌}
+use mathlib.Core.List.{List, [], ◌∷◌, ◌++◌}
+use Prim.Native.Nat.{ℕ, ◌+◌, ◌≤◌, ◌<◌}
 use native.Mathlib.Omega.{arith}
 use lib.Dec.{leb, ltb, eqb}
-use lib.ListN.{length, drop, get_or, length-append}
-use lib.Seq.{drop-drop}
+use lib.ListN.{length, drop, get_or}
 use borrow.Author.Tests.{eqb-true, eqb-false, leb-false, ne_eqb, le-leb, lt-leb, ltb-true, ltb-false}
 use Rattle.below.specs.Below.{and_left, and_right, holds_not}
 use Rattle.utf.proofs.Strides.{drop_1}
-use Rattle.signs.specs.declared.Sign.{Sign}
 use Rattle.signs.specs.declared.Sign.TheVariants as sign
 use Rattle.utf.specs.rule.Chars.{encode, legal_character}
 use Rattle.markup.specs.rule.Bytes.{stands}
@@ -21,8 +19,8 @@ use Rattle.markup.specs.declared.Char.{Char}
 use Rattle.markup.specs.declared.Char.TheVariants as char
 use Rattle.markup.specs.declared.Skip.{Skip}
 use Rattle.markup.specs.declared.Skip.TheVariants as skip
-use Rattle.markup.proofs.References.{Referred, reference_sound}
-use Rattle.markup.proofs.Gaps.{Noted, comment_sound, stands_split}
+use Rattle.markup.proofs.References.{reference_sound}
+use Rattle.markup.proofs.Gaps.{comment_sound, stands_split}
 use Rattle.angles.specs.rule.Angle.{angle_of}
 use Rattle.angles.specs.declared.Angle.{Angle}
 use Rattle.angles.specs.declared.Angle.TheVariants as angle
@@ -36,13 +34,13 @@ use Rattle.pairs.specs.rule.Grammar.{Ends, ends, Behind, first_of}
 use Rattle.pairs.specs.declared.Pair.{Pair}
 use Rattle.pairs.specs.declared.Pair.TheVariants as pairs
 use Rattle.pairs.proofs.Lies.{Lies, lies_join, lies_byte, named_lies, lies_within, split_lies}
-use Rattle.pairs.proofs.Stands.{NameAt, name_long, angle_start, angle_close}
+use Rattle.pairs.proofs.Stands.{name_long, angle_start}
 use Rattle.pairs.proofs.Given.{first_none}
 use Rattle.pairs.proofs.Tags.{TagSaid, tag_sound}
-use Rattle.pairs.proofs.Ends.{EndAt, ends_sound, PairAt, pair_sound}
+use Rattle.pairs.proofs.Ends.{EndAt, ends_sound, pair_sound}
 use Rattle.contents.specs.rule.Grammar.{br, text, lang, byte_signs, byte_of, ContentPiece, plain, line, return, refer, note, alone}
 use Rattle.contents.specs.rule.Grammar.{pair, unsaid}
-use Rattle.contents.specs.rule.Step.{heard_of, go_on_saying, broken_at, cut_at, bracket_at, return_at, on_char, refer_at, on_note, note_at}
+use Rattle.contents.specs.rule.Step.{heard_of, go_on_saying, broken_at, bracket_at, return_at, on_char, refer_at, on_note, note_at}
 use Rattle.contents.specs.rule.Step.{knowing}
 use Rattle.contents.specs.rule.Step.{content_pair, pair_at, on_break, break_at, on_language, language_at, on_other, other_at}
 use Rattle.contents.specs.rule.Step.{mode_in, step_kind, start_at, on_out, on_end, close_at, on_angle, mark_at, step_of}
@@ -50,7 +48,6 @@ use Rattle.contents.specs.rule.Content.{signs_of}
 use Rattle.contents.specs.declared.Going.{Going}
 use Rattle.contents.specs.declared.Said.{Said}
 use Rattle.contents.specs.declared.Said.TheVariants as said
-use Rattle.contents.specs.declared.Content.{Content}
 use Rattle.contents.specs.declared.Content.TheVariants.{Read, Cut, Fault}
 use Rattle.contents.specs.declared.Step.{Step}
 use Rattle.contents.specs.declared.Step.TheVariants.{More, Over}

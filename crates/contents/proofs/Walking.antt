@@ -1,8 +1,8 @@
 -- What is passed at a look: line ends, references, comments, breaks; and end tags that are told so.
 use mathlib.Core.Path.{◌≡◌, refl, sym, ap, ◌∙◌}
 use mathlib.Core.Bool.{Bool, true, false, cond, ◌&&◌}
-use mathlib.Core.List.{List, [], ◌∷◌, ◌++◌, append-nil}
-use Prim.Native.Nat.{ℕ, zero, suc, ◌+◌, ◌-◌, ◌≤◌, ◌<◌}
+use mathlib.Core.List.{List, [], ◌∷◌, append-nil}
+use Prim.Native.Nat.{ℕ, ◌+◌, ◌≤◌, ◌<◌}
 use native.Mathlib.Omega.{arith}
 use lib.Dec.{leb, eqb}
 use lib.ListN.{length, drop, get_or}
@@ -27,7 +27,6 @@ use Rattle.pairs.proofs.Given.{first_none}
 use Rattle.contents.specs.rule.Grammar.{text, alone}
 use Rattle.contents.specs.rule.Step.{mode_in, close_at, mark_at, step_of}
 use Rattle.contents.specs.rule.Content.{content_from}
-use Rattle.contents.specs.declared.Going.{Going}
 use Rattle.contents.specs.declared.Said.TheVariants as said
 use Rattle.contents.specs.declared.Content.TheVariants.{Read}
 use Rattle.contents.specs.declared.Step.TheVariants.{More, Over}
@@ -45,7 +44,8 @@ passes_return d p h e = record {
   within = omega arith;
 }
 
-pub passes_refer : (d : List ℕ) (p c n : ℕ) → p < length d → get_or d p 0 ≡ 38 → reference_of p (drop (p + 1) d) ≡ char.Is c n → Passes d p n
+pub passes_refer : (d : List ℕ) (p c n : ℕ) → p < length d → get_or d p 0 ≡ 38 → reference_of p (drop (p + 1) d) ≡ char.Is c n
+    → Passes d p n
 passes_refer d p c n h f e =
     let o = step_on false d 0 [] (stand false 0 p) (stand false 0 n) _ (step_refer false false d 0 [] (stand false 0 p) c n h f e) in
     record {

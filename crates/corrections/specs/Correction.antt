@@ -21,7 +21,8 @@ use Rattle.corrections.specs.declared.Correction.{Correction}
 use Rattle.corrections.specs.declared.Request.{Request}
 use Rattle.corrections.specs.declared.Request.TheVariants.{Write, OtherTruth, OtherKind}
 use Rattle.corrections.specs.rule.Truth.{bad_truth}
-use Rattle.corrections.specs.rule.Correction.{Asked, asks, other_truth, other_kind, truth_asked, asked_of, mark_by, record_by, whole_refusal}
+use Rattle.corrections.specs.rule.Correction.{Asked, asks, other_truth, other_kind, truth_asked, asked_of, mark_by, record_by}
+use Rattle.corrections.specs.rule.Correction.{whole_refusal}
 
 -- what `get_or` has past the end of a list
 abbrev pub blank : Correction

@@ -6,7 +6,8 @@
 --     ended        at the end the two are what the definitions of the whole say
 use Rattle.std.specs.Prelude.{◌≡◌, ℕ, suc, ◌+◌, ◌<◌, ◌≤◌, Bool, ℤ, List, [], ◌∷◌, ◌++◌, take, drop, set, get_or}
 use Rattle.std.proofs.Math.Path.{refl, sym}
-use Rattle.std.proofs.Common.{◌∙◌, ap, lt-suc_self, add-one, arith, append_assoc, append-nil, length-set, drop_of_length-le, drop-cons, take-suc-set, drop-set-lt, take_all}
+use Rattle.std.proofs.Common.{◌∙◌, ap, lt-suc_self, add-one, arith, append_assoc, append-nil, length-set, drop_of_length-le, drop-cons}
+use Rattle.std.proofs.Common.{take-suc-set, drop-set-lt, take_all}
 use Rattle.std.proofs.Math.Bool.{true, false, cond}
 use borrow.Author.Tests.{eqb-true}
 use Rattle.std.proofs.Math.Dec.{eqb}

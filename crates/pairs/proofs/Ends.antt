@@ -3,18 +3,18 @@ use mathlib.Core.Path.{◌≡◌, refl, sym, ap, ◌∙◌}
 use mathlib.Core.Logic.{◌↔◌}
 use mathlib.Core.Bool.{Bool, true, false, cond}
 use mathlib.Core.List.{List, [], ◌∷◌, ◌++◌}
-use Prim.Native.Nat.{ℕ, zero, suc, ◌+◌, ◌-◌, ◌≤◌, ◌<◌}
+use Prim.Native.Nat.{ℕ, ◌+◌, ◌<◌}
 use native.Mathlib.Omega.{arith}
 use lib.Dec.{leb, eqb}
 use lib.ListN.{length, drop, get_or}
 use borrow.Author.Tests.{eq-eqb, ne_eqb, eqb-true, leb-false, lt-leb}
 use Rattle.below.specs.Below.{holds_not}
 use Rattle.markup.specs.rule.Bytes.{of_kind, is_white, is_name, is_digit, starts_name, run_of, stands, end_fault}
-use Rattle.markup.specs.rule.Grammar.{Each, no_more, each, Gap}
+use Rattle.markup.specs.rule.Grammar.{no_more, each, Gap}
 use Rattle.markup.specs.rule.Gap.{gap_of}
 use Rattle.markup.specs.declared.Skip.{Skip}
 use Rattle.markup.specs.declared.Skip.TheVariants as skip
-use Rattle.markup.proofs.Gaps.{Gapped, NoGap, gap_exactly}
+use Rattle.markup.proofs.Gaps.{NoGap, gap_exactly}
 use Rattle.markup.proofs.Stretches.{Stretch, run_stretch, stretch_run}
 use Rattle.angles.specs.rule.Angle.{close_of, angle_of, end_of}
 use Rattle.angles.specs.declared.Angle.TheVariants as angle
@@ -22,17 +22,16 @@ use Rattle.attributes.proofs.Exactly.{white_no_name}
 use Rattle.tags.specs.rule.Tag.{is_named}
 use Rattle.tags.specs.declared.Tag.{Tag}
 use Rattle.tags.specs.declared.Tag.TheVariants as tag
-use Rattle.pairs.specs.rule.Stand.{stand_angle, stand_at, stand_of, stand_end, shut_of, bare_of}
+use Rattle.pairs.specs.rule.Stand.{stand_at, stand_of, stand_end, shut_of, bare_of}
 use Rattle.pairs.specs.rule.Pair.{pair_bare, missed_of, pair_shut, closed_of, on_stand, pair_of}
 use Rattle.pairs.specs.rule.Grammar.{White, Name, name, Ends, ends, Empties, empties, PairGiven, given, Attributes, none, known}
 use Rattle.pairs.specs.rule.Grammar.{other}
 use Rattle.pairs.specs.rule.Grammar.{closing, Behind, behind}
 use Rattle.pairs.specs.declared.Stand.{Stand}
 use Rattle.pairs.specs.declared.Stand.TheVariants as stand
-use Rattle.pairs.specs.declared.Pair.{Pair}
-use Rattle.pairs.specs.declared.Pair.TheVariants.{Past, Cut, Fault}
+use Rattle.pairs.specs.declared.Pair.TheVariants.{Past}
 use Rattle.pairs.proofs.Lies.{Lies, lies_join, lies_byte, lies_cut, lies_first, stretch_lies, gapped_lies, lies_named, named_lies}
-use Rattle.pairs.proofs.Stands.{NameAt, name_long, angle_close, StandsAt, stand_close}
+use Rattle.pairs.proofs.Stands.{NameAt, name_long, angle_close, stand_close}
 use Rattle.pairs.proofs.Given.{name_each, name_starts, as_stretch}
 
 -- ---- where a name ends: bytes that are none of a name's
@@ -256,7 +255,7 @@ module _ (bad : Bool) (d w : List ℕ) (at n : ℕ) where
   -- at an end tag neither white space nor a comment stands
   no_gap : (t : List ℕ) → NoGap (60 ∷ 47 ∷ t)
   unfolding is_white stands
-  no_gap t = record { no-white = λ b u e. let k : b ≡ 60 = cc in rw k; no_note = refl }
+  no_gap t = record { no_white = λ b u e. let k : b ≡ 60 = cc in rw k; no_note = refl }
 
   ends_gap : {t : List ℕ} → Ends w t → (u : List ℕ) → NoGap (t ++ u)
   ends_gap (ends {v} x) u = no_gap ((w ++ (v ++ 62 ∷ [])) ++ u)

@@ -1,24 +1,20 @@
 -- Attributes by their bytes: one, and all of a tag.
 use mathlib.Core.Path.{◌≡◌, refl, sym, ap, ◌∙◌}
-use mathlib.Core.Logic.{◌⊎◌}
 use mathlib.Core.Bool.{Bool, true, false, cond, ◌&&◌, ◌||◌, not}
 use mathlib.Core.List.{List, [], ◌∷◌, ◌++◌}
-use Prim.Native.Nat.{ℕ, zero, suc, ◌+◌, ◌-◌, ◌≤◌, ◌<◌}
+use Prim.Native.Nat.{ℕ, ◌+◌, ◌-◌, ◌≤◌, ◌<◌}
 use native.Mathlib.Omega.{arith}
 use lib.Dec.{eqb}
-use lib.ListN.{length, drop, get_or}
-use borrow.Author.Tests.{eq-eqb, ne_eqb, eqb-true, eqb-false}
+use lib.ListN.{length, get_or}
+use borrow.Author.Tests.{eq-eqb, ne_eqb, eqb-true}
 use Rattle.below.specs.Below.{holds_not}
-use Rattle.markup.specs.rule.Bytes.{of_kind, is_name, starts_name, stands}
-use Rattle.markup.specs.rule.Grammar.{Each, no_more, each}
+use Rattle.markup.specs.rule.Bytes.{of_kind, starts_name}
+use Rattle.markup.specs.rule.Grammar.{Each, each}
 use Rattle.markup.proofs.Stretches.{Stretch}
-use Rattle.attributes.specs.rule.Attribute.{AttributeValue}
-use Rattle.attributes.proofs.Values.{Quoted}
 use Rattle.attributes.proofs.Exactly.{Attributed, gap_first}
 use Rattle.forms.specs.rule.Form.{fits_of}
 use Rattle.tags.specs.rule.Tag.{is_named, slot_of, form_of, stretch_fits, placed_of, put_of}
 use Rattle.tags.specs.declared.Held.{Held}
-use Rattle.tags.specs.declared.Turn.{Turn}
 use Rattle.tags.specs.declared.Turn.TheVariants.{More, Over}
 use Rattle.tags.specs.declared.Tag.TheVariants.{Fault}
 use Rattle.tags.proofs.Exactly.{puts, Placed, none, one}
@@ -29,7 +25,8 @@ use Rattle.pairs.proofs.Lies.{Lies, lies_none, lies_join, lies_byte, lies_cut, l
 use Rattle.pairs.proofs.Lies.{lies_named, named_lies}
 
 -- bytes of names from n to e, where a name starts and behind which none goes on
-name_of : (d : List ℕ) (n e : ℕ) (u : List ℕ) → Each (of_kind 1) u → Lies d n e u → starts_name (get_or d n 0) ≡ true → of_kind 1 (get_or d e 0)
+name_of : (d : List ℕ) (n e : ℕ) (u : List ℕ) → Each (of_kind 1) u → Lies d n e u → starts_name (get_or d n 0) ≡ true
+    → of_kind 1 (get_or d e 0)
     ≡ false → Name u
 name_of d n e [] r l s f =
     let k = l.place in
@@ -111,7 +108,7 @@ given_complete {d} {at} {o} {next} {n} (given {q} {u} {y} {z} {v} wu i na wy wz 
         gap = as_stretch wy c2.0;
         there = f.inside;
         sign = f.byte;
-        gap-2 = as_stretch wz c3.0;
+        gap_2 = as_stretch wz c3.0;
         inside = g.inside;
         quotes = rw b qu;
         value = rw b (record { bytes = v; value = va; split = c4.0.split; place = c4.0.place; within = h.inside; quoted = h.byte });

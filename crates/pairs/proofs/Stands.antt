@@ -1,8 +1,8 @@
 -- What stands where a tag is due: tags with their names, and where they end.
 use mathlib.Core.Path.{◌≡◌, refl, sym, ap, ◌∙◌}
 use mathlib.Core.Bool.{Bool, true, false, cond}
-use mathlib.Core.List.{List, [], ◌∷◌, ◌++◌}
-use Prim.Native.Nat.{ℕ, zero, suc, ◌+◌, ◌-◌, ◌≤◌, ◌<◌}
+use mathlib.Core.List.{List, [], ◌∷◌}
+use Prim.Native.Nat.{ℕ, ◌+◌, ◌≤◌, ◌<◌}
 use native.Mathlib.Omega.{arith}
 use lib.Dec.{leb, eqb}
 use lib.ListN.{length, drop, get_or, length-append, length-drop}
@@ -15,7 +15,7 @@ use Rattle.markup.specs.declared.Char.TheVariants.{Is, Bad}
 use Rattle.markup.specs.declared.Skip.{Skip}
 use Rattle.markup.specs.declared.Skip.TheVariants as skip
 use Rattle.markup.proofs.Runs.{run_next, run_long, run_splits}
-use Rattle.angles.specs.rule.Angle.{close_of, bang_of, angle_of, end_of}
+use Rattle.angles.specs.rule.Angle.{close_of, bang_of, angle_of}
 use Rattle.angles.specs.declared.Angle.{Angle}
 use Rattle.angles.specs.declared.Angle.TheVariants as angle
 use Rattle.pairs.specs.rule.Stand.{on_text_char, text_stand, stand_angle, stand_at, on_gap, stand_of}
@@ -58,7 +58,8 @@ module _ (bad : Bool) (d : List ℕ) (p : ℕ) where
   unfolding close_of
   close_close e f = by (leb (length d) (p + 2)) (starts_name (get_or d (p + 2) 0)) refl refl f where
     by : (x y : Bool) → leb (length d) (p + 2) ≡ x → starts_name (get_or d (p + 2) 0) ≡ y
-        → cond x (angle.Broken (end_fault bad (p + 2) p)) (cond y (angle.Close (run_of (of_kind 1) (p + 2) (drop (p + 2) d))) (angle.Broken p))
+        → cond x (angle.Broken (end_fault bad (p + 2) p))
+        (cond y (angle.Close (run_of (of_kind 1) (p + 2) (drop (p + 2) d))) (angle.Broken p))
         ≡ angle.Close e → NameAt d (p + 2) e
     by true y g h f = let z : ◌≡◌ {A = ℕ} 0 1 = cc in absurd (omega arith)
     by false true g h f = record { inside = leb-false (length d) (p + 2) g; starts = h; ends = cc }

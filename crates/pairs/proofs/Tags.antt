@@ -1,32 +1,25 @@
 -- Start tags by their bytes: the tag's end, and what is read of a tag that knows one attribute of any form, or none.
-use mathlib.Core.Path.{◌≡◌, refl, sym, ap, ◌∙◌}
+use mathlib.Core.Path.{◌≡◌, refl, sym, ◌∙◌}
 use mathlib.Core.Bool.{Bool, true, false, cond, ◌&&◌, ◌||◌, not}
-use mathlib.Core.List.{List, [], ◌∷◌, ◌++◌, append_assoc}
-use Prim.Native.Nat.{ℕ, zero, suc, ◌+◌, ◌-◌, ◌≤◌, ◌<◌}
+use mathlib.Core.List.{List, [], ◌∷◌, ◌++◌}
+use Prim.Native.Nat.{ℕ, zero, suc, ◌+◌, ◌≤◌, ◌<◌}
 use native.Mathlib.Omega.{arith}
 use lib.Dec.{leb, eqb, ltb}
-use lib.ListN.{length, drop, get_or}
-use borrow.Author.Tests.{eq-eqb, ne_eqb, eqb-true, eqb-false, leb-false, lt-leb}
-use Rattle.markup.specs.rule.Bytes.{of_kind, is_white, is_name, is_digit, starts_name, run_of, end_fault}
-use Rattle.markup.specs.rule.Grammar.{Each, no_more, each}
+use lib.ListN.{length, get_or}
+use borrow.Author.Tests.{eq-eqb, eqb-true, leb-false, lt-leb}
+use Rattle.markup.specs.rule.Bytes.{of_kind, is_white, starts_name, end_fault}
 use Rattle.markup.proofs.Stretches.{Stretch, run_stretch, stretch_run}
-use Rattle.angles.specs.rule.Angle.{close_of, angle_of, end_of}
-use Rattle.angles.specs.declared.Angle.TheVariants as angle
 use Rattle.attributes.specs.rule.Attribute.{run_at, slash_of, behind_of, named_of, equals_of, valued_of, on_quoted, quoted_of, attribute_of}
-use Rattle.attributes.specs.declared.Attribute.{Attribute}
-use Rattle.attributes.specs.declared.Attribute.TheVariants.{One, Shut, Faulty}
-use Rattle.attributes.proofs.Exactly.{white_no_name}
+use Rattle.attributes.specs.declared.Attribute.TheVariants.{Shut, Faulty}
 use Rattle.markup.specs.declared.Skip.{Skip}
 use Rattle.markup.specs.declared.Skip.TheVariants as skip
 use Rattle.tags.specs.rule.Tag.{misses_of, nothing_held, tag_of}
 use Rattle.tags.specs.declared.Held.{Held}
-use Rattle.tags.specs.declared.Tag.{Tag}
-use Rattle.tags.specs.declared.Tag.TheVariants.{Read, Fault}
-use Rattle.tags.proofs.Exactly.{Tagged, tag_exactly}
-use Rattle.pairs.specs.rule.Grammar.{White, Name, name, PairGiven, given, Attributes, none, known, other, closing, Behind, behind}
-use Rattle.pairs.specs.rule.Grammar.{first_of}
-use Rattle.pairs.proofs.Lies.{Lies, lies_none, lies_join, lies_byte, lies_cut, lies_first, stretch_lies, lies_within}
-use Rattle.pairs.proofs.Given.{Listed, placed_listed, Led, listed_placed, name_each, name_starts, as_stretch}
+use Rattle.tags.specs.declared.Tag.TheVariants.{Read}
+use Rattle.tags.proofs.Exactly.{tag_exactly}
+use Rattle.pairs.specs.rule.Grammar.{White, closing, Behind, behind}
+use Rattle.pairs.proofs.Lies.{Lies, lies_join, lies_byte, lies_cut, lies_first, stretch_lies}
+use Rattle.pairs.proofs.Given.{placed_listed, listed_placed, as_stretch}
 
 -- ---- the tag's end
 pub record ShutBy (d : List ℕ) (p n : ℕ) (em : Bool) : Type 0 where
@@ -66,7 +59,8 @@ module _ (bad : Bool) (d : List ℕ) (o : ℕ) where
         v = run_at 0 d (run_at 0 d (run_at 1 d q) + 1)
 
         by : (a b c x : Bool) (k : Skip)
-            → cond a (Faulty (end_fault bad m o)) (cond b (cond c (Faulty (end_fault bad v o)) (cond x (on_quoted q e (v + 1) k) (Faulty v)))
+            → cond a (Faulty (end_fault bad m o))
+            (cond b (cond c (Faulty (end_fault bad v o)) (cond x (on_quoted q e (v + 1) k) (Faulty v)))
             (Faulty m)) ≡ Shut em r n → ⊥
         by true b c x k f = let z : ◌≡◌ {A = ℕ} 0 1 = cc in omega arith
         by false true true x k f = let z : ◌≡◌ {A = ℕ} 0 1 = cc in omega arith

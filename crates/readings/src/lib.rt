@@ -69,8 +69,8 @@ fn numeral_answer(t: &[i64], rows: usize, row: Row, said: Numeral, zero_is_missi
 
 pub fn single(t: &[i64], rows: usize, row: Row, bytes: &[u8]) -> Answer
     requires { NumberFacts 17 t.now rows row (length bytes.now) }
-    ensures { (p n : ℕ) → result ≡ answer_of p n (single_field (legal t.now rows row)
-        (pick bytes.now (run (row.finish - row.width) row.width))) }
+    ensures { (p n : ℕ) → result ≡ answer_of p n
+        (single_field (legal t.now rows row) (pick bytes.now (run (row.finish - row.width) row.width))) }
 {
     let e = row.finish;
     let a = e - row.width;

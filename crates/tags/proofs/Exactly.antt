@@ -3,8 +3,8 @@
 use mathlib.Core.Path.{◌≡◌, refl, sym, ap, ◌∙◌}
 use mathlib.Core.Logic.{◌↔◌}
 use mathlib.Core.Bool.{Bool, true, false, cond}
-use mathlib.Core.List.{List, [], ◌∷◌}
-use Prim.Native.Nat.{ℕ, zero, suc, ◌+◌, ◌-◌, ◌≤◌, ◌<◌}
+use mathlib.Core.List.{List}
+use Prim.Native.Nat.{ℕ, zero, suc, ◌-◌, ◌≤◌}
 use native.Mathlib.Omega.{arith}
 use lib.Dec.{eqb}
 use lib.ListN.{length}
@@ -12,7 +12,8 @@ use Rattle.attributes.specs.rule.Attribute.{attribute_of}
 use Rattle.attributes.specs.declared.Attribute.{Attribute}
 use Rattle.attributes.specs.declared.Attribute.TheVariants.{One, Shut, Faulty}
 use Rattle.attributes.proofs.Exactly.{Attributed, attribute_exactly}
-use Rattle.tags.specs.rule.Tag.{slot_of, form_of, stretch_fits, placed_of, put_of, misses_of, shut_tag, turned, turn_of, turns_of, nothing_held}
+use Rattle.tags.specs.rule.Tag.{slot_of, form_of, stretch_fits, placed_of, put_of, misses_of, shut_tag, turned, turn_of, turns_of}
+use Rattle.tags.specs.rule.Tag.{nothing_held}
 use Rattle.tags.specs.rule.Tag.{tag_of}
 use Rattle.tags.specs.declared.Held.{Held}
 use Rattle.tags.specs.declared.Tag.{Tag}
@@ -114,7 +115,8 @@ module _ (bad : Bool) (d : List ℕ) (opened : ℕ) (x y z : List ℕ) (f g k re
 
     by : (r : Attribute) → attribute_of bad d opened h.next ≡ r → turned d x y z f g k required h r ≡ Over (Read j em p nx)
         → Tagged h j em p nx
-    by (One n e v w next) o q = absurd (put_no h (slot_of d n e x y z) n next (stretch_fits (form_of (slot_of d n e x y z) f g k) d v w) v w j
+    by (One n e v w next) o q = absurd (put_no h (slot_of d n e x y z) n next (stretch_fits (form_of (slot_of d n e x y z) f g k) d v w) v w
+        j
         em p nx q)
     by (Shut em' p' nx') o q = here (misses_of required h) em' p' nx' o refl q
     by (Faulty r) o q = let t : ◌≡◌ {A = ℕ} 0 1 = cc in absurd (omega arith)

@@ -1,21 +1,21 @@
 -- Where a turn leads: onward, and not beyond the end.
-use mathlib.Core.Path.{◌≡◌, refl, sym, ap, ◌∙◌}
+use mathlib.Core.Path.{◌≡◌, refl, ap}
 use mathlib.Core.Bool.{Bool, true, false, cond}
-use mathlib.Core.List.{List, [], ◌∷◌}
-use Prim.Native.Nat.{ℕ, zero, suc, ◌+◌, ◌-◌, ◌≤◌, ◌<◌}
+use mathlib.Core.List.{List}
+use Prim.Native.Nat.{ℕ, ◌-◌, ◌≤◌, ◌<◌}
 use native.Mathlib.Omega.{arith}
 use lib.Dec.{eqb}
 use lib.ListN.{length}
-use Rattle.scan.specs.rule.Loop.{Next, Again, Done, loop_of}
+use Rattle.scan.specs.rule.Loop.{Next, Again}
 use Rattle.scan.proofs.Loops.{loop_again, loop_done}
 use Rattle.attributes.specs.rule.Attribute.{attribute_of}
 use Rattle.attributes.specs.declared.Attribute.{Attribute}
 use Rattle.attributes.specs.declared.Attribute.TheVariants.{One, Shut, Faulty}
 use Rattle.attributes.proofs.Places.{attribute_one}
-use Rattle.tags.specs.rule.Tag.{slot_of, form_of, stretch_fits, placed_of, put_of, shut_tag, turned, turn_of, on_turn, turns_of}
+use Rattle.tags.specs.rule.Tag.{slot_of, form_of, stretch_fits, placed_of, put_of, turned, turn_of, on_turn, turns_of}
 use Rattle.tags.specs.declared.Held.{Held}
 use Rattle.tags.specs.declared.Tag.{Tag}
-use Rattle.tags.specs.declared.Tag.TheVariants.{Read, Fault}
+use Rattle.tags.specs.declared.Tag.TheVariants.{Fault}
 use Rattle.tags.specs.declared.Turn.{Turn}
 use Rattle.tags.specs.declared.Turn.TheVariants.{More, Over}
 
@@ -121,7 +121,8 @@ module _ (bad : Bool) (d : List ℕ) (opened : ℕ) (x y z : List ℕ) (f g k re
   unfolding turns_of
   turns_next h g' e = loop_again step (Fault 0 0) (λ h. length d - h.next) less (rw e)
 
-  pub turns_over : (h : Held) (t : Tag) → turn_of bad d opened x y z f g k required h ≡ Over t → turns_of bad d opened x y z f g k required h
+  pub turns_over : (h : Held) (t : Tag) → turn_of bad d opened x y z f g k required h ≡ Over t
+      → turns_of bad d opened x y z f g k required h
       ≡ t
   unfolding turns_of
   turns_over h t e = loop_done step (Fault 0 0) (λ h. length d - h.next) less (rw e)

@@ -1,9 +1,9 @@
 -- Attributes as they usually stand are attributes, and what a tag's turns make of them.
 use mathlib.Core.Path.{◌≡◌, refl, sym, ap, ◌∙◌}
 use mathlib.Core.Logic.{inl}
-use mathlib.Core.Bool.{Bool, true, false, cond, ◌&&◌}
+use mathlib.Core.Bool.{Bool, true, false}
 use mathlib.Core.List.{List, [], ◌∷◌, ◌++◌}
-use Prim.Native.Nat.{ℕ, zero, suc, ◌+◌, ◌-◌, ◌≤◌, ◌<◌}
+use Prim.Native.Nat.{ℕ, ◌+◌, ◌-◌, ◌≤◌, ◌<◌}
 use native.Mathlib.Omega.{arith}
 use lib.Dec.{eqb}
 use lib.ListN.{length, drop, get_or, drop_of_length-le}
@@ -12,11 +12,10 @@ use Rattle.utf.proofs.Strides.{drop_1}
 use Rattle.markup.specs.rule.Bytes.{is_white, of_kind, stands}
 use Rattle.markup.specs.rule.Grammar.{Each, no_more, each}
 use Rattle.markup.specs.declared.Skip.TheVariants.{Past}
-use Rattle.markup.specs.declared.Move.TheVariants.{Go, Stop}
 use Rattle.markup.proofs.Runs.{onward}
 use Rattle.markup.proofs.Gaps.{stands_split}
 use Rattle.markup.proofs.Stretches.{Stretch}
-use Rattle.attributes.specs.rule.Attribute.{value_move, quoted_of, attribute_of}
+use Rattle.attributes.specs.rule.Attribute.{value_move, quoted_of}
 use Rattle.attributes.proofs.Values.{value_next, value_stop, quoted_sound}
 use Rattle.attributes.proofs.Exactly.{Attributed, attribute_exactly, plain, empty, shut_exactly}
 use Rattle.tags.specs.rule.Tag.{is_named, slot_of, form_of, stretch_fits, put_of, shut_tag, turn_of, nothing_held}
@@ -68,7 +67,7 @@ module _ (d : List ℕ) (p : ℕ) (w : List ℕ) (k : ℕ) (u : Usual d p w) (v 
         gap = none_stretch (of_kind 0) d (p + 1 + length w) (p + 1 + length w) refl;
         there = omega arith;
         sign = u.equals;
-        gap-2 = none_stretch (of_kind 0) d (p + 1 + length w + 1) (p + 2 + length w) (omega arith);
+        gap_2 = none_stretch (of_kind 0) d (p + 1 + length w + 1) (p + 2 + length w) (omega arith);
         inside = omega arith;
         quotes = inl q;
         value = rw q (quoted_sound true 0 34 d (p + length w + 3) k (v.ends true 0));

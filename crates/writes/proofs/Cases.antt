@@ -211,7 +211,8 @@ module _ (ok ok' : ℤ → Bool) (more : (z : ℤ) → ok z ≡ true → ok' z �
   unfolding all_legal
   legal_more [] e = refl
   legal_more (m ∷ ms) e =
-      and_true (ok' m) (all_legal ok' ms) (more m (and_left (ok m) (all_legal ok ms) e)) (legal_more ms (and_right (ok m) (all_legal ok ms) e))
+      and_true (ok' m) (all_legal ok' ms) (more m (and_left (ok m) (all_legal ok ms) e))
+      (legal_more ms (and_right (ok m) (all_legal ok ms) e))
 
   pub fits_more : (ms : List ℤ) → set_fits ok ms ≡ true → set_fits ok' ms ≡ true
   unfolding set_fits

@@ -85,5 +85,6 @@ module _ (t : List ℤ) (i : ℕ) (old : List ℕ) (good : well_formed t ≡ tru
         let f : Fit = fit_of t (rows_of t) (row_at t i) x in
         record {
           says = ap write_number w'.says ∙ number_by f ∙ sym (refusal_is t i x old good below long_enough);
-          leaves = w'.leaves ∙ left_by_lem f (written_of t (rows_of t) (row_at t i) x old) old ∙ rw (refusal_is t i x old good below long_enough);
+          leaves = w'.leaves ∙ left_by_lem f (written_of t (rows_of t) (row_at t i) x old) old
+              ∙ rw (refusal_is t i x old good below long_enough);
         }

@@ -1,5 +1,5 @@
 -- A text from a place on: up to its end tag, the signs that it says, and whether a stretch is one.
-use Rattle.std.specs.Prelude.{Bool, true, false, cond, ◌&&◌, not, List, [], ◌∷◌, ◌++◌, ℕ, zero, suc, ◌+◌, ◌-◌, leb, eqb, length, drop}
+use Rattle.std.specs.Prelude.{Bool, false, cond, ◌&&◌, not, List, [], ◌∷◌, ◌++◌, ℕ, zero, suc, ◌-◌, leb, eqb, length, drop}
 use Rattle.scan.specs.rule.Loop.{Next, Again, Done, loop_of}
 use Rattle.signs.specs.declared.Sign.{Sign}
 use Rattle.signs.specs.declared.Sign.TheVariants as sign
@@ -12,7 +12,7 @@ use Rattle.contents.specs.declared.Cursor.{Cursor}
 use Rattle.contents.specs.declared.Said.{Said}
 use Rattle.contents.specs.declared.Said.TheVariants.{Nothing, Break, Byte, Code}
 use Rattle.contents.specs.declared.Content.{Content}
-use Rattle.contents.specs.declared.Content.TheVariants.{Read, Cut, Fault}
+use Rattle.contents.specs.declared.Content.TheVariants.{Fault}
 use Rattle.contents.specs.declared.Step.{Step}
 use Rattle.contents.specs.declared.Step.TheVariants.{More, Over}
 

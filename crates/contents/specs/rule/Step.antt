@@ -2,7 +2,7 @@
 -- or what is faulted. "A start tag that may not stand there ends the statement it stands in: it is read for its form only (50 first)."
 -- "`<text>` without a languages attribute: 51. br stands in title, label, value, text only, else 51. Processing instructions and CDATA: 51
 -- at `<`. An end tag of another name: 50 at its `<`. Where the file ends too early: 50."
-use Rattle.std.specs.Prelude.{Bool, true, false, cond, ◌&&◌, not, List, [], ◌∷◌, ℕ, ◌+◌, leb, eqb, length, drop, get_or}
+use Rattle.std.specs.Prelude.{Bool, false, cond, ◌&&◌, not, List, [], ◌∷◌, ℕ, ◌+◌, leb, eqb, length, drop, get_or}
 use Rattle.markup.specs.rule.Bytes.{stands}
 use Rattle.markup.specs.rule.Reference.{reference_of}
 use Rattle.markup.specs.rule.Gap.{xml_comment}
@@ -25,7 +25,6 @@ use Rattle.contents.specs.rule.Grammar.{br, text, lang}
 use Rattle.contents.specs.declared.Going.{Going}
 use Rattle.contents.specs.declared.Said.{Said}
 use Rattle.contents.specs.declared.Said.TheVariants as said
-use Rattle.contents.specs.declared.Content.{Content}
 use Rattle.contents.specs.declared.Content.TheVariants.{Read, Cut, Fault}
 use Rattle.contents.specs.declared.Step.{Step}
 use Rattle.contents.specs.declared.Step.TheVariants.{More, Over}

@@ -1,7 +1,7 @@
 -- "Text where tags are due: 2 at its first byte. Where tags are due, the first character or reference of a text is read: 50 if it is not
 -- legal or bad, else 2. An end tag where something is due is read whole first; of another name: 50 at its `<`. Where the file ends too
 -- early: 50." What stands from a place on, behind white space and comments. 60 is <, 38 &.
-use Rattle.std.specs.Prelude.{Bool, cond, List, [], ◌∷◌, ℕ, ◌+◌, leb, eqb, length, drop, get_or}
+use Rattle.std.specs.Prelude.{Bool, cond, List, [], ℕ, ◌+◌, leb, eqb, length, drop, get_or}
 use Rattle.markup.specs.rule.Reference.{reference_of}
 use Rattle.markup.specs.rule.Gap.{gap_of}
 use Rattle.markup.specs.declared.Char.{Char}

@@ -5,7 +5,7 @@ use Rattle.prefaces.proofs.says_word.Tie as tie
 
 returns : tie.Need-returns
 unfolding says_word
-returns c = c.is_IsWord.ensures
+returns c = c.is_word.ensures
 
 pub says-word-spec : {M : Type 1} → statement M
 says-word-spec = tie.close (tie.spec (λ c. search rules) (λ c. search rules) (λ c. search rules) (λ c κs. search rules) returns)

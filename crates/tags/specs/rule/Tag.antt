@@ -2,7 +2,7 @@
 -- the element given twice: 50 at the second's name; an unknown one, given once or more, 51 at its name. A required attribute missing: 2 at
 -- the tag's `>` or `/>`, after every 2 and 50 in the tag."
 -- A start tag with up to three attributes that its element knows. Place 0 is none: no attribute stands there.
-use Rattle.std.specs.Prelude.{Bool, true, false, cond, ◌&&◌, ◌||◌, List, [], ◌∷◌, ℕ, suc, ◌+◌, ◌-◌, leb, ltb, eqb, length, take, drop}
+use Rattle.std.specs.Prelude.{Bool, cond, ◌&&◌, ◌||◌, List, ℕ, suc, ◌-◌, ltb, eqb, length, take, drop}
 use Rattle.scan.specs.rule.Loop.{Next, Again, Done, loop_of}
 use Rattle.markup.specs.rule.Bytes.{stands}
 use Rattle.spans.specs.rule.Heard.{heard}
