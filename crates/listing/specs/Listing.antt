@@ -15,7 +15,8 @@ unfoldable pub listing_of : List ℤ → List ℕ → List ℕ
 listing_of t d = cond (well_formed t) (records_text t 0 0 (records_of d)) (last_text t bad_table)
 
 -- ---- laws
-pub rows_split : (t : List ℤ) (n : ℕ) (r : List ℕ) (a b i : ℕ) → rows_text t n r i (a + b) ≡ rows_text t n r i a ++ rows_text t n r (i + a) b
+pub rows_split : (t : List ℤ) (n : ℕ) (r : List ℕ) (a b i : ℕ) → rows_text t n r i (a + b) ≡ rows_text t n r i a
+    ++ rows_text t n r (i + a) b
 unfolding rows_text
 rows_split t n r zero b i = rw (add-zero i, zero_plus b)
   where
@@ -59,7 +60,8 @@ unfolding rest_text records_text
 rest_over t n first zero = refl
 rest_over t n first (suc i) = refl
 
-pub rest_unended : (t : List ℤ) (n first i : ℕ) (r : List ℕ) → rest_text t n first i (unended r) ≡ last_text t (fault_in (n + 1) (refused 30))
+pub rest_unended : (t : List ℤ) (n first i : ℕ) (r : List ℕ) → rest_text t n first i (unended r)
+    ≡ last_text t (fault_in (n + 1) (refused 30))
 unfolding rest_text records_text
 rest_unended t n first zero r = refl
 rest_unended t n first (suc i) r = refl

@@ -59,7 +59,8 @@ pub record Taken (t : List ℤ) (n first row : ℕ) (r : List ℕ) (out : List �
 pub record TakenRows (t : List ℤ) (n first row : ℕ) (r : List ℕ) (out : List ℕ) (at : ℕ) (out' : List ℕ) (a : Took) : Type 0 where
   pub text : List ℕ
   pub stands : Appended out at text out' (took_end a)
-  pub goes_on : (rs : Records) → rows_text t (n + 1) r row (rows_of t - row) ++ records_text t (n + 1) first rs ≡ text ++ took_text t n r rs a
+  pub goes_on : (rs : Records) → rows_text t (n + 1) r row (rows_of t - row) ++ records_text t (n + 1) first rs ≡ text
+      ++ took_text t n r rs a
   pub further : Further (rows_of t) row a
 
 -- ---- laws: rows of a record that is sound
@@ -120,7 +121,8 @@ module _ (t : List ℤ) (n first : ℕ) (r : List ℕ) {out : List ℕ} {at : �
     text = b.text;
     stands = b.stands;
     goes_on = λ rs. record_sound t n first r rs e
-        ∙ ap (λ (k : ℕ). rows_text t (n + 1) r 0 k ++ records_text t (n + 1) (first_length n first (length r)) rs) (sym (sub-zero (rows_of t)))
+        ∙ ap (λ (k : ℕ). rows_text t (n + 1) r 0 k ++ records_text t (n + 1) (first_length n first (length r)) rs)
+        (sym (sub-zero (rows_of t)))
         ∙ b.goes_on rs;
     further = b.further;
   }

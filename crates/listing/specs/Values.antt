@@ -1,5 +1,6 @@
 -- What was read of a row of a well-formed table lies within the room of a line, and is the row's value.
-use Rattle.std.specs.Prelude.{◌≡◌, Bool, true, false, cond, List, [], ◌∷◌, ℕ, zero, suc, ◌+◌, ◌-◌, ◌≤◌, ◌<◌, ltb, leb, ℤ, pos, take, drop, get_or}
+use Rattle.std.specs.Prelude.{◌≡◌, Bool, true, false, cond, List, [], ◌∷◌, ℕ, zero, suc, ◌+◌, ◌-◌, ◌≤◌, ◌<◌, ltb, leb, ℤ, pos, take, drop}
+use Rattle.std.specs.Prelude.{get_or}
 use Rattle.std.proofs.Math.Path.{refl}
 use Rattle.std.proofs.Common.{sym, ap, ◌∙◌, arith, length-append, take-take}
 use borrow.Author.Tests.{le-leb}
@@ -146,6 +147,10 @@ module _ (t : List ℤ) (v len : ℕ) (r : Row) (facts : RowFacts t v len r) (by
   unfolding lowest highest
   set_rising (Multiple s) ms e (set_row f) =
       rising_of (legal t v r) 9999 (λ z l. rw e at (facts.most z l)) (λ z l. rw e at (facts.least z l)) ms f
+  set_rising Single ms e x'' = elim x'' [ ]
+  set_rising (Quantity _) ms e x4 = elim x4 [ ]
+  set_rising Character ms e x4 = elim x4 [ ]
+  set_rising Logical ms e x5 = elim x5 [ ]
 
   set_shown : (ms : List ℤ) (a : Answer) (list' : List ℤ) (p : ℕ) → Rising 1 9999 ms → a ≡ answer_of p (length list) (holds (members ms))
       → list' ≡ list_after (holds (members ms)) list

@@ -1,5 +1,6 @@
 -- How many members a set can have: a bitstring's w, a spread's subfields, and never more than the categories there are.
-use Rattle.std.specs.Prelude.{◌≡◌, refl, Bool, true, false, cond, ◌||◌, List, [], ◌∷◌, ℕ, zero, suc, ◌+◌, ◌-◌, ◌^◌, ◌≤◌, eqb, ℤ, pos, negsuc, length, take, drop, get_or}
+use Rattle.std.specs.Prelude.{◌≡◌, refl, Bool, true, false, cond, ◌||◌, List, [], ◌∷◌, ℕ, zero, suc, ◌+◌, ◌-◌, ◌^◌, ◌≤◌, eqb, ℤ, pos}
+use Rattle.std.specs.Prelude.{negsuc, length, take, drop, get_or}
 use Rattle.std.proofs.Common.{arith, eqb-true, ne_eqb}
 use Rattle.cells.specs.rule.Cell.{eq_z}
 use Rattle.layout.specs.declared.Spread.TheVariants.{Bits, Fields}

@@ -42,7 +42,8 @@ module _ (t : List ℤ) (bytes : List ℕ) (o l : ℕ) where
   pub answer_says : Case t bytes o l (whole_of t bytes o l)
   unfolding whole_of room_for
   answer_says =
-      go (well_formed t) (leb (length_of t) (length bytes)) (leb (4 * rows_of t) o) (leb (length (all_members t bytes)) l) refl refl refl refl
+      go (well_formed t) (leb (length_of t) (length bytes)) (leb (4 * rows_of t) o) (leb (length (all_members t bytes)) l) refl refl refl
+      refl
     where
       go : (a b c d : Bool) → well_formed t ≡ a → leb (length_of t) (length bytes) ≡ b
           → leb (4 * rows_of t) o ≡ c → leb (length (all_members t bytes)) l ≡ d

@@ -16,7 +16,8 @@ use Rattle.record_values.specs.rule.Record.{members_of, members_below, refused_b
 use Rattle.record_values.specs.Rows.{members_in, refusals_in}
 
 -- ---- a field with room for its set
-pub outcome_room : (p n : ℕ) (x : Fault) (f : Field) → length (members_of f) ≤ n → outcome_of p n x f ≡ outcome_of p (length (members_of f)) x f
+pub outcome_room : (p n : ℕ) (x : Fault) (f : Field) → length (members_of f) ≤ n → outcome_of p n x f
+    ≡ outcome_of p (length (members_of f)) x f
 unfolding outcome_of members_of
 outcome_room p n x (holds missing) h = refl
 outcome_room p n x (holds (number z)) h = refl

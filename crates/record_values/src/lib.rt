@@ -10,7 +10,8 @@ ghost use Rattle.faults.specs.rule.Fault.{fault_of};
 ghost use Rattle.records.specs.rule.Value.{said};
 ghost use Rattle.records.specs.Value.{said_by};
 ghost use Rattle.records.specs.Tables.{TableReady};
-ghost use Rattle.record_values.specs.rule.Record.{cell_of, flag_of, fault_cell, four_of, members_of, row_reading, members_below, RecordRead};
+ghost use Rattle.record_values.specs.rule.Record.{cell_of, flag_of, fault_cell, four_of, members_of, row_reading, members_below};
+ghost use Rattle.record_values.specs.rule.Record.{RecordRead};
 ghost use Rattle.record_values.specs.Rows.{members_in, refusals_in, most_of, RowsRead};
 
 use faults::Fault;

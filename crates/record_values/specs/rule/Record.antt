@@ -1,6 +1,7 @@
 -- Reading a whole record: "four numbers a row, just those that read_value answers for it, but for a set: kind, count, and in the fourth
 -- where its members start in the list; sets follow each other in the list. Refusals 20, 22, 25; what lies beyond is kept."
-use Rattle.std.specs.Prelude.{◌≡◌, Bool, true, false, cond, ◌&&◌, List, [], ◌∷◌, ◌++◌, ℕ, zero, suc, ◌+◌, ◌-◌, ◌*◌, leb, ltb, ℤ, pos, length}
+use Rattle.std.specs.Prelude.{◌≡◌, Bool, true, false, cond, ◌&&◌, List, [], ◌∷◌, ◌++◌, ℕ, zero, suc, ◌+◌, ◌-◌, ◌*◌, leb, ltb, ℤ, pos}
+use Rattle.std.specs.Prelude.{length}
 use Rattle.layout.specs.rule.Row.{row_at}
 use Rattle.fields.specs.rule.Field.{missing, number, members, text, truth, Field, holds, illegal}
 use Rattle.fields.specs.rule.Row.{reading_of}
