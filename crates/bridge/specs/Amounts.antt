@@ -137,7 +137,10 @@ module _ (d : List ℕ) where
   run_empty n (at_sign {p = p} {b = b} {u = u} h w e r) = by (is_value b) (run_ahead d is_value r) where
     by : (q : Bool) → p + 1 ≤ run_of is_value (p + 1) u
         → eqb (cond q (run_of is_value (p + 1) u) n) n ≡ eqb (length (cond q (b ∷ run_bytes is_value u) [])) 0
-    by true i = rw (ne_eqb (run_of is_value (p + 1) u) n (λ z. omega arith), ne_eqb (suc (length (run_bytes is_value u))) 0 (λ z. omega arith))
+    by true i = rw (
+      ne_eqb (run_of is_value (p + 1) u) n (λ z. omega arith),
+      ne_eqb (suc (length (run_bytes is_value u))) 0 (λ z. omega arith),
+    )
     by false i = rw (eq-eqb n n refl)
 
   -- ---- the number between the places of the digits

@@ -99,7 +99,8 @@ module _ (d : List ℕ) (n : Figure) (name : KeptText) (i : ℕ) (label : KeptTe
 
   pub columns_same : {k : ℕ} {x : Telling} {c : Content} → Tells d (room p) k x c → Exact (room p) c
       → columns_in before (variable (head_as n name i label j k p m) x) ≡ variable_columns before (variable_of n name label p c)
-  unfolding columns_in full_columns widened plain_columns counted_in variable_columns width_of width_in kind_in kind_of row_of widest_of lines_width
+  unfolding columns_in full_columns widened plain_columns counted_in variable_columns width_of width_in kind_in kind_of row_of widest_of
+      lines_width
       range_width amounts some_of
   columns_same {x = x} (as_single {b = b} kept h u v) e =
       rw (lines_left x.lines)

@@ -16,7 +16,8 @@ use Rattle.statements.specs.Spread.{spread_rest}
 use Rattle.statements.specs.Size.{size_on}
 use Rattle.values.specs.Line.{Given}
 use Rattle.values.specs.Block.{empty_block}
-use Rattle.variables.specs.Rest.{Telling, Told, join_values, values_rest, join_size, join_nothing, spread_or, optional, spread_then, rest_of}
+use Rattle.variables.specs.Rest.{Telling, Told, join_values, values_rest, join_size, join_nothing, spread_or, optional, spread_then}
+use Rattle.variables.specs.Rest.{rest_of}
 use Rattle.variables.specs.Rest as telling
 use Rattle.entries.proofs.Spreads.{spread_good, size_good}
 use Rattle.survey.specs.rule.Survey.{Figure, Block, Spread, Content, single, multiple, quantity, character, logical}
@@ -50,7 +51,8 @@ pub data Tells (d : List ℕ) (room : ℕ) : ℕ → Telling → Content → Typ
   as_character : {n : Figure} {m : ℕ} → capped n.value ≡ n.value
       → Tells d room 4 (record { block = empty_block; lines = []; subfields = 0; subwidth = 0; size = capped n.value; next = m })
       (character n)
-  as_logical : {m : ℕ} → Tells d room 5 (record { block = empty_block; lines = []; subfields = 0; subwidth = 0; size = 0; next = m }) logical
+  as_logical : {m : ℕ} → Tells d room 5 (record { block = empty_block; lines = []; subfields = 0; subwidth = 0; size = 0; next = m })
+      logical
 
 pub data SameTold (d : List ℕ) (room k : ℕ) : Told → Result Content → Type 0 where
   tells : {x : Telling} {c : Content} {n : ℕ} → Tells d room k x c → x.next ≡ n → SameTold d room k (telling.Is x) (Is c n)
@@ -97,7 +99,8 @@ module _ (d : List ℕ) (first : ℕ) (p : Position) (small : room p < 100000000
   size_then n (Is x m) e = let g = size_good d (At n) _ e in tells (as_character (capped_small x.value (omega (arith, g.1)))) refl
   size_then n (Not f) e = quits
 
-  pub content_on : (s : Sort) (n : ℕ) → SameTold d (room p) (kind_of s) (rest_of d first (kind_of s) (At n) (room p)) (content d p first s n)
+  pub content_on : (s : Sort) (n : ℕ) → SameTold d (room p) (kind_of s) (rest_of d first (kind_of s) (At n) (room p))
+      (content d p first s n)
   unfolding rest_of spread_then join_nothing
   content_on Single n = with_values 1 false 0 0 single (λ x b k l u v. as_single k l u v) (Is n n)
   content_on Multiple n = rw (notes_on_lem d (Is n n)) (multiple_at (notes d n))

@@ -133,7 +133,8 @@ module _ (d : List ℕ) where
     end : ℕ
     end = run_of is_digit n (text d n)
 
-    by : (q : Bool) → Told n (cond q (Not (fault 2 n)) (Is (record { place = n; end = end; digits = length s; value = decimal_of 0 s }) end))
+    by : (q : Bool) → Told n (cond q (Not (fault 2 n))
+        (Is (record { place = n; end = end; digits = length s; value = decimal_of 0 s }) end))
     by true = untold
     by false =
         let k : Known n (record { place = n; end = end; digits = length s; value = decimal_of 0 s }) end =

@@ -32,7 +32,8 @@ module _ (d : List ℕ) where
   kept_again [] at e = rw e
   kept_again (b ∷ s) at e = by (eqb (class_of b) 0) refl (kept_again s (at + 1) (tail_of d at b s e)) where
     by : (q : Bool) → eqb (class_of b) 0 ≡ q → text d (place_of (kept (at + 1) s)) ≡ kept (at + 1) s
-        → text d (place_of (cond q (kept (at + 1) s) (sign at b (kept (at + 1) s)))) ≡ cond q (kept (at + 1) s) (sign at b (kept (at + 1) s))
+        → text d (place_of (cond q (kept (at + 1) s) (sign at b (kept (at + 1) s))))
+        ≡ cond q (kept (at + 1) s) (sign at b (kept (at + 1) s))
     by true i ih = ih
     by false i ih = rw e (rw i)
 

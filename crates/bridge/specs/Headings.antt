@@ -136,13 +136,26 @@ module _ (d : List ℕ) where
     or_step k (spelled.Matched m) z q few e then = text_turn k m few e
     or_step k spelled.Not z q few e then = then e
 
+    -- what is tried behind a word that does not stand
+    abbrev from_standard : Reader (Next (List HeadingEntry) (List HeadingEntry))
+    from_standard = reading.once d l 4 STANDARD (names d) (λ n. Is (Done l) n)
+
+    abbrev from_user : Reader (Next (List HeadingEntry) (List HeadingEntry))
+    from_user = reading.once d l 3 USER (texted d) from_standard
+
+    abbrev from_origin : Reader (Next (List HeadingEntry) (List HeadingEntry))
+    from_origin = reading.once d l 2 ORIGIN (texted d) from_user
+
+    abbrev from_time : Reader (Next (List HeadingEntry) (List HeadingEntry))
+    from_time = reading.once d l 1 TIME (texted d) from_origin
+
     step : Turned (reading.heading_entered d l) n
     unfolding reading.heading_entered entry_of choice_of
     step =
-        or_step 0 (word_at d n DATE) _ _ (omega arith) refl
-        λ e. or_step 1 (word_at d n TIME) _ _ (omega arith) e
-        λ e. or_step 2 (word_at d n ORIGIN) _ _ (omega arith) e
-        λ e. or_step 3 (word_at d n USER) _ _ (omega arith) e
+        or_step 0 (word_at d n DATE) _ from_time (omega arith) refl
+        λ e. or_step 1 (word_at d n TIME) _ from_origin (omega arith) e
+        λ e. or_step 2 (word_at d n ORIGIN) _ from_user (omega arith) e
+        λ e. or_step 3 (word_at d n USER) _ from_standard (omega arith) e
         λ e. last_step (word_at d n STANDARD) e
 
   pub entries_turns : (f n : ℕ) (h : books.Heading) (l : List HeadingEntry) → Reached d (items l) h → length d - n < f

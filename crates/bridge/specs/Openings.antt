@@ -62,7 +62,7 @@ module _ (d : List ℕ) where
   word_whole {n} {t} f none = turned n (run_of is_value n t) ∙ run_empty d n f ∙ empty (run_bytes is_value t)
   word_whole {n} at_stop (one {x = x} {w = w} h v r) = refl
   word_whole {n} (at_sign {p = p} {b = b} {u = u} g l e f) (one {x = x} {w = w} h v r) =
-      rw (upper_plain b x h) (by (eqb b x) refl (word_whole f r)) where
+      rw (upper_plain b x h) (by (eqb b x) refl (word_whole {n = p + 1} f r)) where
         by : (q : Bool) → eqb b x ≡ q → ends (run_of is_value (p + 1) u) (word_of (p + 1) u w) ≡ same (run_bytes is_value u) w
             → ends (cond (is_value b) (run_of is_value (p + 1) u) n) (cond q (word_of (p + 1) u w) spelled.Not)
             ≡ same (cond (is_value b) (b ∷ run_bytes is_value u) []) (x ∷ w)
@@ -106,6 +106,7 @@ module _ (d : List ℕ) where
     fin (Not f) = refl
 
     by : (r : Result Unit) → then (spaces_on d (word_here d (spaces_on d (to_reading r)) VERSION)) (version_here d)
-        ≡ to_reading (bind r λ a n. bind (spaces_skipped d n) λ a n. bind (here d VERSION n) λ a n. bind (spaces_skipped d n) λ a. version d)
+        ≡ to_reading (bind r λ a n. bind (spaces_skipped d n) λ a n. bind (here d VERSION n) λ a n. bind (spaces_skipped d n) λ a. version
+        d)
     by (Is a n) = let m = place_of (text d (run_of is_space n (text d n))) in rw (here_on d (Is m m) VERSION) (fin (here d VERSION m))
     by (Not f) = rw (here_on d {A = ℕ} (Not f) VERSION)

@@ -173,7 +173,8 @@ module _ (d : List ℕ) where
   pub size_on_lem : {A : Type 0} (r : Result A) → size_on d (to_reading r) ≡ to_number (bind r λ a. size d)
   unfolding size_on size
   size_on_lem (Is a n) = rw (statement_on_lem d (Is a n) SIZE) (by (statement d SIZE n)) where
-    by : (s : Result Unit) → judge_size (number_on d (to_reading s)) ≡ to_number (bind s λ a n. bind (number d n) λ n. judged (size_charges n) n)
+    by : (s : Result Unit) → judge_size (number_on d (to_reading s))
+        ≡ to_number (bind s λ a n. bind (number d n) λ n. judged (size_charges n) n)
     by (Is a k) = rw (number_on_lem d (Is a k)) (size_least (number d k))
     by (Not f) = rw (number_on_lem d {A = ℕ} (Not f)) (size_least (Not f))
   size_on_lem (Not f) = rw (statement_on_lem d {A = ℕ} (Not f) SIZE) (rw (number_on_lem d {A = ℕ} (Not f)) (size_least (Not f)))

@@ -25,7 +25,8 @@ use Rattle.tokens.specs.declared.Phrase.{Phrase}
 use Rattle.tokens.specs.declared.Phrase.TheVariants as phrased
 use Rattle.tokens.specs.rule.Gap.{fault, gap_at}
 use Rattle.tokens.specs.Gap.{then, gap_on, spaces_on}
-use Rattle.tokens.specs.Token.{of_word, word_here, word_on, of_digits, number_here, number_on, past_number, of_skip, string_in, phrase_on, string_on}
+use Rattle.tokens.specs.Token.{of_word, word_here, word_on, of_digits, number_here, number_on, past_number, of_skip, string_in, phrase_on}
+use Rattle.tokens.specs.Token.{string_on}
 use Rattle.tokens.specs.Token.{past_string, letter_in, letter_on}
 use Rattle.survey.specs.rule.Survey.{Figure, KeptText}
 use Rattle.reading.specs.rule.Result.{Result, Is, Not, bind}

@@ -20,7 +20,7 @@ use Rattle.tokens.specs.Token.{choice_of, past_string}
 use Rattle.tokens.proofs.Aheads.{taken_less, string_left, word_left}
 use Rattle.statements.specs.Note.{past_note}
 use Rattle.statements.proofs.Notes.{note_left, notes_left}
-use Rattle.statements.specs.rule.Words.{NOTE, STANDARD, NAMES, SPECIAL, END, VALUES, VARIABLE, NAME, LABEL}
+use Rattle.statements.specs.rule.Words.{DATE, TIME, ORIGIN, USER, NOTE, STANDARD, NAMES, SPECIAL, END, VALUES, VARIABLE, NAME, LABEL}
 use Rattle.survey.specs.rule.Survey.{Figure, Amount, KeptText, Line, Block, Variable}
 use Rattle.reading.specs.rule.Result.{Result, Is, Not, Reader, bind, turn, repeat}
 use Rattle.reading.specs.rule.Least.{judged}
@@ -29,7 +29,7 @@ use Rattle.survey.specs.rule.Table.{lines_all}
 use Rattle.reading.specs.rule.Statement.{note, notes, statement, phrase, position}
 use Rattle.reading.specs.rule.Values.{line_charges, Listing, listing, with_line, end_values, line, listed}
 use Rattle.reading.specs.rule.Variable.{ident_charges, variable_of, held, ident, type, content, variable}
-use Rattle.reading.specs.rule.Whole.{HeadingEntry, entry, given, texted, names, heading_entered, another_variable}
+use Rattle.reading.specs.rule.Whole.{HeadingEntry, entry, given, texted, names, once, heading_entered, another_variable}
 use Rattle.bridge.specs.Lowest.{never, clear, Judged, fine, faulty, judged_view}
 use Rattle.bridge.specs.Tokens.{to_reading, string_on_lem, word_on_lem}
 use Rattle.bridge.specs.Notes.{past_on, notes_on_lem}
@@ -294,14 +294,27 @@ module _ (d : List ℕ) where
       by (spelled.Matched j) q e = item_less 4 (names d) j (taken_on n 83 (84 ∷ 65 ∷ 78 ∷ 68 ∷ 65 ∷ 82 ∷ 68 ∷ []) q) (names_less j) e
       by spelled.Not q e = never cc
 
+    -- what is tried behind a word that does not stand
+    abbrev from_standard : Reader (Next (List HeadingEntry) (List HeadingEntry))
+    from_standard = once d l 4 STANDARD (names d) (λ n. Is (Done l) n)
+
+    abbrev from_user : Reader (Next (List HeadingEntry) (List HeadingEntry))
+    from_user = once d l 3 USER (texted d) from_standard
+
+    abbrev from_origin : Reader (Next (List HeadingEntry) (List HeadingEntry))
+    from_origin = once d l 2 ORIGIN (texted d) from_user
+
+    abbrev from_time : Reader (Next (List HeadingEntry) (List HeadingEntry))
+    from_time = once d l 1 TIME (texted d) from_origin
+
     entry_less : heading_entered d l n ≡ Is (Again k) m → length d - m < length d - n
     unfolding heading_entered left
     entry_less e =
         let h : Less =
-        text_or 0 68 (65 ∷ 84 ∷ 69 ∷ []) _
-        (text_or 1 84 (73 ∷ 77 ∷ 69 ∷ []) _
-        (text_or 2 79 (82 ∷ 73 ∷ 71 ∷ 73 ∷ 78 ∷ []) _
-        (text_or 3 85 (83 ∷ 69 ∷ 82 ∷ []) _ names_or))) e
+        text_or 0 68 (65 ∷ 84 ∷ 69 ∷ []) from_time
+        (text_or 1 84 (73 ∷ 77 ∷ 69 ∷ []) from_origin
+        (text_or 2 79 (82 ∷ 73 ∷ 71 ∷ 73 ∷ 78 ∷ []) from_user
+        (text_or 3 85 (83 ∷ 69 ∷ 82 ∷ []) from_standard names_or))) e
         in omega arith
 
   pub entries_enough : (f : ℕ) (l : List HeadingEntry) (n : ℕ) → length d - n < f

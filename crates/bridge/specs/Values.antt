@@ -39,7 +39,8 @@ use Rattle.reading.specs.rule.Result.{Result, Is, Not, Reader, bind, repeat}
 use Rattle.reading.specs.rule.Least.{goes_before, judged}
 use Rattle.reading.specs.rule.Token.{passed, here, word, optional, amount, value, string}
 use Rattle.reading.specs.rule.Statement.{notes, statement}
-use Rattle.reading.specs.rule.Values.{line, listed, form_is, large, unlike_amounts, range_charges, listing, range_from, unlisted, end_values}
+use Rattle.reading.specs.rule.Values.{line, listed, form_is, large, unlike_amounts, range_charges, listing, range_from, unlisted}
+use Rattle.reading.specs.rule.Values.{end_values}
 use Rattle.reading.specs.rule.Values.{lines}
 use Rattle.reading.specs.rule.Values.{range, range_or, values}
 use Rattle.bridge.specs.Lowest.{chain, rising, chain_least}
@@ -54,7 +55,7 @@ use Rattle.bridge.specs.Lines.{SameGiven, gives, refuses, Standing, value_refuse
 -- ---- nothing said yet
 pub empty_kept : Kept empty_block (unlisted none)
 unfolding amounts some_of
-empty_kept = record { decimals = refl; point = refl; known = refl; unlike-some = λ a. refl; ranged = refl; from = refl; to = refl }
+empty_kept = record { decimals = refl; point = refl; known = refl; unlike_some = λ a. refl; ranged = refl; from = refl; to = refl }
 
 -- ---- a range as the books have it
 abbrev said : Amount → Amount → books.Block
@@ -76,7 +77,7 @@ range_kept a b u i j =
       decimals = refl;
       point = by a.point (eqb a.whole 0) b.point (eqb b.whole 0);
       known = refl;
-      unlike-some = λ c. rw (← e) (twice (unlike_amounts c a));
+      unlike_some = λ c. rw (← e) (twice (unlike_amounts c a));
       ranged = refl;
       from = rw i;
       to = rw j;
@@ -136,7 +137,8 @@ module _ (d : List ℕ) (quantity : Bool) (first : ℕ) where
         rw (value_refused d quantity first f) (rw (lines_none f b (rw (value_refused d quantity first f) at reached)) refuses)
 
     without_lines : (s : Result Unit)
-        → SameGiven d (closed_by b (word_on d (word_here d (to_reading s) END) VALUES)) (bind s λ a n. bind (here d END n) λ a. end_values d c)
+        → SameGiven d (closed_by b (word_on d (word_here d (to_reading s) END) VALUES))
+        (bind s λ a n. bind (here d END n) λ a. end_values d c)
     unfolding closed_by
     without_lines s = rw (here_on d s END) (at s) where
       fin : (t : Result Unit) → SameGiven d (closed_by b (to_reading t)) (bind t λ a n. Is c n)
@@ -248,8 +250,10 @@ module _ (d : List ℕ) (quantity : Bool) (first : ℕ) where
 
         reached : (w : Bool) (n : ℕ) (c : books.Block)
             → with_or d quantity A B (gap_at d m') (choice_of d (gap_at d m') WITH)
-            ≡ settled (judge_range (reversed_of d (written a x y m) (written b x' y' m')) quantity (written a x y m) (written b x' y' m')) w n
-            → settled (judge_range (reversed_of d (written a x y m) (written b x' y' m')) quantity (written a x y m) (written b x' y' m')) w n
+            ≡ settled (judge_range (reversed_of d (written a x y m) (written b x' y' m')) quantity (written a x y m) (written b x' y' m')) w
+            n
+            → settled (judge_range (reversed_of d (written a x y m) (written b x' y' m')) quantity (written a x y m) (written b x' y' m')) w
+            n
             ≡ ranging.Is c w n
             → Reached d quantity first (state_of (value_here d (notes_on d (At n))) c [])
         reached w n c p q = behind (At k₀) (At j) {b = c} {w = w} {n = n} (rw here-a (to_with ∙ p ∙ q))
@@ -302,11 +306,13 @@ module _ (d : List ℕ) (quantity : Bool) (first : ℕ) where
   unfolding value_here gap_on past_value choice_of
   values_refused f = rw (lines_none f empty_block (alone (Refused f))) refuses
 
-  pub values_on_lem : {A : Type 0} (r : Result A) → SameGiven d (values_on d quantity first (to_reading r)) (bind r λ a. values d quantity first)
+  pub values_on_lem : {A : Type 0} (r : Result A)
+      → SameGiven d (values_on d quantity first (to_reading r)) (bind r λ a. values d quantity first)
   unfolding values_on values
   values_on_lem (Is a n) = rw (statement_on_lem d (Is a n) VALUES) (at_word (statement d VALUES n)) where
     at_notes : (t : Result Unit)
-        → SameGiven d (to_or d quantity first (value_here d (to_reading t)) (choice_of d (gap_on d (past_value (value_here d (to_reading t)))) TO))
+        → SameGiven d (to_or d quantity first (value_here d (to_reading t))
+        (choice_of d (gap_on d (past_value (value_here d (to_reading t)))) TO))
         (bind t λ a n. bind (amount d n) λ a n. bind (optional d TO (value d) n) (range_or d quantity first a))
     at_notes (Is a i) = values_at i refl (value_on_lem d i)
     at_notes (Not f) = values_refused f

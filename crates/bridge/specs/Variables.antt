@@ -120,14 +120,16 @@ module _ (d : List ℕ) where
               (numbered.Is (record { size = x.value; count = x.digits; place = x.place; next = m })))))
     ident_least (Not f) untold = refl
 
-    pub ident_on_lem : {A : Type 0} (r : Result A) → ident_on d (to_reading r) met (length earlier) ≡ to_number (bind r λ a. ident d earlier)
+    pub ident_on_lem : {A : Type 0} (r : Result A) → ident_on d (to_reading r) met (length earlier)
+        ≡ to_number (bind r λ a. ident d earlier)
     unfolding ident_on ident
     ident_on_lem (Is a n) = rw (statement_on_lem d (Is a n) VARIABLE) (by (statement d VARIABLE n)) where
       by : (s : Result Unit) → judge_ident met (length earlier) (number_on d (to_reading s)) ≡ to_number
           (bind s λ a n. bind (number d n) λ n. judged (ident_charges earlier n) n)
       by (Is a k) = rw (number_on_lem d (Is a k)) (ident_least (number d k) (number_told d k))
       by (Not f) = rw (number_on_lem d {A = ℕ} (Not f)) (ident_least {k = 0} (Not f) untold)
-    ident_on_lem (Not f) = rw (statement_on_lem d {A = ℕ} (Not f) VARIABLE) (rw (number_on_lem d {A = ℕ} (Not f)) (ident_least {k = 0} (Not f) untold))
+    ident_on_lem (Not f) = rw (statement_on_lem d {A = ℕ} (Not f) VARIABLE)
+        (rw (number_on_lem d {A = ℕ} (Not f)) (ident_least {k = 0} (Not f) untold))
 
 -- ---- an ident that was read is below the cap
 pub data Small : Result Figure → Type 0 where

@@ -127,7 +127,8 @@ module _ (d : List ℕ) (n : ℕ) (l : List Variable) where
   unfolding named
   named_built false v e = fitting_built v e
   named_built true v e = by (ltb (name_fault (names_of d v)) (length v)) e where
-    by : (b : Bool) → cond b (Refusal 9 (quote_at v (name_fault (names_of d v)))) (fitting n v) ≡ Built l → (v ≡ l) × (length (table_of v) ≤ n)
+    by : (b : Bool) → cond b (Refusal 9 (quote_at v (name_fault (names_of d v)))) (fitting n v) ≡ Built l → (v ≡ l)
+        × (length (table_of v) ≤ n)
     by true i = none cc
     by false i = fitting_built v i
 

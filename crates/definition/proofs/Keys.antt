@@ -30,6 +30,6 @@ keys_more f keys i k h g e j l = ⊎_elim here before (eq-or-lt_of_le le)
 pub names_judged : (d : List ℕ) (rows : List ℤ) (keys : List ℕ) (count i r : ℕ) → i ≡ count
     → ((j : ℕ) → j < i → get_or keys j 0 ≡ key_of 0 0 (name_in d rows j)) → r ≡ fault_of keys count → NamesJudged d rows count r
 names_judged d rows keys count i r q g e = record {
-  fault-is = λ names l h. e ∙ ap (fault_of keys) (sym l)
+  fault_is = λ names l h. e ∙ ap (fault_of keys) (sym l)
       ∙ keys_fault keys names (λ j m. g j (omega (arith, l)) ∙ ap (key_of 0 0) (h j (omega (arith, l))));
 }

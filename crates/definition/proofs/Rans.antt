@@ -346,9 +346,9 @@ module _ (d : List ℕ) (t₀ : Reading) (rows₀ lines₀ : List ℤ) (at : Rea
     laid_over z m e =
         let o = ran_over z m e in
         record {
-          rows-laid = λ {l} {m = k} q. o.rows_end
+          rows_laid = λ {l} {m = k} q. o.rows_end
               ∙ ap (λ (a : List Variable). pasted rows₀ 0 (rows_from 0 a)) (same_all o.all l m k (sym o.are ∙ q));
-          lines-laid = λ {l} {m = k} q. o.lines_end
+          lines_laid = λ {l} {m = k} q. o.lines_end
               ∙ ap (λ (a : List Variable). pasted lines₀ 0 (all_lines a)) (same_all o.all l m k (sym o.are ∙ q));
         }
       where
@@ -365,6 +365,6 @@ module _ (d : List ℕ) (t₀ : Reading) (rows₀ lines₀ : List ℤ) (at : Rea
 
     pub laid_not : (f : Fault) → w ≡ turn.Not f → Laid (variables_from d (course t₀ [])) rows₀ rows' lines₀ lines'
     laid_not f e = record {
-      rows-laid = λ {l} {m} q. let i : variables.Not f ≡ variables.Is l m = sym (run_refused f e) ∙ q in none cc;
-      lines-laid = λ {l} {m} q. let i : variables.Not f ≡ variables.Is l m = sym (run_refused f e) ∙ q in none cc;
+      rows_laid = λ {l} {m} q. let i : variables.Not f ≡ variables.Is l m = sym (run_refused f e) ∙ q in none cc;
+      lines_laid = λ {l} {m} q. let i : variables.Not f ≡ variables.Is l m = sym (run_refused f e) ∙ q in none cc;
     }

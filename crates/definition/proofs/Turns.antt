@@ -71,7 +71,7 @@ module _ (d : List ℕ) (t : Reading) (met : ℕ → Bool) (y : Tally) (long : l
 
     pub row_here : (room end : List ℤ) → end ≡ pasted room (row_size * y.rows) (row_cells c) → RowStored y here room end
     row_here room end i = record {
-      row-stored = λ {v} {n = m} e. i
+      row_stored = λ {v} {n = m} e. i
           ∙ rw k.columns_are (ap (λ (w : Variable). pasted room (row_size * y.rows) (row_cells (columns_in y.lines w))) (same v m e));
     }
       where
@@ -97,6 +97,6 @@ turn_not d y e before f s i j = rw (refused_is e before f s i j)
 pub row_not : (y : Tally) (e : Entry) (before : ℕ) (f : Fault) (s : Stood) (room end : List ℤ) → s ≡ stood_of before e → s ≡ stood.Not f
     → RowStored y e room end
 row_not y e before f s room end i j = record {
-  row-stored = λ {v} {n} k. let q : entry.Not f
+  row_stored = λ {v} {n} k. let q : entry.Not f
       ≡ entry.Is v n = sym (refused_is e before f s i j) ∙ k in none cc;
 }

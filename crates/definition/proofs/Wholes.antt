@@ -41,7 +41,8 @@ none : {A : Type 0} → ◌≡◌ {A = ℕ} 0 1 → A
 none e = absurd (omega arith)
 
 -- rooms for the most rows and lines
-pub none_lacking : {rows lines : List ℤ} → length rows ≡ row_size * most_rows → length lines ≡ line_size * most_lines → Lacking rows lines → ⊥
+pub none_lacking : {rows lines : List ℤ} → length rows ≡ row_size * most_rows → length lines ≡ line_size * most_lines → Lacking rows lines
+    → ⊥
 none_lacking e f (in_rows h) = omega (arith, h, e)
 none_lacking e f (in_lines h) = omega (arith, h, f)
 
@@ -76,9 +77,9 @@ module _ (d : List ℕ) (long : length d ≤ 1048576) (t : Reading) (front : t �
             are = i ∙ ap (variables.Is l) b;
             held = record {
               tally = sym a;
-              rows-held = ap (take (row_size * length l)) (laid.rows_laid i)
+              rows_held = ap (take (row_size * length l)) (laid.rows_laid i)
                   ∙ take_pasted rows (rows_from 0 l) (row_size * length l) (sym (rows_length 0 l));
-              lines-held = ap (take (line_size * lines_all l)) (laid.lines_laid i)
+              lines_held = ap (take (line_size * lines_all l)) (laid.lines_laid i)
                   ∙ take_pasted lines (all_lines l) (line_size * lines_all l) (sym (lines_length l));
               good = ((variables_good d long t).all i).0;
             };

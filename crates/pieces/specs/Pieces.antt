@@ -1,17 +1,17 @@
 -- What follows from rule/Pieces.antt, and what the code keeps.
 use Rattle.std.specs.Prelude.{◌≡◌, Bool, true, false, cond, eqb, ltb}
 use Rattle.std.proofs.Math.Path.{refl, ap}
-use Rattle.std.proofs.Common.{◌∙◌, length-drop, drop-drop, take-add, ⊎_elim}
+use Rattle.std.proofs.Common.{sym, ◌∙◌, length-drop, drop-drop, take-add, ⊎_elim}
 use mathlib.Core.List.{List, [], ◌∷◌, ◌++◌}
 use Prim.Native.Nat.{ℕ, zero, suc, ◌+◌, ◌-◌, ◌≤◌, ◌<◌}
 use Rattle.std.proofs.Math.Numerals.{add-one}
 use native.Mathlib.Omega.{arith}
-use borrow.Author.Tests.{eq-eqb, ne_eqb, ltb-false}
+use borrow.Author.Tests.{eq-eqb, ne_eqb, ltb-false, le-ltb}
 use Rattle.std.proofs.Math.ListN.{length, take, drop, get_or, drop_of_length-le}
 use Rattle.std.proofs.Math.Seq.{drop-cons}
 use Rattle.below.specs.Below.{lt_or_le}
 use Rattle.lows.specs.rule.Lows.{low_at}
-use Rattle.lows.specs.Lows.{Clear}
+use Rattle.lows.specs.Lows.{low_among, among_more, Clear}
 use Rattle.cuts.specs.declared.Terminator.{Terminator}
 use Rattle.cuts.specs.rule.Cut.{one_byte, two_bytes, no_ending, begins_with, terminator_at}
 use Rattle.cuts.specs.Records.{part}
@@ -282,3 +282,7 @@ module _ (d : List ℕ) (from stop lows : ℕ) (h : from < length d) (u : NoBoun
           cuts = rw e at (piece_next d from stop u h x.0 x.1);
           counted = n;
         }
+
+-- a stretch without a byte below 32: one byte more
+pub plain_more : (d : List ℕ) (i k : ℕ) → low_among d i k ≡ false → 32 ≤ get_or d (i + k) 0 → low_among d i (k + 1) ≡ false
+plain_more d i k e h = sym (among_more d i k false (sym e)) ∙ le-ltb (get_or d (i + k) 0) 32 h

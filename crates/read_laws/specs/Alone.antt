@@ -1,5 +1,5 @@
 -- "Reading one row looks at no byte outside its value places": two records that agree there read equal, or have the same fault.
-use Rattle.std.specs.Prelude.{◌≡◌, refl, List, [], ◌∷◌, ℕ, ◌-◌, ◌≤◌, ℤ, length, get_or}
+use Rattle.std.specs.Prelude.{◌≡◌, refl, List, [], ◌∷◌, ℕ, ◌≤◌, ℤ, length, get_or}
 use Rattle.std.proofs.Common.{ap}
 use borrow.Author.Tests.{le-leb}
 use Rattle.layout.specs.rule.Row.{row_at}

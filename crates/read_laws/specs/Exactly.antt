@@ -25,7 +25,7 @@ use Rattle.read_laws.specs.Forms.{code_exactly, code_blank_exactly, code_wrong_e
 use Rattle.read_laws.specs.Forms.{quantity_exactly, quantity_blank_exactly, quantity_wrong_exactly, spaces_all, all_spaces_lem}
 use Rattle.read_laws.specs.rule.Kinds.{BitForm}
 use Rattle.read_laws.specs.Kinds.{single_exactly, zero_not, not_zero, bits_exactly}
-use Rattle.read_laws.specs.rule.Others.{TextForm, Entries, SpreadSet}
+use Rattle.read_laws.specs.rule.Others.{Entries}
 use Rattle.read_laws.specs.Others.{text_exactly, spread_exactly, spread_set_of, spread_set_is}
 use Rattle.read_laws.specs.Missing.{spaces_missing}
 use Rattle.read_laws.specs.rule.Exactly.{AllPlain, Illegal, single, quantity, bitstring, spread, character, logical, FieldSays}
@@ -174,7 +174,8 @@ plain_all (b ∷ s) e (suc p) h = plain_all s (and_right (leb 32 b) (all_plain s
 all_plain_lem : (s : List ℕ) → AllPlain s → all_plain s ≡ true
 unfolding all_plain
 all_plain_lem [] h = refl
-all_plain_lem (b ∷ s) h = and_true (leb 32 b) (all_plain s) (le-leb 32 b (h 0 (omega arith))) (all_plain_lem s (λ p l. h (suc p) (omega arith)))
+all_plain_lem (b ∷ s) h = and_true (leb 32 b) (all_plain s) (le-leb 32 b (h 0 (omega arith)))
+    (all_plain_lem s (λ p l. h (suc p) (omega arith)))
 
 module _ (t : List ℤ) (v : ℕ) (r : Row) (s : List ℕ) where
   character_named : FieldSays t v r s Character (field_by Character t v r s)
@@ -249,7 +250,7 @@ module _ (t : List ℤ) (v : ℕ) (r : Row) (s : List ℕ) where
   unfolding field_by truth_field all_spaces single_says
   field_only {k} g (blank_field a) = spaces_missing k t v r s a
   field_only g (single_zero f) = rw ((code_exactly s (pos 0)).1 f, same_self (pos 0))
-  field_only g (single_number {z} f n l) = (single_exactly (legal t v r) s z).1 (record { form = f; some = n; legal-number = l })
+  field_only g (single_number {z} f n l) = (single_exactly (legal t v r) s z).1 (record { form = f; some = n; legal_number = l })
   field_only g (quantity_number {f} h l) = quantity_only t v r s f g h l
   field_only g (bits_set {ms} n f) = (bits_exactly (categories t v r) s g ms).1 f (not_spaces t v r s n)
   field_only g (spread_set_lem {n} {b} {ms} m e h) =

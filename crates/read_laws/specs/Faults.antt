@@ -1,15 +1,13 @@
 -- "A record is refused in the same cases as before": a field's fault is answered exactly where the reading is illegal, and it is one of
 -- 241, 242, 243. What each of them says of the bytes stands in fault_laws.
 use Rattle.std.proofs.Math.Path.{◌≡◌, sym, ap}
-use Rattle.std.specs.Prelude.{refl, Bool, true, false, cond, List, ℕ, zero, suc, ◌+◌, ◌≤◌, ◌<◌, ℤ}
+use Rattle.std.specs.Prelude.{refl, Bool, true, List, ℕ, zero, suc, ◌+◌, ◌≤◌, ◌<◌, ℤ}
 use Rattle.std.proofs.Common.{◌∙◌, arith}
 use Rattle.below.specs.Below.{holds_not}
-use Rattle.layout.specs.rule.Row.{row_at}
-use Rattle.fields.specs.rule.Field.{illegal}
 use Rattle.sets.specs.rule.Sets.{is_illegal}
 use Rattle.sound.specs.rule.Sound.{well_formed}
 use Rattle.sound.specs.rule.Rows.{rows_of}
-use Rattle.faults.specs.rule.Fault.{fault_number, fault_of}
+use Rattle.faults.specs.rule.Fault.{fault_number}
 use Rattle.faults.specs.Joined.{some_fault}
 use Rattle.faults.specs.declared.Fault.{Fault}
 use Rattle.faults.specs.declared.Fault.TheVariants.{Sound, Stray, NotLegal, Point}
@@ -18,7 +16,6 @@ use Rattle.records.specs.rule.First.{first_from, bad_row, row_fault}
 use Rattle.records.specs.rule.Value as value
 use Rattle.records.specs.rule.Value.{Outcome, reading_at, ValueRead}
 use Rattle.records.specs.rule.Verdict.{Verdict, bad_field, RecordJudged}
-use Rattle.records.specs.declared.Found.TheVariants.{At, Nothing}
 use Rattle.read_laws.specs.rule.Refused.{RecordOutcome, not_formed, too_short, low_byte_lem, bad_field_lem, no_fault}
 use Rattle.read_laws.specs.Refused.{record_named}
 use Rattle.read_laws.specs.rule.Faults.{Told, stray, not_legal_lem, point}

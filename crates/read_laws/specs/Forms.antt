@@ -19,8 +19,10 @@ use Rattle.cells.specs.rule.Cell.{number_of}
 use Rattle.layout.specs.declared.Format.{Format}
 use Rattle.widths.specs.rule.Width.{tail_of, least_whole}
 use Rattle.widths.specs.Width.{tail_point, least_one}
-use Rattle.fields.specs.rule.Number.{Said, blank, says, wrong, all_spaces, unspaced, digits_only, decimal_from, decimal, code_after, code_of}
-use Rattle.fields.specs.rule.Number.{whole_part, decimal_part, point_stands, amount_form, amount_size, amount_of, quantity_after, quantity_of}
+use Rattle.fields.specs.rule.Number.{Said, blank, says, wrong, all_spaces, unspaced, digits_only, decimal_from, decimal, code_after}
+use Rattle.fields.specs.rule.Number.{code_of}
+use Rattle.fields.specs.rule.Number.{whole_part, decimal_part, point_stands, amount_form, amount_size, amount_of, quantity_after}
+use Rattle.fields.specs.rule.Number.{quantity_of}
 use Rattle.numbers.specs.rule.Format.{FormatFacts}
 use Rattle.numbers.specs.Room.{is_digit_lem, first_digit}
 use Rattle.read_laws.specs.rule.Forms.{Spaces, none, space, Digits, end, digit, Sign, plain, minus, Tail, without, point, CodeForm}

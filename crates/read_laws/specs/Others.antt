@@ -1,7 +1,8 @@
 -- What follows from rule/Others.antt, and what the code keeps.
-use Rattle.std.specs.Prelude.{◌≡◌, ◌⊎◌, Bool, cond, ◌&&◌, ◌||◌, List, [], ◌∷◌, ◌++◌, eqb, ℤ, pos, negsuc, length, take, drop}
+use Rattle.std.specs.Prelude.{◌≡◌, Bool, cond, ◌&&◌, ◌||◌, List, [], ◌∷◌, ◌++◌, eqb, ℤ, pos, negsuc, length, take, drop}
 use Rattle.std.proofs.Math.Path.{refl, ap}
-use Rattle.std.proofs.Common.{sym, ◌∙◌, append_assoc, eq-or-lt_of_le, eqb-true, eq-eqb, ne_eqb, lt-ltb, ltb-true, lit<, length-append, length-take}
+use Rattle.std.proofs.Common.{sym, ◌∙◌, append_assoc, eq-or-lt_of_le, eqb-true, eq-eqb, ne_eqb, lt-ltb, ltb-true, lit<, length-append}
+use Rattle.std.proofs.Common.{length-take}
 use Rattle.std.proofs.Math.Logic.{⊎_elim}
 use Rattle.std.proofs.Math.Bool.{true, false}
 use Prim.Native.Nat.{ℕ, zero, suc, ◌+◌, ◌-◌, ◌*◌, ◌^◌, ◌≤◌, ◌<◌}
@@ -12,7 +13,8 @@ use Rattle.cells.specs.rule.Cell.{eq_z}
 use Rattle.cells.specs.Cell.{same_true, same_self}
 use Rattle.fields.specs.rule.Number.{Said, blank, says, wrong, all_spaces, code_of, decimal_from}
 use Rattle.fields.specs.rule.Field.{missing, members, text, truth, holds, illegal, all_plain, unended, text_field, truth_field}
-use Rattle.fields.specs.rule.Field.{entry_good, entry_is, all_entries, some_entry, passing, spread_set, spread_field, is_member, rising_from}
+use Rattle.fields.specs.rule.Field.{entry_good, entry_is, all_entries, some_entry, passing, spread_set, spread_field, is_member}
+use Rattle.fields.specs.rule.Field.{rising_from}
 use Rattle.fieldlaws.specs.TextLaws.{unended_blank}
 use Rattle.fieldlaws.specs.RisingLaws.{Rising, skip, keep, rising_empty, rises_here, rises_next, rises_both, members_back, passing_same}
 use Rattle.numbers.specs.Room.{decimal_room}

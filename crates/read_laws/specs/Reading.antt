@@ -66,7 +66,8 @@ module _ (t : List ℤ) (i : ℕ) (bytes : List ℕ) where
 
     -- ---- WHAT IS SO HAS ITS OUTCOME
     by_field : Readable t i bytes → {f : Field} → Row-says t i bytes f
-        → ValueRead t i bytes list (list_after f list) (outcome_of ((row_at t i).start - 1) (length list) (row_fault t (rows_of t) bytes i) f)
+        → ValueRead t i bytes list (list_after f list)
+        (outcome_of ((row_at t i).start - 1) (length list) (row_fault t (rows_of t) bytes i) f)
     by_field s {f} h = record {
       says = rw (read_sound s, row_only s h);
       leaves = rw (list_sound s, row_only s h);
@@ -90,7 +91,8 @@ module _ (t : List ℤ) (i : ℕ) (bytes : List ℕ) where
 
     -- ---- AND THE OUTCOME NAMES WHAT IS SO
     named_by : Readable t i bytes → (f : Field) → Row-says t i bytes f
-        → ReadOutcome t i bytes list (list_after f list) (outcome_of ((row_at t i).start - 1) (length list) (row_fault t (rows_of t) bytes i) f)
+        → ReadOutcome t i bytes list (list_after f list)
+        (outcome_of ((row_at t i).start - 1) (length list) (row_fault t (rows_of t) bytes i) f)
     unfolding outcome_of list_after filled_of
     named_by s illegal h = is_illegal_lem s h
     named_by s (holds missing) h = is_missing s h

@@ -2,24 +2,33 @@
 use Rattle.std.proofs.Math.Path.{◌≡◌, refl, sym, ap}
 use Rattle.std.proofs.Common.{◌∙◌, eq-or-lt_of_le, arith}
 use Rattle.std.proofs.Math.Logic.{⊎_elim}
-use Rattle.std.specs.Prelude.{Bool, List, leb, ℤ, length, get_or}
+use Rattle.std.specs.Prelude.{Bool, List, leb, ℤ, length}
 use Rattle.std.proofs.Math.Bool.{true, false, cond}
 use Prim.Native.Nat.{ℕ, zero, suc, ◌+◌, ◌≤◌, ◌<◌}
 use borrow.Author.Tests.{le-leb, leb-true, leb-false, lt-leb, le-ltb, ltb-false}
-use Rattle.sets.specs.rule.Sets.{is_illegal}
 use Rattle.sound.specs.rule.Sound.{well_formed}
 use Rattle.sound.specs.rule.Rows.{rows_of, length_of}
 use Rattle.lows.specs.rule.Lows.{low_at}
 use Rattle.records.specs.rule.First.{first_from, bad_row, row_fault}
-use Rattle.records.specs.rule.Value.{reading_at}
 use Rattle.records.specs.rule.Verdict.{Verdict, sound, refused, low_byte, bad_field, row_verdict, byte_verdict, rows_verdict}
 use Rattle.records.specs.rule.Verdict.{verdict_of, RecordJudged}
 use Rattle.records.specs.declared.Found.{Found}
 use Rattle.records.specs.declared.Found.TheVariants.{At, Nothing}
 use Rattle.records.proofs.Laws.{first_nowhere}
-use Rattle.read_laws.specs.rule.Refused.{IsFirst, Passes, NoLow, RecordOutcome, not_formed, too_short, low_byte_lem, bad_field_lem, no_fault}
+use Rattle.read_laws.specs.rule.Refused.{IsFirst, Passes, NoLow, RecordOutcome, not_formed, too_short, low_byte_lem, bad_field_lem}
+use Rattle.read_laws.specs.rule.Refused.{no_fault}
 
 module _ (f : ℕ → Bool) where
+  pub none_found : (n i : ℕ) → first_from f i n ≡ Nothing → (j : ℕ) → i ≤ j → j < i + n → f j ≡ false
+  unfolding first_from
+  none_found zero i e j a b = absurd (omega arith)
+  none_found (suc n) i e j a b = go (f i) refl e (λ q. none_found n (suc i) q)
+    where
+      go : (c : Bool) → f i ≡ c → cond c (At i) (first_from f (suc i) n) ≡ Nothing
+          → (first_from f (suc i) n ≡ Nothing → (j : ℕ) → suc i ≤ j → j < suc i + n → f j ≡ false) → f j ≡ false
+      go true q p ih = let z : ◌≡◌ {A = ℕ} 0 1 = cc in absurd (omega arith)
+      go false q p ih = ⊎_elim (λ s. ap f (sym s) ∙ q) (λ l. ih p j l (omega arith)) (eq-or-lt_of_le a)
+
   pub nothing_found : (n i : ℕ) → ((j : ℕ) → i ≤ j → j < i + n → f j ≡ false) → first_from f i n ≡ Nothing
   unfolding first_from
   nothing_found zero i h = refl
@@ -109,7 +118,8 @@ module _ (t : List ℤ) (good : well_formed t ≡ true) (bytes : List ℕ) where
     unfolding verdict_of rows_verdict byte_verdict row_verdict
     row_refused i q e = rw (good, le-leb _ _ long, q, e)
 
-    pub row_first : (i : ℕ) → first_from (bad_row t (rows_of t) bytes) 0 (rows_of t) ≡ At i → IsFirst (bad_row t (rows_of t) bytes) 0 (rows_of t) i
+    pub row_first : (i : ℕ) → first_from (bad_row t (rows_of t) bytes) 0 (rows_of t) ≡ At i
+        → IsFirst (bad_row t (rows_of t) bytes) 0 (rows_of t) i
     row_first i e = first_is (bad_row t (rows_of t) bytes) (rows_of t) 0 i e
 
 -- ---- EXACTLY WHEN, as one theorem: what is judged of a record, each verdict with what it says

@@ -1,7 +1,7 @@
 -- The forms of a field under point code 2, in the paper's words: "the whole part may then be empty in the data". Spaces, a minus or none,
 -- digits or none, the point, the decimals: the bytes say a number exactly when they have this form and it says it.
-use Rattle.std.specs.Prelude.{◌≡◌, refl, Bool, List, ◌∷◌, ◌++◌, ℕ, ◌≤◌, ℤ, length}
-use Rattle.std.proofs.Common.{sym, ap, ◌∙◌, arith}
+use Rattle.std.specs.Prelude.{◌≡◌, refl, Bool, List, ◌∷◌, ◌++◌, ℕ, ℤ, length}
+use Rattle.std.proofs.Common.{ap, ◌∙◌, arith}
 use Rattle.cells.specs.rule.Cell.{number_of}
 use Rattle.layout.specs.declared.Format.{Format}
 use Rattle.widths.specs.Width.{least_none}

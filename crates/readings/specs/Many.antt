@@ -1,6 +1,6 @@
 -- Many records of one length, one behind the other: where each stands, and that a row is legal in all of them.
-use Rattle.std.specs.Prelude.{◌≡◌, refl, Bool, true, false, cond, List, ℕ, ◌+◌, ◌-◌, ◌*◌, ◌≤◌, ◌<◌, ℤ, length, get_or, take, drop}
-use Rattle.std.proofs.Common.{sym, ap, ◌∙◌, zero-mul, suc-mul, add-one, arith, below_more, length-take, length-drop, get_or-take}
+use Rattle.std.specs.Prelude.{◌≡◌, false, List, ℕ, ◌+◌, ◌-◌, ◌*◌, ◌≤◌, ◌<◌, ℤ, length, get_or, take, drop}
+use Rattle.std.proofs.Common.{ap, ◌∙◌, zero-mul, suc-mul, add-one, arith, below_more, length-take, length-drop, get_or-take}
 use Rattle.std.proofs.Common.{get_or-drop}
 use Rattle.layout.specs.declared.Row.{Row}
 use Rattle.fields.specs.rule.Row.{reading_of}
@@ -35,10 +35,10 @@ abbrev pub LegalIn : List ℤ → ℕ → Row → List ℕ → Batch → Type 0
 LegalIn t v r d b = LegalTo t v r d b b.count
 
 -- ---- laws
-begin_none : (b : Batch) → b.from ≡ begin b 0
+pub begin_none : (b : Batch) → b.from ≡ begin b 0
 begin_none b = rw (zero-mul b.step) (omega arith)
 
-begin_more : (b : Batch) (k : ℕ) → begin b k + b.step ≡ begin b (k + 1)
+pub begin_more : (b : Batch) (k : ℕ) → begin b k + b.step ≡ begin b (k + 1)
 begin_more b k = rw (add-one k, suc-mul k b.step) (omega arith)
 
 pub bytes_long : (d : List ℕ) (a n : ℕ) → a + n < length d → length (bytes_at d a n) ≡ n
@@ -74,3 +74,11 @@ module _ {t : List ℤ} {v : ℕ} {r : Row} {d : List ℕ} {b : Batch} where
 
     pub all_passed : b.count ≤ k → LegalIn t v r d b
     all_passed l j i = p.legal j (omega arith)
+
+-- one record more, and all of them, with the place beside
+pub legal_more : (t : List ℤ) (v : ℕ) (r : Row) (d : List ℕ) (b : Batch) (k at : ℕ) → at ≡ begin b k → LegalTo t v r d b k
+    → is_illegal (reading_of t v r (bytes_at d at b.size)) ≡ false → LegalTo t v r d b (k + 1)
+legal_more t v r d b k at e h g = below_more _ _ h (rw e at g)
+
+pub legal_all : (t : List ℤ) (v : ℕ) (r : Row) (d : List ℕ) (b : Batch) (k : ℕ) → LegalTo t v r d b k → b.count ≤ k → LegalIn t v r d b
+legal_all t v r d b k h l j i = h j (omega arith)

@@ -123,3 +123,14 @@ verdict_sound t (record_and r rs) n first =
     go (refused k) rest e h = stop (n + 1 - 1) refl
     go (low_byte p) rest e h = stop (n + 1 - 1) refl
     go (bad_field i x) rest e h = stop (n + 1 - 1) refl
+
+-- where nothing is found, each holds not
+none_found : (f : ℕ → Bool) (n i : ℕ) → first_from f i n ≡ Nothing → (j : ℕ) → i ≤ j → j < i + n → f j ≡ false
+unfolding first_from
+none_found f zero i e j a b = absurd (omega arith)
+none_found f (suc n) i e j a b = go (f i) refl e (λ q. none_found f n (suc i) q)
+  where
+    go : (c : Bool) → f i ≡ c → cond c (At i) (first_from f (suc i) n) ≡ Nothing
+        → (first_from f (suc i) n ≡ Nothing → (j : ℕ) → suc i ≤ j → j < suc i + n → f j ≡ false) → f j ≡ false
+    go true q p ih = let z : ◌≡◌ {A = ℕ} 0 1 = cc in absurd (omega arith)
+    go false q p ih = ⊎_elim (λ s. ap f (sym s) ∙ q) (λ l. ih p j l (omega arith)) (eq-or-lt_of_le a)

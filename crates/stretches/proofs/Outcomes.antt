@@ -1,19 +1,19 @@
 -- From what the decoder tells to the promise of the call.
 use mathlib.Core.Path.{◌≡◌, refl, sym, ap, ◌∙◌}
 use mathlib.Core.Logic.{◌↔◌}
-use mathlib.Core.Bool.{Bool, true, false, cond, ◌&&◌}
+use mathlib.Core.Bool.{Bool, true, false, cond}
 use mathlib.Core.List.{List, [], ◌∷◌, ◌++◌}
-use Prim.Native.Nat.{ℕ, zero, suc, ◌+◌, ◌-◌, ◌≤◌, ◌<◌}
+use Prim.Native.Nat.{ℕ, ◌+◌, ◌≤◌, ◌<◌}
 use native.Mathlib.Omega.{arith}
 use lib.Dec.{leb, ltb}
 use lib.IntN.{ℤ}
 use lib.ListN.{length, drop}
 use lib.Seq.{length-take-le}
-use borrow.Author.Tests.{le-leb, lt-leb, leb-true, lt-ltb, le-ltb, ltb-true, ltb-false}
+use borrow.Author.Tests.{le-leb, lt-leb, leb-true, lt-ltb, le-ltb, ltb-false}
 use Rattle.below.specs.Below.{and_left, and_right}
 use Rattle.signs.specs.declared.Sign.{Sign}
 use Rattle.utf.specs.rule.Chars.{encode}
-use Rattle.texts.specs.rule.Decode.{cut_off, DecodeOutcome, signs, refused, numbers_of, decode_said, decode_fitting, signs_after}
+use Rattle.texts.specs.rule.Decode.{cut_off, numbers_of, decode_said, decode_fitting, signs_after}
 use Rattle.texts.specs.declared.Decoded.{Decoded}
 use Rattle.texts.specs.declared.Decoded.TheVariants as decoded
 use Rattle.contents.specs.rule.Grammar.{byte_signs}
@@ -110,7 +110,8 @@ module _ (l : Bool) (d : List ℕ) (place long : ℕ) (list : List ℤ) where
     pub counted : (r : Room) (n : ℕ) → r ≡ room_of (length list) (length (signs_from l (cut_off d place long) (begun place))) → r ≡ Signs n
         → (n ≡ length (signs_from l (cut_off d place long) (begun place))) × (n ≤ length list)
     unfolding stretch_signs
-    counted r n e f = let q = fits_is r n e f in let g = ltb-false (length list) (length (signs_from l (cut_off d place long) (begun place)))
+    counted r n e f = let q = fits_is r n e f in let g = ltb-false (length list)
+        (length (signs_from l (cut_off d place long) (begun place)))
         q.0 in let k = q.1 in (k, omega arith)
 
     pub decodes : is_text l (cut_off d place long) place ≡ true → (r : Room) (n : ℕ) (list' : List ℤ) → r

@@ -1,5 +1,5 @@
 -- Every token takes the reader on: less is left behind it.
-use mathlib.Core.Path.{◌≡◌, refl, ◌∙◌, sym, ap}
+use mathlib.Core.Path.{◌≡◌, refl}
 use mathlib.Core.Bool.{Bool, true, false, cond}
 use mathlib.Core.List.{List, [], ◌∷◌}
 use Prim.Native.Nat.{ℕ, zero, suc, ◌+◌, ◌-◌, ◌≤◌, ◌<◌}
@@ -21,14 +21,11 @@ use Rattle.marks.specs.declared.Inside.TheVariants.{Plain}
 use Rattle.marks.specs.declared.Move.{Move}
 use Rattle.marks.specs.declared.Move.TheVariants.{Go, Closed, Wrong}
 use Rattle.marks.specs.rule.Marks.{comment_of, inside_of, moved, string_of}
-use Rattle.marks.proofs.Levels.{Ahead, by_past, by_none, by_bad, string_ahead}
-use Rattle.tokens.specs.declared.Fault.{Fault}
+use Rattle.marks.proofs.Levels.{Ahead, by_past, string_ahead}
 use Rattle.tokens.specs.declared.Reading.{Reading}
 use Rattle.tokens.specs.declared.Reading.TheVariants.{At, Refused}
-use Rattle.tokens.specs.declared.Choice.{Choice}
-use Rattle.tokens.specs.declared.Choice.TheVariants.{Taken, Left}
+use Rattle.tokens.specs.declared.Choice.TheVariants.{Taken}
 use Rattle.tokens.specs.declared.Quoted.{Quoted}
-use Rattle.tokens.specs.declared.Phrase.{Phrase}
 use Rattle.tokens.specs.declared.Phrase.TheVariants as phrase
 use Rattle.tokens.specs.rule.Gap.{fault, gap_skip, gap_step, gap_at}
 use Rattle.tokens.specs.Gap.{gap_on, left}

@@ -8,17 +8,15 @@ use lib.Dec.{eqb, ltb}
 use lib.ListN.{length, get_or}
 use borrow.Author.Tests.{lt-ltb, le-ltb, ltb-true, ltb-false, ne_eqb, eqb-true}
 use Rattle.ascii.specs.rule.Class.{class_of, within}
-use Rattle.scan.specs.rule.Text.{Text, stop, sign, text}
+use Rattle.scan.specs.rule.Text.{Text, text}
 use Rattle.scan.specs.rule.Number.{is_space}
-use Rattle.scan.specs.rule.Loop.{Next, Again, Done, loop_of}
+use Rattle.scan.specs.rule.Loop.{Next, Again, Done}
 use Rattle.scan.proofs.Texts.{From, at_stop, at_sign, from_text, text_dropped, text_kept, kept_byte}
 use Rattle.scan.proofs.Loops.{loop_again, loop_done}
 use Rattle.marks.specs.declared.Skip.{Skip}
-use Rattle.marks.specs.declared.Skip.TheVariants.{Past, Unclosed, Bad}
-use Rattle.marks.specs.rule.Marks.{comment_of}
 use Rattle.marks.proofs.Levels.{Ahead, by_past, by_none, by_bad, comment_ahead}
 use Rattle.tokens.specs.declared.Reading.{Reading}
-use Rattle.tokens.specs.declared.Reading.TheVariants.{At, Refused}
+use Rattle.tokens.specs.declared.Reading.TheVariants.{At}
 use Rattle.tokens.specs.declared.Pace.TheVariants.{On, Over}
 use Rattle.tokens.specs.rule.Gap.{gap_skip, gap_step, gap_at}
 use Rattle.tokens.specs.Gap.{pace_of}
@@ -107,3 +105,31 @@ pub gap_token : (d : List ℕ) (n : ℕ) → n < length d → 32 < get_or d n 0 
 unfolding gap_step
 gap_token d n h l o =
     gap_done d n (rw (text_kept d n h (kept_byte (get_or d n 0) (omega arith)), above_space (get_or d n 0) l, ne_eqb (get_or d n 0) 60 o))
+
+-- four spaces
+all_four : (a b c d : Bool) → (a && (b && (c && d))) ≡ true → (a ≡ true) × (b ≡ true) × (c ≡ true) × (d ≡ true)
+all_four false b c d e = let z : ◌≡◌ {A = ℕ} 0 1 = cc in absurd (omega arith)
+all_four true false c d e = let z : ◌≡◌ {A = ℕ} 0 1 = cc in absurd (omega arith)
+all_four true true false d e = let z : ◌≡◌ {A = ℕ} 0 1 = cc in absurd (omega arith)
+all_four true true true false e = let z : ◌≡◌ {A = ℕ} 0 1 = cc in absurd (omega arith)
+all_four true true true true e = (refl, refl, refl, refl)
+
+pub gap_four : (d : List ℕ) (n : ℕ) → n + 4 ≤ length d
+    → (eqb (get_or d n 0) 32 && (eqb (get_or d (n + 1) 0) 32 && (eqb (get_or d (n + 2) 0) 32 && eqb (get_or d (n + 3) 0) 32))) ≡ true → gap_at d n
+    ≡ gap_at d (n + 4)
+gap_four d n h e =
+    let all = all_four (eqb (get_or d n 0) 32) (eqb (get_or d (n + 1) 0) 32) (eqb (get_or d (n + 2) 0) 32) (eqb (get_or d (n + 3) 0) 32) e in
+    let a : get_or d n 0 ≡ 32 = eqb-true _ _ all.0 in
+    let b : get_or d (n + 1) 0 ≡ 32 = eqb-true _ _ all.1 in
+    let f : get_or d (n + 2) 0 ≡ 32 = eqb-true _ _ all.2 in
+    let g : get_or d (n + 3) 0 ≡ 32 = eqb-true _ _ all.3 in
+    let p : n + 1 + 1 ≡ n + 2 = omega arith in
+    let q : n + 2 + 1 ≡ n + 3 = omega arith in
+    let r : n + 3 + 1 ≡ n + 4 = omega arith in
+    gap_blank d n (omega arith) (omega arith)
+    ∙ gap_blank d (n + 1) (omega arith) (omega arith)
+    ∙ ap (gap_at d) p
+    ∙ gap_blank d (n + 2) (omega arith) (omega arith)
+    ∙ ap (gap_at d) q
+    ∙ gap_blank d (n + 3) (omega arith) (omega arith)
+    ∙ ap (gap_at d) r

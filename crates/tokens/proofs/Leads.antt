@@ -1,25 +1,21 @@
 -- Digits that stand side by side, and a value that is nothing else.
 use mathlib.Core.Path.{◌≡◌, refl, ◌∙◌, sym, ap}
-use mathlib.Core.Bool.{Bool, true, false, cond, not, ◌||◌, ◌&&◌}
+use mathlib.Core.Bool.{Bool, true, false, cond, not, ◌||◌}
 use mathlib.Core.List.{List, [], ◌∷◌}
 use Prim.Native.Nat.{ℕ, ◌+◌, ◌*◌, ◌-◌, ◌≤◌, ◌<◌}
 use native.Mathlib.Omega.{arith}
-use lib.Dec.{eqb, ltb}
+use lib.Dec.{eqb}
 use lib.ListN.{length, get_or}
 use borrow.Author.Tests.{eq-eqb, ne_eqb, eqb-true, lt-ltb, le-ltb, le-leb, lt-leb}
 use Rattle.ascii.specs.rule.Class.{class_of, within}
 use Rattle.scan.specs.rule.Text.{Text, stop, sign, text}
-use Rattle.scan.specs.rule.Number.{is_digit, is_value, run_of, run_bytes, decimal_of}
-use Rattle.scan.specs.Number.{capped, digits_from, push_of}
-use Rattle.scan.specs.declared.Digits.{Digits}
+use Rattle.scan.specs.rule.Number.{is_digit, is_value, run_of, run_bytes}
+use Rattle.scan.specs.Number.{digits_from, push_of}
 use Rattle.scan.proofs.Texts.{text_dropped, text_kept, kept_byte}
-use Rattle.scan.proofs.Runs.{low, digits_next, digits_over, digits_end, run_over, run_end}
+use Rattle.scan.proofs.Runs.{low, digits_next, digits_over, digits_end}
 use Rattle.tokens.specs.declared.Mark.{Mark}
-use Rattle.tokens.specs.declared.Value.{Value}
-use Rattle.tokens.specs.declared.Number.{Number}
 use Rattle.tokens.specs.declared.Number.TheVariants as number
 use Rattle.tokens.specs.declared.Reading.TheVariants.{At}
-use Rattle.tokens.specs.declared.Amount.{Amount}
 use Rattle.tokens.specs.declared.Amount.TheVariants as amount
 use Rattle.tokens.specs.Over.{over_of}
 use Rattle.tokens.proofs.Gaps.{low_dropped}

@@ -2,17 +2,17 @@
 use mathlib.Core.Path.{◌≡◌, refl, ◌∙◌, sym, ap}
 use mathlib.Core.Bool.{Bool, true, false, cond}
 use mathlib.Core.List.{List, [], ◌∷◌, ◌++◌, append-nil}
-use Prim.Native.Nat.{ℕ, ◌+◌, ◌*◌, ◌-◌, ◌≤◌, ◌<◌}
+use Prim.Native.Nat.{ℕ, ◌+◌, ◌*◌, ◌-◌, ◌≤◌}
 use native.Mathlib.Omega.{arith}
 use lib.Dec.{eqb, leb}
 use borrow.Author.Tests.{eqb-true, lt-leb, le-leb}
 use Rattle.ascii.specs.rule.Class.{class_of}
-use Rattle.scan.specs.rule.Text.{Text, stop, sign, text}
+use Rattle.scan.specs.rule.Text.{Text, sign, text}
 use Rattle.scan.specs.rule.Number.{is_digit, run_of, run_bytes, decimal_of}
 use Rattle.scan.specs.Number.{capped, digits_from}
 use Rattle.scan.specs.Order.{digits_to, value_of}
 use Rattle.scan.proofs.Texts.{From, at_stop, at_sign, from_text}
-use Rattle.scan.proofs.Runs.{held, digits_held}
+use Rattle.scan.proofs.Runs.{held}
 use Rattle.scan.proofs.Orders.{run_ahead}
 use Rattle.tokens.specs.declared.Mark.{Mark}
 use Rattle.tokens.specs.Token.{mark_of, value_at}

@@ -82,6 +82,7 @@ returns-3 c =
     at-next-digit3.before.enum-told2.given.1 c.before.enum-told4.given.1
 
 pub less-in-spec : {M : Type 1} → statement M
-less-in-spec = tie.close (tie.spec invariant-loop decreases-loop (λ c κs. search rules) (λ c κs. search rules) loop-holds next-digit-requires
+less-in-spec = tie.close (tie.spec invariant-loop decreases-loop (λ c κs. search rules) (λ c κs. search rules) loop-holds
+    next-digit-requires
     (λ c. search rules) next-digit-requires-2 (λ c. search rules) (λ c κs. search rules) loop-less loop-again (λ c. search rules) returns
     (λ c. search rules) next-digit-requires-3 (λ c. search rules) returns-2 (λ c. search rules) (λ c κs. search rules) returns-3)

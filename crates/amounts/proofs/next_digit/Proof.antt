@@ -77,5 +77,6 @@ returns-3 c = (
 )
 
 pub next-digit-spec : {M : Type 1} → statement M
-next-digit-spec = tie.close (tie.spec invariant-loop decreases-loop loop-holds next-char-requires (λ c. search rules) (λ c κs. search rules) returns
+next-digit-spec = tie.close (tie.spec invariant-loop decreases-loop loop-holds next-char-requires (λ c. search rules) (λ c κs. search rules)
+    returns
     loop-less loop-again (λ c. search rules) returns-2 (λ c. search rules) returns-3)

@@ -96,5 +96,6 @@ returns-3 c = (
 )
 
 pub read-digits-spec : {M : Type 1} → statement M
-read-digits-spec = tie.close (tie.spec invariant-loop decreases-loop loop-holds next-char-requires (λ c. search rules) (λ c κs. search rules) returns
+read-digits-spec = tie.close (tie.spec invariant-loop decreases-loop loop-holds next-char-requires (λ c. search rules)
+    (λ c κs. search rules) returns
     push-requires add-count loop-less loop-again (λ c. search rules) returns-2 (λ c. search rules) returns-3)

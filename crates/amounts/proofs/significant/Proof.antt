@@ -51,5 +51,6 @@ returns-2 c = (
 )
 
 pub significant-spec : {M : Type 1} → statement M
-significant-spec = tie.close (tie.spec invariant-loop decreases-loop loop-holds next-digit-requires (λ c. search rules) returns loop-less loop-again
+significant-spec = tie.close (tie.spec invariant-loop decreases-loop loop-holds next-digit-requires (λ c. search rules) returns loop-less
+    loop-again
     (λ c. search rules) returns-2)

@@ -1,4 +1,5 @@
--- DEMAND 2 FOR READING, as one theorem: `read_named` and `read_only_lem`. What the call promises is so exactly when one line of `ReadOutcome`
+-- DEMAND 2 FOR READING, as one theorem: `read_named` and `read_only_lem`. What the call promises is so exactly when one line of
+-- `ReadOutcome`
 -- is: each refusal with what it says, and each value with the form of the bytes that say it (Exactly.antt).
 use Rattle.std.specs.Prelude.{◌≡◌, Bool, true, false, List, ◌++◌, ℕ, ◌-◌, ◌≤◌, ◌<◌, ℤ, length, drop}
 use Rattle.places.specs.rule.Places.{pick}
@@ -27,7 +28,8 @@ pub data ReadOutcome (t : List ℤ) (i : ℕ) (bytes : List ℕ) (list : List �
   not_formed : well_formed t ≡ false → ReadOutcome t i bytes list list (refused 20)
   no_row : well_formed t ≡ true → rows_of t ≤ i → ReadOutcome t i bytes list list (refused 21)
   too_short : well_formed t ≡ true → i < rows_of t → length bytes < length_of t → ReadOutcome t i bytes list list (refused 22)
-  is_illegal_lem : Readable t i bytes → Row-says t i bytes illegal → ReadOutcome t i bytes list list (bad_field (row_fault t (rows_of t) bytes i))
+  is_illegal_lem : Readable t i bytes → Row-says t i bytes illegal
+      → ReadOutcome t i bytes list list (bad_field (row_fault t (rows_of t) bytes i))
   is_missing : Readable t i bytes → Row-says t i bytes (holds missing) → ReadOutcome t i bytes list list nothing
   is_number : {z : ℤ} → Readable t i bytes → Row-says t i bytes (holds (number z)) → ReadOutcome t i bytes list list (number_is z)
   is_set : {ms : List ℤ} → Readable t i bytes → Row-says t i bytes (holds (members ms)) → length ms ≤ length list
