@@ -1,7 +1,8 @@
 -- The field of a row that is legal, kind by kind: what its bytes say needs no second look.
-use Rattle.std.specs.Prelude.{◌≡◌, Bool, cond, ◌&&◌, ◌||◌, leb, ℤ, pos, negsuc, length, get_or, set, take, drop}
+use Rattle.std.specs.Prelude.{◌≡◌, Bool, cond, ◌&&◌, ℤ, pos, negsuc, length, get_or, set, take, drop}
 use Rattle.std.proofs.Math.Path.{refl, sym, ap}
-use Rattle.std.proofs.Common.{◌∙◌, ⊎_elim, sub-eq-zero_of_le, add-zero, eq-or-lt_of_le, length-set, take-take, get_or-set_same, get_or-set_other}
+use Rattle.std.proofs.Common.{◌∙◌, ⊎_elim, sub-eq-zero_of_le, add-zero, eq-or-lt_of_le, length-set, take-take, get_or-set_same}
+use Rattle.std.proofs.Common.{get_or-set_other}
 use Rattle.std.proofs.Math.Bool.{true, false}
 use mathlib.Core.List.{List, [], ◌∷◌, ◌++◌}
 use Prim.Native.Nat.{ℕ, zero, suc, ◌+◌, ◌-◌, ◌^◌, ◌≤◌, ◌<◌}

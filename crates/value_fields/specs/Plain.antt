@@ -1,6 +1,7 @@
 -- No number, set or truth holds one of the four bytes: it is written as it stands.
-use Rattle.std.specs.Prelude.{◌≡◌, refl, Bool, true, false, cond, ◌||◌, List, [], ◌∷◌, ◌++◌, ℕ, zero, suc, ◌+◌, ◌/◌, ◌%◌, ◌^◌, ◌≤◌, ◌<◌, eqb, ℤ}
-use Rattle.std.proofs.Common.{sym, ap, ◌∙◌, arith, mod-lt, ne_eqb}
+use Rattle.std.specs.Prelude.{◌≡◌, refl, Bool, true, false, cond, ◌||◌, List, [], ◌∷◌, ◌++◌, ℕ, zero, suc, ◌+◌, ◌/◌, ◌%◌, ◌^◌}
+use Rattle.std.specs.Prelude.{eqb, ℤ}
+use Rattle.std.proofs.Common.{arith, ne_eqb}
 use Rattle.cells.specs.rule.Cell.{signed_of}
 use Rattle.ascii.specs.rule.Tens.{digits_of}
 use Rattle.fields.specs.rule.Number.{padded}

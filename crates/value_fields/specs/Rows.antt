@@ -1,6 +1,6 @@
 -- A row of a tested table: its decimals are few, and its field is that of what is read.
-use Rattle.std.specs.Prelude.{◌≡◌, refl, true, false, List, [], ℕ, ◌-◌, ◌≤◌, ◌<◌, ℤ, length}
-use Rattle.std.proofs.Common.{sym, ap, ◌∙◌, arith}
+use Rattle.std.specs.Prelude.{◌≡◌, true, false, List, [], ℕ, ◌-◌, ◌≤◌, ◌<◌, ℤ, length}
+use Rattle.std.proofs.Common.{arith}
 use Rattle.layout.specs.rule.Row.{row_at}
 use Rattle.layout.specs.declared.Header.{Header}
 use Rattle.layout.specs.declared.Row.{Row}

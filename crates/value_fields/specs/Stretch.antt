@@ -77,7 +77,7 @@ module _ {most w : ℕ} {r : List ℕ} {p i j : ℕ} {out : List ℕ} {at : ℕ}
         let f = s.few in
         rw e record {
           pays = λ x. (s.owed {bound = bound} (omega arith)).pays ((z.owed {bound = bound} (omega arith)).pays x);
-          same-room = z.room ∙ s.room;
+          same_room = z.room ∙ s.room;
         };
   }
 

@@ -1,6 +1,8 @@
 -- What follows from rule/Values.antt, and what the code keeps.
-use Rattle.std.specs.Prelude.{◌≡◌, refl, Bool, true, false, cond, List, [], ◌∷◌, ◌++◌, ℕ, zero, suc, ◌+◌, ◌-◌, ◌/◌, ◌^◌, ◌≤◌, ◌<◌, eqb, ℤ, pos, length, set, take, drop}
-use Rattle.std.proofs.Common.{sym, ◌∙◌, div-one, add-one, arith, eq-eqb, ne_eqb, length-take, drop_of_length-le, drop-cons, get_or-take, length-take-le}
+use Rattle.std.specs.Prelude.{◌≡◌, refl, Bool, true, false, cond, List, [], ◌∷◌, ◌++◌, ℕ, zero, suc, ◌+◌, ◌-◌, ◌/◌, ◌^◌, ◌≤◌, ◌<◌, ℤ}
+use Rattle.std.specs.Prelude.{pos, length, set, take, drop}
+use Rattle.std.proofs.Common.{sym, ◌∙◌, div-one, add-one, arith, eq-eqb, ne_eqb, length-take, drop_of_length-le, drop-cons, get_or-take}
+use Rattle.std.proofs.Common.{length-take-le}
 use Rattle.std.proofs.Math.Path.{ap}
 use Rattle.std.proofs.lemmas.List.Edits.{sets}
 use Rattle.places.specs.rule.Places.{put, run}
@@ -9,7 +11,7 @@ use Rattle.cells.specs.declared.Signed.{Signed}
 use Rattle.fields.specs.rule.Number.{padded}
 use Rattle.fieldlaws.specs.NumberLaws.{length_padded}
 use Rattle.lines.specs.rule.Text.{numeral}
-use Rattle.lines.specs.Lines.{Listable, value_of}
+use Rattle.lines.specs.Lines.{value_of}
 use Rattle.readings.specs.declared.Answer.{Answer}
 use Rattle.readings.specs.declared.Answer.TheVariants.{Missing, Number, Set, Text, Truth}
 use Rattle.sink.specs.rule.Sent.{Sent}

@@ -5,8 +5,6 @@
 -- 1". 45 is the minus, 46 the point, 59 the semicolon, 48 and 49 are 0 and 1.
 use Rattle.std.specs.Prelude.{cond, List, [], ◌∷◌, ◌++◌, ℕ, ◌/◌, ◌^◌, eqb, ℤ}
 use Rattle.cells.specs.rule.Cell.{signed_of}
-use Rattle.layout.specs.declared.Kind.{Kind}
-use Rattle.layout.specs.declared.Kind.TheVariants.{Single, Multiple, Quantity, Character, Logical}
 use Rattle.layout.specs.rule.Row.{row_at}
 use Rattle.fields.specs.rule.Number.{padded}
 use Rattle.fields.specs.rule.Field.{Value, missing, number, members, text, truth, Field, holds, illegal}
