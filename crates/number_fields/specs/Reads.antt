@@ -1,6 +1,6 @@
 -- What stands in a text from one place to another, and numbers that stand there as export writes them.
 use Rattle.std.specs.Prelude.{◌≡◌, refl, true, false, List, [], ◌∷◌, ◌++◌, ℕ, zero, suc, ◌+◌, ◌-◌, ◌*◌, ◌/◌, ◌%◌, ◌^◌, ◌≤◌, ◌<◌, ℤ, pos}
-use Rattle.std.specs.Prelude.{negsuc, length, take, drop, get_or}
+use Rattle.std.specs.Prelude.{length, take, drop, get_or}
 use Rattle.std.proofs.Common.{sym, ap, ◌∙◌, append-nil, append_assoc, div-one, add-one, arith, length-append, length-drop, drop-cons}
 use Rattle.std.proofs.Math.Nat.{pow-succ', div-div-eq-div-mul}
 use Rattle.std.proofs.Math.Seq.{take-append_seam}
