@@ -2,9 +2,9 @@
 -- Assumes nothing.
 use Rattle.std.specs.Prelude.{◌≡◌, ℤ}
 use Rattle.std.proofs.Math.Path.{refl, ap}
-use Rattle.std.proofs.Common.{sym, ◌∙◌, length-append}
+use Rattle.std.proofs.Common.{◌∙◌, length-append}
 use mathlib.Core.List.{List, [], ◌∷◌, ◌++◌}
-use Prim.Native.Nat.{ℕ, zero, suc, ◌+◌, ◌-◌, ◌^◌, ◌≤◌, ◌<◌}
+use Prim.Native.Nat.{ℕ, suc, ◌+◌, ◌-◌, ◌^◌, ◌≤◌, ◌<◌}
 use Rattle.std.proofs.Math.Numerals.{add-one}
 use native.Mathlib.Omega.{arith}
 use Rattle.std.proofs.Math.ListN.{length}
@@ -15,7 +15,7 @@ use Rattle.fields.specs.rule.Legal.{legal}
 use Rattle.fields.specs.rule.Field.{Field}
 use Rattle.fields.specs.rule.Row.{defined, reading_of}
 use Rattle.matrix.specs.declared.Entry.{Entry}
-use Rattle.columns.specs.rule.Columns.{Column, of_row, of_category, of_categories, columns_by, row_columns, columns_from}
+use Rattle.columns.specs.rule.Columns.{Column, of_row, of_categories, columns_by, row_columns, columns_from}
 use Rattle.widths.specs.rule.Width.{decimals_of}
 use Rattle.columns.specs.rule.Columns.{number_entry, member_entry}
 use Rattle.columns.specs.rule.Columns.{entry_of, entries_of}
@@ -69,7 +69,8 @@ module _ (t : List ℤ) (v : ℕ) (bytes : List ℕ) where
   length_entries [] = refl
   length_entries (c ∷ cs) = ap suc (length_entries cs)
 
-  pub entries_members : (i : ℕ) (cs : List ℕ) → entries_of t v bytes (of_categories i cs) ≡ member_entries (reading_of t v (row_at t i) bytes) cs
+  pub entries_members : (i : ℕ) (cs : List ℕ) → entries_of t v bytes (of_categories i cs)
+      ≡ member_entries (reading_of t v (row_at t i) bytes) cs
   unfolding entries_of of_categories member_entries entry_of
   entries_members i [] = refl
   entries_members i (c ∷ cs) = ap (λ (l : List Entry). member_entry c (reading_of t v (row_at t i) bytes) ∷ l) (entries_members i cs)
@@ -101,6 +102,7 @@ module _ (t : List ℤ) (v i : ℕ) where
 
 -- the entries of the rows that are left
 module _ (t : List ℤ) (v : ℕ) (bytes : List ℕ) (i : ℕ) where
-  pub left_count : i < v → length (columns_from t v i (v - i)) ≡ length (row_columns t v i) + length (columns_from t v (i + 1) (v - (i + 1)))
+  pub left_count : i < v → length (columns_from t v i (v - i)) ≡ length (row_columns t v i)
+      + length (columns_from t v (i + 1) (v - (i + 1)))
   left_count h = ap (λ (l : List Column). length l) (columns_on t v i h)
       ∙ length-append (row_columns t v i) (columns_from t v (i + 1) (v - (i + 1)))

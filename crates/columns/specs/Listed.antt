@@ -132,7 +132,8 @@ in_set l i z x (suc k) h = rw (in_set l i z x k (omega arith), get_or-set_other 
 
 -- one more of its numbers
 pub copied_more : (room : List ℕ) (l : List ℤ) (k x : ℕ) {z : ℤ} → z ≡ pos (get_or room k 0) → k < length l
-    → in_list l k x ≡ any_below k (λ j. eqb (get_or room j 0) x) → in_list (set l k z) (k + 1) x ≡ any_below (k + 1) (λ j. eqb (get_or room j 0) x)
+    → in_list l k x ≡ any_below k (λ j. eqb (get_or room j 0) x) → in_list (set l k z) (k + 1) x
+    ≡ any_below (k + 1) (λ j. eqb (get_or room j 0) x)
 unfolding eq_z
 copied_more room l k x {z} is h e =
     any_next (λ j. eq_z (cell (set l k z) j) (pos x)) k

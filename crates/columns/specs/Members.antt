@@ -1,33 +1,22 @@
 -- The marks of a set's members, and the categories that are marked: they give the entries of all categories of the row.
 -- Assumes nothing.
-use Rattle.std.specs.Prelude.{◌≡◌, Bool, ◌||◌, ℤ, pos, length, get_or, drop, eqb, leb}
+use Rattle.std.specs.Prelude.{◌≡◌, Bool, ◌||◌, ℤ, pos, length, get_or}
 use Rattle.std.proofs.Math.Path.{refl}
-use Rattle.std.proofs.Common.{sym, ap, ◌∙◌, subst, arith, le-leb}
+use Rattle.std.proofs.Common.{sym, ap, ◌∙◌, arith}
 use Rattle.std.proofs.Math.Bool.{true, false, cond}
 use mathlib.Core.List.{List, [], ◌∷◌, ◌++◌, append-nil}
 use Prim.Native.Nat.{ℕ, zero, suc, ◌+◌, ◌-◌, ◌≤◌, ◌<◌}
 use Rattle.below.specs.rule.Below.{any_below}
-use Rattle.below.specs.Below.{holds_not}
 use Rattle.cells.specs.rule.Cell.{cell, eq_z}
 use Rattle.layout.specs.declared.Row.{Row}
 use Rattle.fields.specs.rule.Legal.{legal}
-use Rattle.fields.specs.rule.Field.{missing, number, members, text, truth, Field, holds, illegal, is_member}
+use Rattle.fields.specs.rule.Field.{Field, is_member}
 use Rattle.fields.specs.rule.Row.{defined}
-use Rattle.sets.specs.rule.Sets.{filled_of}
-use Rattle.sets.specs.Marks.{flag, Marks, Besides}
-use Rattle.sets.proofs.MarkLaws.{flag_back}
+use Rattle.sets.specs.Marks.{Marks}
 use Rattle.sets.proofs.FewLaws.{defined_split}
-use Rattle.readings.specs.Answer.{answer_of, RowRead}
-use Rattle.readings.specs.declared.Answer.{Answer}
-use Rattle.readings.specs.declared.Answer.TheVariants.{Set, ShortList}
-use Rattle.record_values.specs.rule.Record.{members_of}
-use Rattle.record_values.specs.Rows.{members_in}
-use Rattle.record_values.specs.Room.{read_members, read_list}
-use Rattle.matrix.specs.declared.Entry.{Entry}
-use Rattle.matrix.specs.declared.Entry.TheVariants.{Absent, Scaled}
 use Rattle.columns.specs.rule.Columns.{member_entry}
 use Rattle.columns.specs.Reach.{Covered}
-use Rattle.columns.specs.Marked.{is_set, marked_entry, marked_entries, member_entries, marked_is, marked_count}
+use Rattle.columns.specs.Marked.{marked_entry, marked_entries, member_entries, marked_is, marked_count}
 
 -- ---- a member is one of the list's first numbers
 or_same : (a b c : Bool) → ((a || b) || c) ≡ (a || (b || c))

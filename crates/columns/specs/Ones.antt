@@ -1,7 +1,9 @@
 -- The entries of a stretch of categories that are all legal: zeros, and the ones set among them.
 -- Assumes nothing.
-use Rattle.std.specs.Prelude.{◌≡◌, refl, Bool, true, false, cond, ◌&&◌, ◌||◌, List, [], ◌∷◌, ◌++◌, ℕ, zero, suc, ◌+◌, ◌-◌, ◌*◌, ◌≤◌, ◌<◌, eqb, ltb, ℤ, pos, negsuc, length, get_or}
-use Rattle.std.proofs.Common.{sym, ap, ◌∙◌, subst, add-zero, zero-add, add-one, arith, eq-eqb, ne_eqb, ltb-true, lt-ltb, leb-true, le-leb, ⊎_elim, length-append}
+use Rattle.std.specs.Prelude.{◌≡◌, refl, Bool, true, false, cond, ◌||◌, List, [], ◌∷◌, ◌++◌, ℕ, zero, suc, ◌+◌, ◌-◌, ◌*◌, ◌≤◌, ◌<◌}
+use Rattle.std.specs.Prelude.{eqb, ℤ, pos, negsuc, length, get_or}
+use Rattle.std.proofs.Common.{sym, ap, ◌∙◌, subst, add-zero, zero-add, add-one, arith, eq-eqb, ne_eqb, lt-ltb, leb-true, le-leb}
+use Rattle.std.proofs.Common.{⊎_elim, length-append}
 use Rattle.std.specs.Int.Signed.{le_z}
 use Rattle.below.specs.rule.Below.{any_below}
 use Rattle.below.specs.Below.{any_none, any_next, lt_or_le, or_true}

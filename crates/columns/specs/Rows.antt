@@ -2,7 +2,7 @@
 -- Assumes nothing.
 use Rattle.std.specs.Prelude.{◌≡◌, ℕ, ◌^◌, ◌≤◌, ◌<◌, ℤ}
 use Rattle.std.proofs.Math.Path.{refl}
-use Rattle.std.proofs.Common.{sym, ap, ◌∙◌, subst, arith}
+use Rattle.std.proofs.Common.{sym, ◌∙◌, subst, arith}
 use mathlib.Core.List.{List, [], ◌∷◌}
 use Rattle.std.proofs.Math.ListN.{length}
 use Rattle.layout.specs.declared.Kind.{Kind}
@@ -17,7 +17,7 @@ use Rattle.columns.specs.rule.Columns.{columns_by, row_columns, number_entry, en
 use Rattle.widths.specs.rule.Width.{decimals_of}
 use Rattle.columns.specs.Reach.{shape_of, Covered}
 use Rattle.columns.specs.Marked.{member_entries}
-use Rattle.columns.specs.Columns.{entries_one, entries_members, length_categories, length_members}
+use Rattle.columns.specs.Columns.{entries_one, entries_members, length_categories}
 use Rattle.columns.specs.Ones.{Marked}
 
 -- the entries of a row by its kind, and how many they are

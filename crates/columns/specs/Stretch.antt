@@ -1,7 +1,9 @@
 -- Marks of a stretch of numbers: where a number starts or ends it, a row's range as one; and marks passed that are not set.
 -- Assumes nothing.
-use Rattle.std.specs.Prelude.{◌≡◌, refl, Bool, true, false, cond, ◌&&◌, ◌||◌, List, ◌∷◌, ◌++◌, ℕ, zero, suc, ◌+◌, ◌-◌, ◌≤◌, ◌<◌, eqb, leb, ltb, ℤ, pos, negsuc, length, get_or, set}
-use Rattle.std.proofs.Common.{sym, ap, ◌∙◌, ⊎_elim, arith, eq-or-lt_of_le, eqb-true, ltb-true, ltb-false, lt-ltb, le-ltb, leb-true, leb-false, le-leb, length-set, length-append, get_or-set_same, get_or-set_other}
+use Rattle.std.specs.Prelude.{◌≡◌, refl, Bool, true, false, cond, ◌&&◌, ◌||◌, List, ◌∷◌, ◌++◌, ℕ, zero, suc, ◌+◌, ◌-◌, ◌≤◌, ◌<◌, eqb, leb}
+use Rattle.std.specs.Prelude.{ltb, ℤ, pos, negsuc, length, get_or, set}
+use Rattle.std.proofs.Common.{sym, ap, ◌∙◌, ⊎_elim, arith, eq-or-lt_of_le, eqb-true, ltb-true, ltb-false, lt-ltb, le-ltb, leb-true}
+use Rattle.std.proofs.Common.{leb-false, le-leb, length-set, length-append, get_or-set_same, get_or-set_other}
 use Rattle.std.proofs.lemmas.Bool.{eqb-false, lt-leb}
 use Rattle.std.specs.Int.Signed.{le_z}
 use Rattle.below.specs.rule.Below.{any_below}
@@ -196,7 +198,8 @@ alike_on there legal present (suc n) c h m a =
     (λ k l. ap (λ (x : ℕ). get_or legal x 0) (next c k) ∙ m (suc k) (omega arith))
     (λ k l. ap (λ (x : ℕ). mark_at present x) (next c k) ∙ a (suc k) (omega arith)) in
     one
-    ∙ ap (λ (e : Entry). e ∷ marked_from there legal present (c + 1) (length legal - (c + 1))) (marked_nought there (get_or present c 0) none)
+    ∙ ap (λ (e : Entry). e ∷ marked_from there legal present (c + 1) (length legal - (c + 1)))
+    (marked_nought there (get_or present c 0) none)
     ∙ ap (λ (l : List Entry). cond there (Scaled (pos 0) 1) Absent ∷ l)
     (rest ∙ ap (λ (x : ℕ). noughts there n ++ marked_from there legal present x (length legal - x)) w)
   where

@@ -2,7 +2,7 @@
 -- Assumes nothing.
 use Rattle.std.specs.Prelude.{◌≡◌, Bool, ◌&&◌, ℕ, zero, suc, ◌+◌, ◌-◌, ◌*◌, ◌≤◌, ◌<◌, eqb, ltb, ℤ, pos, set}
 use Rattle.std.proofs.Math.Path.{refl, ap}
-use Rattle.std.proofs.Common.{sym, ◌∙◌, subst, add-zero, add-one, get_or-set_same}
+use Rattle.std.proofs.Common.{sym, ◌∙◌, add-zero, add-one, get_or-set_same}
 use Rattle.std.proofs.Math.Logic.{⊎_elim}
 use Rattle.std.proofs.Math.Bool.{true, false, cond}
 use mathlib.Core.List.{List, [], ◌∷◌, ◌++◌}
@@ -27,18 +27,18 @@ use Rattle.sets.specs.Sets.{bits_field_at}
 use Rattle.sets.proofs.MarkLaws.{flag_back}
 use Rattle.readings.proofs.Laws.{as_bits}
 use Rattle.matrix.specs.declared.Entry.{Entry}
-use Rattle.matrix.specs.declared.Entry.TheVariants.{Absent, Scaled}
+use Rattle.matrix.specs.declared.Entry.TheVariants.{Scaled}
 use Rattle.matrix.specs.Put.{put_entries}
 use Rattle.matrix.specs.Entry.{entries_none, entries_then}
 use Rattle.matrix.specs.Noughts.{noughts}
 use Rattle.columns.specs.rule.Columns.{member_entry}
-use Rattle.columns.specs.Reach.{Readable, Covered, bits_covered}
+use Rattle.columns.specs.Reach.{Readable, bits_covered}
 use Rattle.columns.specs.Marked.{marked_entry, member_entries}
 use Rattle.columns.specs.Members.{reached}
 use Rattle.columns.specs.Ones.{stretch_from, length_stretch, stretch_then, stretch_noughts}
 use Rattle.columns.specs.Rows.{MarkedSet}
 use Rattle.columns.specs.Listed.{member_passing}
-use Rattle.columns.specs.Near.{NearPut, RowPut}
+use Rattle.columns.specs.Near.{RowPut}
 
 -- category c is one of the first w, and its byte in the bitstring that starts at the place p is `1`
 unfoldable pub set_at : List ℕ → ℕ → ℕ → ℕ → Bool
@@ -112,7 +112,8 @@ module _ (r : List ℕ) (p w k flags values : ℕ) {marks marks' out out' : List
         (lt_or_le c (k + 1));
   }
     where
-      other : (c : ℕ) → c < length marks → (c ≡ k + 1 → ⊥) → get_or (set marks' (k + 1) 1) c 0 ≡ cond (set_at r p (k + 1) c) 1 (get_or marks c 0)
+      other : (c : ℕ) → c < length marks → (c ≡ k + 1 → ⊥) → get_or (set marks' (k + 1) 1) c 0
+          ≡ cond (set_at r p (k + 1) c) 1 (get_or marks c 0)
       other c l n = get_or-set_other marks' (k + 1) c 1 0 n ∙ b.met c l
           ∙ ap (λ (x : Bool). cond x 1 (get_or marks c 0)) (sym (set_other r p k c n))
 

@@ -1,5 +1,6 @@
 -- What stands in a text from one place to another, and numbers that stand there as export writes them.
-use Rattle.std.specs.Prelude.{◌≡◌, refl, true, false, List, [], ◌∷◌, ◌++◌, ℕ, zero, suc, ◌+◌, ◌-◌, ◌*◌, ◌/◌, ◌%◌, ◌^◌, ◌≤◌, ◌<◌, ℤ, pos, negsuc, length, take, drop, get_or}
+use Rattle.std.specs.Prelude.{◌≡◌, refl, true, false, List, [], ◌∷◌, ◌++◌, ℕ, zero, suc, ◌+◌, ◌-◌, ◌*◌, ◌/◌, ◌%◌, ◌^◌, ◌≤◌, ◌<◌, ℤ, pos}
+use Rattle.std.specs.Prelude.{length, take, drop, get_or}
 use Rattle.std.proofs.Common.{sym, ap, ◌∙◌, append-nil, append_assoc, div-one, add-one, arith, length-append, length-drop, drop-cons}
 use Rattle.std.proofs.Math.Nat.{pow-succ', div-div-eq-div-mul}
 use Rattle.std.proofs.Math.Seq.{take-append_seam}
@@ -116,7 +117,8 @@ pub record WholeAt (d : List ℕ) (at n to : ℕ) : Type 0 where
 pub whole_none : (d : List ℕ) (at : ℕ) → at < length d → WholeAt d at 0 at
 whole_none d at h = record { few = omega arith; inside = omega arith; reads = λ z. absurd (z refl) }
 
-reads_one : (d : List ℕ) (at : ℕ) → at < length d → 48 ≤ get_or d at 0 → get_or d at 0 ≤ 57 → Reads d at (numeral (get_or d at 0 - 48)) (at + 1)
+reads_one : (d : List ℕ) (at : ℕ) → at < length d → 48 ≤ get_or d at 0 → get_or d at 0 ≤ 57
+    → Reads d at (numeral (get_or d at 0 - 48)) (at + 1)
 reads_one d at h l u =
     let b = get_or d at 0 in
     let e : 48 + (b - 48) ≡ b = omega arith in
@@ -200,7 +202,8 @@ pub code_first : (d : List ℕ) (at : ℕ) → at < length d → 48 ≤ get_or d
     → Reads d at (numeral (get_or d at 0 - 48)) (at + 1)
 code_first = reads_one
 
-pub code_digit : {d : List ℕ} {at n p : ℕ} → Reads d at (numeral n) p → 1 ≤ n → n ≤ 999 → p < length d → 48 ≤ get_or d p 0 → get_or d p 0 ≤ 57
+pub code_digit : {d : List ℕ} {at n p : ℕ} → Reads d at (numeral n) p → 1 ≤ n → n ≤ 999 → p < length d → 48 ≤ get_or d p 0 → get_or d p 0
+    ≤ 57
     → Reads d at (numeral (n * 10 + (get_or d p 0 - 48))) (p + 1)
 code_digit {d} {at} {n} {p} r s f h l u =
     reads_as (sym (numeral_digit n (get_or d p 0) s (omega arith) l u)) (reads_join r (reads_byte d p h refl))

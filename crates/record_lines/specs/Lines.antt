@@ -1,7 +1,8 @@
 -- What follows from rule/Lines.antt, and what the code keeps.
-use Rattle.std.specs.Prelude.{◌≡◌, Bool, cond, List, [], ◌∷◌, ◌++◌, ℕ, zero, suc, ◌+◌, ◌-◌, ◌≤◌, ◌<◌, eqb, ℤ, length}
+use Rattle.std.proofs.Common.{eq-or-lt_of_le}
+use Rattle.std.specs.Prelude.{◌≡◌, Bool, cond, List, [], ◌++◌, ℕ, zero, suc, ◌+◌, ◌-◌, ◌≤◌, ◌<◌, eqb, ℤ, length}
 use Rattle.std.proofs.Math.Path.{refl}
-use Rattle.std.proofs.Common.{sym, ap, ◌∙◌, arith}
+use Rattle.std.proofs.Common.{⊎_elim, sym, ap, ◌∙◌, arith}
 use Rattle.std.proofs.Math.Bool.{true, false}
 use borrow.Author.Tests.{leb-true}
 use Rattle.std.proofs.Math.Dec.{leb}
@@ -15,7 +16,8 @@ use Rattle.records.proofs.Laws.{first_nowhere}
 use Rattle.records.specs.rule.First.{first_from, bad_row, row_fault}
 use Rattle.records.specs.rule.Value.{reading_at}
 use Rattle.records.specs.rule.Verdict.{Verdict, sound, refused, low_byte, bad_field, row_verdict, byte_verdict, rows_verdict}
-use Rattle.files.specs.rule.File.{FileVerdict, sound_with, bad_table, fault_in, record_verdict, go_on, first_length, records_verdict, is_sound}
+use Rattle.files.specs.rule.File.{FileVerdict, record_verdict, go_on, first_length, records_verdict}
+use Rattle.files.specs.rule.File.{is_sound}
 use Rattle.files.specs.rule.Tested.{Tested}
 use Rattle.files.specs.Tested.{tested_rows}
 use Rattle.layout.specs.declared.Header.{Header}
