@@ -241,7 +241,8 @@ module _ (quantity : Bool) where
   low_first : {k : ℕ} {a b : Amount} {l : List Amount} → Every (Low k) (a ∷ b ∷ l) → Low k a × Low k b
   low_first (also p (also q r)) = (p, q)
 
-  range_good_lem : (o : Option Range) (m : List Amount) → Every (Fine quantity (decimals_in (range_ends o ++ m))) (range_ends o ++ m) → OrderedIn o
+  range_good_lem : (o : Option Range) (m : List Amount) → Every (Fine quantity (decimals_in (range_ends o ++ m))) (range_ends o ++ m)
+      → OrderedIn o
       → RangeGood o (range_ends o ++ m)
   range_good_lem none m e u = record {
     unranged = λ q. (refl, refl);
@@ -294,8 +295,8 @@ module _ (quantity : Bool) where
       let l = amounts c in
       let r = range_good_lem c.range (map (λ x. x.value) c.lines) w.fine w.ordered in
       record {
-        few-decimals = few l w.fine;
-        point-code = code_low l;
+        few_decimals = few l w.fine;
+        point_code = code_low l;
         pointed = pointed l w.fine;
         shared = shared l w.fine;
         category = λ q. (no_decimals q l w.fine, rw (no_point q l w.fine));
@@ -429,7 +430,7 @@ module _ (quantity : Bool) where
       let v : Stood d x.value = rw t.is t.told.value in
       let a = t.told.place in
       let b = t.told.short in
-      let g : GoodLine (said_of x) = rw t.is (record { special = omega arith; text-place = omega arith; text-length = omega arith }) in
+      let g : GoodLine (said_of x) = rw t.is (record { special = omega arith; text_place = omega arith; text_length = omega arith }) in
       record {
         fine = rw (amounts_more c x) (fine_more (amounts c) x.value w.fine k.alike
             (λ m e. stood_fine d quantity m v k.form k.fits e));
@@ -528,7 +529,8 @@ module _ (bad : Bool) (d : List ℕ) (languages quantity : Bool) (before : ℕ) 
     by : (o : Result Open) → within_element bad d VALUES n ≡ o
         → ((c : Block) (n : ℕ) (k : Block) (m : ℕ) → Well quantity before c → Full quantity c
         → repeat f (another_line bad d languages quantity before) c n ≡ Is k m → Kept k)
-        → bind (bind o (on_open bad d languages quantity before c)) (turn (repeat f (another_line bad d languages quantity before))) ≡ Is k m
+        → bind (bind o (on_open bad d languages quantity before c)) (turn (repeat f (another_line bad d languages quantity before)))
+        ≡ Is k m
         → Kept k
     by (Is (start p) e) i ih g =
         step p e (inside bad d VALUES n i) (due bad d VALUE (start p) (lined bad d languages quantity before c) e) refl ih

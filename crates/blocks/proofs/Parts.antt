@@ -134,7 +134,8 @@ module _ (bad : Bool) (d : List ℕ) (quantity : Bool) (p e : ℕ) (l : e ≤ le
         let b = nothing_passes bad d RANGE em m range_next i.reads in
         rw (t, i.reads) (rw i.found at (range_behind d quantity h n i.charges num b.late))
 
-    pub range_not : {f : Fault} → passed_of (nothing bad d RANGE em m) ≡ passed.Not f → lining.Not f ≡ lined_of (range_read bad d quantity p e)
+    pub range_not : {f : Fault} → passed_of (nothing bad d RANGE em m) ≡ passed.Not f → lining.Not f
+        ≡ lined_of (range_read bad d quantity p e)
     unfolding range
     range_not g = rw (t, passed_refused (nothing bad d RANGE em m) g)
 

@@ -64,7 +64,7 @@ range_kept x y u =
       decimals = refl;
       point = refl;
       known = refl;
-      unlike-some = λ c. rw (← e) (twice (unlike_amounts c x));
+      unlike_some = λ c. rw (← e) (twice (unlike_amounts c x));
       ranged = refl;
       from = refl;
       to = refl;
@@ -222,7 +222,8 @@ module _ (quantity below : Bool) (x y : Amount) (n : ℕ) where
             → cond o (cond (form_is quantity y) (turned quantity (held_as y) (judge (form_is quantity x) (form_is quantity y)
             (eqb x.decimals y.decimals) below (large quantity x) (large quantity y))) (refused 6 b))
             (judge (form_is quantity x) (form_is quantity y) (eqb x.decimals y.decimals) below (large quantity x) (large quantity y))
-            ≡ judged_of (bind (judged (sixes a b (form_is quantity x) (form_is quantity y) (unlike_amounts x y) (lt_z (scaled y) (scaled x)))
+            ≡ judged_of (bind (judged (sixes a b (form_is quantity x) (form_is quantity y) (unlike_amounts x y)
+            (lt_z (scaled y) (scaled x)))
             good n)
             (λ r n. judged (eights a b (large quantity x) (large quantity y)) r n))
         by true e =

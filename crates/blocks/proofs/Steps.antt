@@ -128,7 +128,8 @@ module _ {quantity : Bool} {before : ℕ} {start room : List ℤ} {stamp : ℕ} 
   unfolding scaled_of
   number_same f = rw (small quantity a f.fits)
 
-  stands : Free → Lines quantity before start (pasted room (4 * last) (line_cells (said_for w n))) stamp (set marks (slot_of (scaled a)) stamp)
+  stands : Free → Lines quantity before start (pasted room (4 * last) (line_cells (said_for w n))) stamp
+      (set marks (slot_of (scaled a)) stamp)
       (last + 1)
       (block_of (with_line c x)) (with_line c x)
   unfolding scaled_of
@@ -169,7 +170,8 @@ module _ {quantity : Bool} {before : ℕ} {start room : List ℤ} {stamp : ℕ} 
       found_on false f g = record { answer = refl; lines = λ {c = c'} {n = n'} i. never cc; next = λ {c = c'} {n = n'} i. never cc }
 
       by : {r : Result Line} → Judged (line_charges quantity before c a) x n r
-          → Went top quantity before start (judged_room room last (said_for w n) (verdict_of r)) stamp (judged_marks marks stamp (verdict_of r))
+          → Went top quantity before start (judged_room room last (said_for w n) (verdict_of r)) stamp
+          (judged_marks marks stamp (verdict_of r))
           last
           (bind (bind r (λ l m. judged w.charges l m)) more) (placed_of b (said_for w n) y (verdict_of r))
       by (fine k) = rw found (found_on (eqb y.number 0) (free k) found)

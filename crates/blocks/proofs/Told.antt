@@ -161,7 +161,8 @@ module _ (quantity : Bool) (first : ℕ) (b : books.Block) (c : Block) (kept : K
       (by (form_is quantity a) (some_of (unlike_amounts a) (amounts c)) (large quantity a) refl refl))
     where
       ends : (r e : Bool) → large quantity a ≡ false
-          → cond r (bad 6) (cond e (bad 8) (verdict.Good (scaled_of (held_as a)))) ≡ cond r (bad 6) (cond e (bad 8) (verdict.Good (scaled a)))
+          → cond r (bad 6) (cond e (bad 8) (verdict.Good (scaled_of (held_as a))))
+          ≡ cond r (bad 6) (cond e (bad 8) (verdict.Good (scaled a)))
       ends r e g = rw (said g)
 
       by : (q u g : Bool) → some_of (unlike_amounts a) (amounts c) ≡ u → large quantity a ≡ g

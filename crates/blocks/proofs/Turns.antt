@@ -82,7 +82,8 @@ module _ (quantity : Bool) (before : ℕ) (room : List ℤ) (stamp : ℕ) (marks
       → is_named d (p + 1) e RANGE ≡ true → l ≡ lined_of (range_read bad d quantity p e) → r ≡ counted_of l before
       → Begun (length d) quantity before room room stamp marks (first_tag bad d languages quantity before p e) r
   unfolding listed_of
-  first_range bad d languages p e {l} {r} h q i j = rw q (by (range bad d quantity p e) refl (j ∙ ap (λ (x : Lined). counted_of x before) i))
+  first_range bad d languages p e {l} {r} h q i j = rw q
+      (by (range bad d quantity p e) refl (j ∙ ap (λ (x : Lined). counted_of x before) i))
     where
       by : (x : Result Range) → range bad d quantity p e ≡ x → r ≡ counted_of (lined_of (bind x (λ r m. Is (range_block r) m))) before
           → Begun (length d) quantity before room room stamp marks (bind x (λ r m. Is (range_block r) m)) r
