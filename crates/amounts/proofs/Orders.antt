@@ -2,19 +2,18 @@
 use mathlib.Core.Path.{◌≡◌, refl, sym, ap, ◌∙◌}
 use mathlib.Core.Bool.{Bool, true, false, cond}
 use mathlib.Core.List.{List, [], ◌∷◌, ◌++◌, append-nil}
-use Prim.Native.Nat.{ℕ, suc, ◌+◌, ◌-◌, ◌≤◌, ◌<◌}
+use Prim.Native.Nat.{ℕ, suc, ◌+◌, ◌≤◌, ◌<◌}
 use native.Mathlib.Omega.{arith}
-use lib.Dec.{leb, ltb, eqb}
+use lib.Dec.{ltb}
 use lib.ListN.{length, drop}
 use lib.Seq.{drop_at}
 use borrow.Author.Tests.{le-leb, lt-leb}
-use Rattle.ascii.specs.rule.Class.{class_of}
-use Rattle.scan.specs.rule.Text.{Text, kept, text}
+use Rattle.scan.specs.rule.Text.{kept, text}
 use Rattle.scan.specs.rule.Number.{decimal_of}
 use Rattle.scan.specs.rule.Number as scan
 use Rattle.scan.specs.Order.{digits_to, value_of, stripped, order_then, is_less, less_of}
 use Rattle.scan.specs.declared.Order.{Order}
-use Rattle.scan.specs.declared.Order.TheVariants.{Less, Same, More}
+use Rattle.scan.specs.declared.Order.TheVariants.{Same}
 use Rattle.scan.proofs.Orders.{All, none, one, digit_bounds, less_exactly, strip_zero, strip_first, strip_none, less_both, less_longer}
 use Rattle.scan.proofs.Orders.{less_shorter, less_even}
 use Rattle.markup.specs.rule.Bytes.{is_digit}
@@ -43,7 +42,8 @@ digits_kept none p end = refl
 digits_kept none p (digit {b} {s} h k) = rw (class_two b h k, le-leb (p + 0) p (omega arith))
 digits_kept (one {b} {s} h k a) p {t} e =
     let n : p + suc (length s) ≡ p + 1 + length s = omega arith in
-    rw (class_two b h k, lt-leb (p + suc (length s)) p (omega arith), is_digit_lem b h k, n, digits_kept a (p + 1) e)
+    rw (class_two b h k, lt-leb (p + suc (length s)) p (omega arith), is_digit_lem b h k)
+    (ap (λ (l : List ℕ). b ∷ l) (ap (λ (x : ℕ). digits_to x (kept (p + 1) (s ++ t))) n ∙ digits_kept a (p + 1) e))
 
 edge : {ys : List ℕ} → All ys → Edge ys
 edge none = end

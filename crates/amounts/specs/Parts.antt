@@ -1,5 +1,5 @@
 -- THE CODE'S BOOKS: what each reader makes of the characters that are left, if they are all that is left.
-use Rattle.std.specs.Prelude.{◌≡◌, Bool, List, [], ◌∷◌, ℕ, ◌≤◌, ◌<◌, length}
+use Rattle.std.specs.Prelude.{◌≡◌, List, [], ◌∷◌, ℕ, ◌≤◌, ◌<◌, length}
 use Rattle.scan.specs.rule.Number.{decimal_of}
 use Rattle.scan.specs.Number.{capped}
 use Rattle.scan.specs.Order.{stripped}

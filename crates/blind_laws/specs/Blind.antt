@@ -16,13 +16,13 @@ use Rattle.sound.specs.rule.Sound.{well_formed}
 use Rattle.sound.specs.rule.Rows.{rows_of, length_of}
 use Rattle.lows.specs.rule.Lows.{low_at}
 use Rattle.records.specs.rule.First.{first_from, bad_row, row_fault}
-use Rattle.records.specs.rule.Value.{Outcome, refused, outcome_of, reading_at, read_as, list_as}
+use Rattle.records.specs.rule.Value.{Outcome, refused, outcome_of, read_as, list_as}
 use Rattle.records.specs.rule.Verdict.{Verdict, row_verdict, byte_verdict, rows_verdict, verdict_of}
 use Rattle.records.specs.rule.Verdict as verdict
-use Rattle.records.specs.declared.Found.TheVariants.{At, Nothing}
+use Rattle.records.specs.declared.Found.TheVariants.{At}
 use Rattle.writes.specs.rule.Public.{fit_number, refusal_of, record_after}
 use Rattle.cuts.specs.rule.Records.{Records, over, unended, record_and, records_of}
-use Rattle.files.specs.rule.File.{first_length, record_verdict, go_on, records_verdict, file_verdict}
+use Rattle.files.specs.rule.File.{first_length, record_verdict, records_verdict, file_verdict}
 use Rattle.blind_laws.specs.rule.Blind.{Alike, SameRules}
 use Rattle.blind_laws.specs.Rows.{rows_same, length_same, row_same, allowed_same}
 use Rattle.blind_laws.specs.Fields.{reading_same, fault_same, fit_same, written_same}
@@ -130,7 +130,8 @@ module _ (t u : List ℤ) (g : well_formed t ≡ true) (h : well_formed u ≡ tr
   rows_alike bytes =
       rw (← rows_same t u g s)
       (ap (byte_verdict (first_from (low_at bytes) 0 (length bytes)))
-      (first_same (bad_row t (rows_of t) bytes) (bad_row u (rows_of t) bytes) (row_fault t (rows_of t) bytes) (row_fault u (rows_of t) bytes)
+      (first_same (bad_row t (rows_of t) bytes) (bad_row u (rows_of t) bytes) (row_fault t (rows_of t) bytes)
+      (row_fault u (rows_of t) bytes)
       (rows_of t) 0 (rows_of t) (omega arith)
       (λ k l. ap is_illegal (reading_here k l bytes)) (λ k l. fault_here k l bytes)))
 

@@ -1,14 +1,13 @@
 -- What a row reads, judges and writes goes by the table through the numbers that it allows alone.
-use Rattle.std.specs.Prelude.{◌≡◌, Bool, cond, List, ℕ, ltb, ℤ, length}
+use Rattle.std.specs.Prelude.{◌≡◌, List, ℕ, ℤ}
 use Rattle.std.proofs.Math.Path.{refl}
-use Rattle.std.proofs.Common.{ap}
 use Rattle.layout.specs.declared.Row.{Row}
 use Rattle.layout.specs.declared.Spread.TheVariants.{Bits, Fields}
 use Rattle.layout.specs.declared.Kind.{Kind}
 use Rattle.layout.specs.declared.Kind.TheVariants.{Single, Multiple, Quantity, Character, Logical}
 use Rattle.fields.specs.rule.Legal.{legal}
 use Rattle.fields.specs.rule.Field.{Value, missing, number, members, text, truth}
-use Rattle.fields.specs.rule.Row.{places_by, places_of, field_by, reading_of, fits_by, fit_of, bytes_by, written_of}
+use Rattle.fields.specs.rule.Row.{places_by, field_by, reading_of, fits_by, fit_of, bytes_by, written_of}
 use Rattle.faults.specs.rule.Fault.{fault_of}
 
 module _ (t u : List ℤ) (v : ℕ) (r : Row) (same : legal t v r ≡ legal u v r) where

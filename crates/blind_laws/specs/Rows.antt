@@ -1,11 +1,11 @@
 -- Of two tables that are alike, rows and the values on their lines are the same.
-use Rattle.std.specs.Prelude.{◌≡◌, refl, Bool, true, ◌||◌, List, ℕ, zero, suc, ◌+◌, ◌≤◌, ◌<◌, ℤ}
-use Rattle.std.proofs.Common.{ap, ◌∙◌, arith}
+use Rattle.std.specs.Prelude.{◌≡◌, refl, Bool, true, ◌||◌, List, ℕ, zero, suc, ◌+◌, ◌<◌, ℤ}
+use Rattle.std.proofs.Common.{ap, arith}
 use Rattle.std.proofs.Math.Path.{fun_ext}
 use Rattle.below.specs.rule.Below.{any_below}
 use Rattle.below.specs.Below.{and_both, all_at_lem}
-use Rattle.cells.specs.rule.Cell.{cell, count_of, eq_z}
-use Rattle.layout.specs.rule.Layout.{row_base, line_base, header_of, columns_at}
+use Rattle.cells.specs.rule.Cell.{eq_z}
+use Rattle.layout.specs.rule.Layout.{header_of, columns_at}
 use Rattle.layout.specs.rule.Row.{kind_of, spread_of, row_of, row_at}
 use Rattle.layout.specs.declared.Row.{Row}
 use Rattle.fields.specs.rule.Legal.{line_value, in_range, on_line, legal}

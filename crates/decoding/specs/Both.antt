@@ -1,5 +1,5 @@
 -- The promise of the call from that of either kind, and back: what is proved of one kind holds of the call for definitions of that kind.
-use Rattle.std.specs.Prelude.{◌≡◌, Bool, true, false, List, ℕ, ℤ, length}
+use Rattle.std.specs.Prelude.{◌≡◌, true, false, List, ℕ, ℤ, length}
 use Rattle.std.proofs.Common.{◌∙◌}
 use Rattle.texts.specs.declared.Decoded.{Decoded}
 use Rattle.texts.specs.rule.Decode.{decoded_as, signs_at, TextDecoded}

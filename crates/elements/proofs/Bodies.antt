@@ -1,13 +1,11 @@
 -- What the answers of the code say of the rule's: elements that hold nothing, and texts.
 use mathlib.Core.Path.{◌≡◌, refl, sym, ap, ◌∙◌}
 use mathlib.Core.Bool.{Bool, true, false, cond}
-use mathlib.Core.List.{List, [], ◌∷◌, ◌++◌}
-use Prim.Native.Nat.{ℕ, ◌+◌, ◌-◌, ◌≤◌, ◌<◌}
+use mathlib.Core.List.{List, [], ◌∷◌}
+use Prim.Native.Nat.{ℕ, ◌+◌, ◌-◌, ◌≤◌}
 use native.Mathlib.Omega.{arith}
 use lib.ListN.{length}
 use Rattle.tokens.specs.declared.Fault.{Fault}
-use Rattle.tokens.specs.declared.Phrase.{Phrase}
-use Rattle.survey.specs.rule.Survey.{KeptText}
 use Rattle.pairs.specs.declared.Pair.{Pair}
 use Rattle.pairs.specs.declared.Pair.TheVariants as pair
 use Rattle.pairs.specs.rule.Pair.{pair_of}
@@ -23,7 +21,6 @@ use Rattle.xml_reading.specs.rule.Element as element
 use Rattle.elements.specs.declared.Body.{Body}
 use Rattle.elements.specs.declared.Bodied.{Bodied}
 use Rattle.elements.specs.declared.Bodied.TheVariants as bodied
-use Rattle.elements.specs.declared.Passed.{Passed}
 use Rattle.elements.specs.declared.Passed.TheVariants as passed
 use Rattle.elements.specs.Code.{found_of, ruled, Numbered, passed_of, bodied_of, phrase_of, Tells}
 use Rattle.elements.proofs.Ranking.{found_behind, judged_ruled}

@@ -1,36 +1,31 @@
 -- Where readers lead: on, and not beyond the end.
-use mathlib.Core.Path.{◌≡◌, refl, sym, ap, ◌∙◌}
-use mathlib.Core.Bool.{Bool, true, false, cond}
+use mathlib.Core.Path.{◌≡◌, refl}
+use mathlib.Core.Bool.{Bool, false}
 use mathlib.Core.List.{List, [], ◌∷◌, ◌++◌}
-use Prim.Native.Nat.{ℕ, ◌+◌, ◌-◌, ◌≤◌, ◌<◌}
+use Prim.Native.Nat.{ℕ, ◌+◌, ◌≤◌, ◌<◌}
 use native.Mathlib.Omega.{arith}
 use lib.ListN.{length, length-append}
 use Rattle.markup.proofs.Gaps.{gap_exactly}
 use Rattle.markup.specs.declared.Skip.{Skip}
 use Rattle.markup.specs.declared.Skip.TheVariants as skip
-use Rattle.attributes.proofs.Exactly.{Attributed, attribute_exactly, Ended, plain, empty, shut_exactly}
+use Rattle.attributes.proofs.Exactly.{attribute_exactly, Ended, plain, empty, shut_exactly}
 use Rattle.angles.specs.declared.Angle.{Angle}
 use Rattle.angles.specs.declared.Angle.TheVariants as angle
 use Rattle.tags.specs.declared.Held.{Held}
-use Rattle.tags.specs.declared.Tag.{Tag}
 use Rattle.tags.specs.declared.Tag.TheVariants as tag
-use Rattle.tags.specs.rule.Tag.{turn_of, tag_of, nothing_held}
+use Rattle.tags.specs.rule.Tag.{turn_of, tag_of}
 use Rattle.tags.proofs.Turns.{turn_on}
 use Rattle.tags.proofs.Exactly.{Placed, none, one, tag_exactly}
-use Rattle.pairs.specs.declared.Stand.{Stand}
 use Rattle.pairs.specs.declared.Stand.TheVariants as stand
 use Rattle.pairs.specs.rule.Grammar.{Ends, ends}
 use Rattle.pairs.specs.rule.Stand.{stand_of, shut_of}
-use Rattle.pairs.proofs.Lies.{Lies, lies_within}
+use Rattle.pairs.proofs.Lies.{lies_within}
 use Rattle.pairs.proofs.Stands.{StandsAt, stand_start, stand_close, angle_start, name_long}
 use Rattle.pairs.proofs.Ends.{EndAt, ends_sound}
 use Rattle.signs.specs.declared.Sign.{Sign}
 use Rattle.contents.specs.declared.Going.{Going}
-use Rattle.contents.specs.declared.Content.{Content}
 use Rattle.contents.specs.declared.Content.TheVariants as content
-use Rattle.contents.specs.declared.Step.{Step}
 use Rattle.contents.specs.declared.Step.TheVariants as step
-use Rattle.contents.specs.rule.Step.{step_of}
 use Rattle.contents.specs.rule.Content.{begun, content_of}
 use Rattle.contents.proofs.Views.{View, read, step_view}
 use Rattle.contents.proofs.Goes.{Goes, stay, on, step_on, Reached, content_reached}

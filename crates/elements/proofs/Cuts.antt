@@ -1,6 +1,6 @@
 -- Where a cut lies: behind the place where reading began, and inside. So it is never at place 0, and is named.
 use mathlib.Core.Path.{◌≡◌, refl, sym, ap, ◌∙◌}
-use mathlib.Core.Bool.{Bool, true, false, cond, ◌&&◌}
+use mathlib.Core.Bool.{Bool, true, false, cond}
 use mathlib.Core.List.{List, [], ◌∷◌}
 use Prim.Native.Nat.{ℕ, ◌+◌, ◌≤◌, ◌<◌}
 use native.Mathlib.Omega.{arith}
@@ -18,7 +18,6 @@ use Rattle.markup.proofs.Gaps.{gap_exactly}
 use Rattle.angles.specs.rule.Angle.{angle_of}
 use Rattle.angles.specs.declared.Angle.{Angle}
 use Rattle.angles.specs.declared.Angle.TheVariants as angle
-use Rattle.tags.specs.declared.Held.{Held}
 use Rattle.tags.specs.declared.Tag.{Tag}
 use Rattle.tags.specs.declared.Tag.TheVariants as tag
 use Rattle.tags.specs.rule.Tag.{tag_of}
@@ -35,19 +34,18 @@ use Rattle.pairs.proofs.Stands.{angle_start, name_long}
 use Rattle.pairs.proofs.Ends.{pair_sound}
 use Rattle.contents.specs.rule.Grammar.{br, text, lang}
 use Rattle.contents.specs.declared.Going.{Going}
-use Rattle.contents.specs.declared.Said.{Said}
 use Rattle.contents.specs.declared.Said.TheVariants as said
-use Rattle.contents.specs.declared.Content.{Content}
 use Rattle.contents.specs.declared.Content.TheVariants as content
 use Rattle.contents.specs.declared.Step.{Step}
 use Rattle.contents.specs.declared.Step.TheVariants as step
 use Rattle.contents.specs.rule.Step.{go_on_saying, broken_at, cut_at, on_char, refer_at, bracket_at, return_at, on_note, note_at, knowing}
 use Rattle.contents.specs.rule.Step.{content_pair, pair_at}
 use Rattle.contents.specs.rule.Step.{on_break, break_at}
-use Rattle.contents.specs.rule.Step.{on_language, language_at, on_other, other_at, mode_in, step_kind, start_at, on_out, on_end, close_at, on_angle}
+use Rattle.contents.specs.rule.Step.{on_language, language_at, on_other, other_at, mode_in, step_kind, start_at, on_out, on_end, close_at}
+use Rattle.contents.specs.rule.Step.{on_angle}
 use Rattle.contents.specs.rule.Step.{mark_at, step_of}
 use Rattle.contents.specs.rule.Content.{begun, content_of}
-use Rattle.contents.proofs.Goes.{Reached, content_reached}
+use Rattle.contents.proofs.Goes.{content_reached}
 use Rattle.elements.proofs.Bounds.{start_within, tag_within, goes_on}
 
 never : {A : Type 0} → ◌≡◌ {A = ℕ} 0 1 → A

@@ -1,19 +1,16 @@
 -- What is answered where a tag is due, for whatever reader goes on behind it.
-use mathlib.Core.Path.{◌≡◌, refl, sym, ap, ◌∙◌}
+use mathlib.Core.Path.{◌≡◌, refl}
 use mathlib.Core.Bool.{Bool, true, false, cond}
-use mathlib.Core.List.{List, [], ◌∷◌}
+use mathlib.Core.List.{List}
 use Prim.Native.Nat.{ℕ, ◌+◌}
 use Rattle.tags.specs.rule.Tag.{is_named}
 use Rattle.tags.specs.declared.Tag.{Tag}
 use Rattle.tags.specs.declared.Tag.TheVariants as tag
 use Rattle.pairs.specs.rule.Stand.{bare_of}
-use Rattle.tokens.specs.declared.Fault.{Fault}
 use Rattle.reading.specs.rule.Result.{Result, Is, Not, Reader, bind, give}
 use Rattle.xml_reading.specs.rule.Open as rule
 use Rattle.elements.specs.declared.Open.{Open}
 use Rattle.elements.specs.declared.Open.TheVariants as opened
-use Rattle.elements.specs.declared.Due.{Due}
-use Rattle.elements.specs.declared.Due.TheVariants as due
 use Rattle.elements.specs.Code.{open_of, read_of, blamed, starts_of, due_of, due_read}
 
 -- a map and its way back

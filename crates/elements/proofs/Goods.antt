@@ -5,12 +5,11 @@ use mathlib.Core.Path.{◌≡◌, refl, sym, ap, ◌∙◌}
 use mathlib.Core.Bool.{Bool, true, false, cond, not}
 use mathlib.Core.List.{List, [], ◌∷◌, ◌++◌}
 use mathlib.Core.Option.{Option, none, some, get_or}
-use Prim.Native.Nat.{ℕ, zero, suc, ◌+◌, ◌-◌, ◌≤◌, ◌<◌, ◌%◌, ◌/◌}
+use Prim.Native.Nat.{ℕ, zero, suc, ◌+◌, ◌-◌, ◌≤◌, ◌<◌, ◌%◌}
 use native.Mathlib.Omega.{arith}
-use lib.Dec.{eqb, ltb}
+use lib.Dec.{eqb}
 use lib.ListN.{length, take, drop}
-use borrow.Author.Tests.{eq-eqb, eqb-true, eqb-false, ltb-false}
-use Rattle.scan.specs.Number.{capped}
+use borrow.Author.Tests.{eqb-true, ltb-false}
 use Rattle.tags.specs.declared.Held.{Held}
 use Rattle.tags.specs.declared.Tag.{Tag}
 use Rattle.tags.specs.declared.Tag.TheVariants as tag
@@ -123,7 +122,8 @@ module _ (bad : Bool) (d w : List ℕ) (m : ℕ) (em : Bool) (n : ℕ) where
         let s = (first_clear (rw (← e) at c)).1 in
         absurd (unknown_named p (omega (arith, t.0)) s)
 
-    by : (em : Bool) (c : Content) → content_of bad d m w n ≡ c → cond em (Is (body_of n n true []) n) (on_content n c) ≡ Is b k → Lain d n b k
+    by : (em : Bool) (c : Content) → content_of bad d m w n ≡ c → cond em (Is (body_of n n true []) n) (on_content n c) ≡ Is b k
+        → Lain d n b k
     by true c g f =
         let i : body_of n n true [] ≡ b = cc in
         let j : n ≡ k = cc in
@@ -314,7 +314,8 @@ module _ (bad : Bool) (d : List ℕ) (e : ℕ) {x : Figure} {k : ℕ} where
         never (ap (λ q. cond q 1 0) (sym w ∙ l.whole))
 
     by : (q r : Bool) → b.whole ≡ q
-        → cond q (cond r (judged (size_charges y ++ unknown_at u ∷ b.charges) y j) (Not (fault 2 v))) (judged (unknown_at u ∷ b.charges) y j)
+        → cond q (cond r (judged (size_charges y ++ unknown_at u ∷ b.charges) y j) (Not (fault 2 v)))
+        (judged (unknown_at u ∷ b.charges) y j)
         ≡ Is x k → SizeGood d e x k
     by true true w f = judged_size y u j b.charges (omega (arith, t.0)) t.1 f
     by true false w f = never cc

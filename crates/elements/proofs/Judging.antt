@@ -1,31 +1,26 @@
 -- Positions, spreads and sizes: what is found by folding over their charges is what the rule names, in whatever order the numbers stand.
 use mathlib.Core.Path.{◌≡◌, refl, sym, ap, ◌∙◌}
 use mathlib.Core.Bool.{Bool, true, false, cond, not}
-use mathlib.Core.List.{List, [], ◌∷◌, ◌++◌}
+use mathlib.Core.List.{List, ◌∷◌, ◌++◌}
 use mathlib.Core.Option.{Option, none, some, get_or}
-use Prim.Native.Nat.{ℕ, ◌+◌, ◌≤◌, ◌<◌, ◌%◌, ◌/◌}
+use Prim.Native.Nat.{ℕ, ◌<◌, ◌%◌, ◌/◌}
 use native.Mathlib.Omega.{arith}
 use lib.Dec.{eqb, ltb}
 use borrow.Author.Tests.{eq-eqb, ne_eqb}
 use Rattle.scan.specs.Number.{capped}
-use Rattle.tokens.specs.declared.Fault.{Fault}
 use Rattle.tokens.specs.declared.Figures.{Figures}
-use Rattle.tokens.specs.declared.Number.{Number}
 use Rattle.tokens.specs.rule.Gap.{fault}
-use Rattle.statements.specs.declared.Stated.{Stated}
-use Rattle.statements.specs.declared.Spreading.{Spreading}
-use Rattle.survey.specs.rule.Survey.{Figure, Spread}
+use Rattle.survey.specs.rule.Survey.{Figure}
 use Rattle.ranks.specs.declared.Found.{Found}
-use Rattle.ranks.specs.rule.Rank as rank
 use Rattle.ranks.specs.rule.Rank.{lower_found}
 use Rattle.reading.specs.rule.Result.{Result, Is, Not}
 use Rattle.reading.specs.rule.Least.{Charge, ◌when◌, judged}
-use Rattle.reading.specs.rule.Statement.{Position, position_charges, spread_charges, size_charges}
+use Rattle.reading.specs.rule.Statement.{position_charges, spread_charges, size_charges}
 use Rattle.bridge.specs.Facts.{capped_limit, capped_zero, capped_mod}
 use Rattle.bridge.specs.Tokens.{to_number}
 use Rattle.bridge.specs.Statements.{figures, even_or, to_stated, to_spreading}
 use Rattle.elements.specs.Code.{found_of, Numbered, alone, ruled, position_found, located_of, shared_of, sized_of, spread_judged}
-use Rattle.elements.proofs.Ranking.{found_cons, judged_ruled, lower_left, lower_right, lower_join, lower_some, lower_same}
+use Rattle.elements.proofs.Ranking.{found_cons, judged_ruled, lower_left, lower_join, lower_some, lower_same}
 
 -- what is answered from what was found
 ruled_to : {A R : Type 0} (to : Result A → R) (x : Found) (a : A) (n : ℕ)
@@ -153,7 +148,8 @@ module _ (room : ℕ) (small : room < 1000000000000000) (x : Figure) (n : ℕ) (
     even_ruled z j = rw p (some_ruled (rw p at z) (rw (p, i) at j))
 
 -- ---- sizes
-pub size_ruled : (y : Figure) (n : ℕ) {x : Figures} (e : ℕ) → x ≡ figures y e → (l : List Charge) → Numbered l → {f : Found} → f ≡ found_of l
+pub size_ruled : (y : Figure) (n : ℕ) {x : Figures} (e : ℕ) → x ≡ figures y e → (l : List Charge) → Numbered l → {f : Found} → f
+    ≡ found_of l
     → sized_of x n f ≡ to_number (judged l y n)
 size_ruled y n {x} e p l h {f} i = rw p (judged_to to_number l y n f h (sym i))
 

@@ -1,11 +1,11 @@
 -- Numbers over stretches: what a stretch of digits says, and which of two says less.
 use mathlib.Core.Path.{◌≡◌, refl, sym, ap, ◌∙◌}
-use mathlib.Core.Logic.{◌⊎◌, inl, inr, ⊎_elim}
+use mathlib.Core.Logic.{⊎_elim}
 use mathlib.Core.Bool.{Bool, true, false, cond, ◌&&◌}
 use mathlib.Core.List.{List, [], ◌∷◌}
-use Prim.Native.Nat.{ℕ, ◌+◌, ◌-◌, ◌≤◌, ◌<◌}
+use Prim.Native.Nat.{ℕ, ◌+◌, ◌-◌, ◌<◌}
 use native.Mathlib.Omega.{arith}
-use lib.Dec.{eqb, ltb}
+use lib.Dec.{ltb}
 use lib.ListN.{length, take, drop}
 use borrow.Author.Tests.{ne_eqb, ltb-true, le-ltb}
 use Rattle.below.specs.Below.{holds_not}
@@ -21,7 +21,6 @@ use Rattle.spans.proofs.Hearing.{heard_exactly}
 use Rattle.forms.specs.rule.Form.{fits_of}
 use Rattle.tags.specs.rule.Tag.{stretch_fits}
 use Rattle.tokens.specs.declared.Figures.{Figures}
-use Rattle.survey.specs.rule.Survey.{Figure}
 use Rattle.amounts.specs.rule.Said.{digits_in, true_in}
 use Rattle.amounts.proofs.Hears.{digit_yes}
 use Rattle.bridge.specs.Statements.{figures}
@@ -74,7 +73,8 @@ heard_nothing = (heard_exactly [] []).1 nothing
 take_nothing : (d : List ℕ) (v e : ℕ) → v ≡ e → stretch d v e ≡ []
 take_nothing d v e h = let z : e - v ≡ 0 = omega arith in rw z
 
-pub figure_told : (d : List ℕ) (v e : ℕ) → Written d v e → to_figures v e (figures_of (heard (stretch d v e) 0)) ≡ figures (figure_of d v e) e
+pub figure_told : (d : List ℕ) (v e : ℕ) → Written d v e → to_figures v e (figures_of (heard (stretch d v e) 0))
+    ≡ figures (figure_of d v e) e
 unfolding figure_of chars_of figures_after decimal_of each_char
 figure_told d v e = ⊎_elim (λ q. number_of v e (heard (stretch d v e) 0) (fits_digits d v e q))
     (λ q. rw (take_nothing d v e q, heard_nothing))
@@ -84,7 +84,8 @@ digits_all : (cs : List ℕ) → each_char is_digit cs ≡ true → digits_in cs
 unfolding each_char digits_in
 digits_all [] e = refl
 digits_all (c ∷ cs) e = by (is_digit c) refl e (digits_all cs) where
-  by : (q : Bool) → is_digit c ≡ q → (q && each_char is_digit cs) ≡ true → (each_char is_digit cs ≡ true → digits_in cs ≡ cs) → digits_in (c ∷ cs)
+  by : (q : Bool) → is_digit c ≡ q → (q && each_char is_digit cs) ≡ true → (each_char is_digit cs ≡ true → digits_in cs ≡ cs)
+      → digits_in (c ∷ cs)
       ≡ c
       ∷ cs
   by true f e ih = rw (digit_yes c f) (ap (λ (s : List ℕ). c ∷ s) (ih e))

@@ -3,16 +3,15 @@
 use mathlib.Core.Path.{◌≡◌, refl, sym, ap, ◌∙◌}
 use mathlib.Core.Bool.{Bool, true, false, cond, not, ◌&&◌, ◌||◌}
 use mathlib.Core.List.{List, [], ◌∷◌, ◌++◌}
-use Prim.Native.Nat.{ℕ, ◌+◌, ◌≤◌, ◌<◌}
+use Prim.Native.Nat.{ℕ, ◌≤◌, ◌<◌}
 use native.Mathlib.Omega.{arith}
 use lib.Dec.{eqb, ltb, leb}
-use borrow.Author.Tests.{eq-eqb, ne_eqb, eqb-true, eqb-false, ltb-true, ltb-false, lt-ltb, le-ltb, le-leb, lt-leb}
+use borrow.Author.Tests.{eq-eqb, ne_eqb, eqb-true, eqb-false, ltb-true, ltb-false, le-ltb, le-leb, lt-leb}
 use Rattle.tokens.specs.declared.Fault.{Fault}
 use Rattle.tokens.specs.rule.Gap.{fault}
 use Rattle.ranks.specs.declared.Found.{Found}
 use Rattle.ranks.specs.rule.Rank.{none_found, found_at, precedes, lower_found}
-use Rattle.ranks.proofs.Lowest.{Below, below_of, below_join, turned, same}
-use Rattle.reading.specs.rule.Result.{Result, Is, Not}
+use Rattle.ranks.proofs.Lowest.{below_of, below_join, turned, same}
 use Rattle.reading.specs.rule.Least.{Charge, ◌when◌, named, goes_before, Finding, clean, first, lower, least, found, judged}
 use Rattle.xml_reading.specs.rule.Open.{unknown_at}
 use Rattle.elements.specs.Code.{found_in, found_of, alone, ruled, Numbered}
@@ -160,7 +159,8 @@ pub found_cons : (f : Fault) (q : Bool) (l : List Charge) → 0 < f.number → N
     ≡ lower_found (alone f q) (found_of l)
 unfolding found_of named least
 found_cons f q l h i = by q where
-  by : (q : Bool) → found_in (least (cond q (f ∷ named l) (named l))) ≡ lower_found (cond q (as_found f) none_found) (found_in (least (named l)))
+  by : (q : Bool) → found_in (least (cond q (f ∷ named l) (named l)))
+      ≡ lower_found (cond q (as_found f) none_found) (found_in (least (named l)))
   by true = lower_found_lem f (least (named l)) h (least_marked l i)
   by false = sym (lower_left none_found (found_in (least (named l))) refl)
 

@@ -18,7 +18,7 @@ use Rattle.tokens.specs.declared.Phrase.TheVariants as phrase
 use Rattle.survey.specs.rule.Survey.{Figure, KeptText, Spread}
 use Rattle.ranks.specs.declared.Found.{Found}
 use Rattle.ranks.specs.rule.Rank.{none_found, lower_found}
-use Rattle.reading.specs.rule.Result.{Result, Is, Not, Reader, ◌>>=◌, bind}
+use Rattle.reading.specs.rule.Result.{Result, Is, Not, Reader, ◌>>=◌}
 use Rattle.reading.specs.rule.Least.{Charge, ◌when◌, Finding, clean, first, named, least, judged}
 use Rattle.reading.specs.rule.Statement.{Position, position_charges, spread_charges}
 use Rattle.xml_reading.specs.rule.Word.{POSITION, SPREAD}

@@ -70,7 +70,8 @@ module _ (t : List ℤ) (good : well_formed t ≡ true) (first : ℕ) where
     pub same : records_verdict t n f (records_before rs rest) ≡ records_verdict t (n + length rs) length_known rest
     pub still : first_length (n + length rs) length_known (length_of_first rest) ≡ first
 
-  left : {rs : List (List ℕ)} → AllSound t first rs → (n f : ℕ) (rest : Records) → first_length n f (length_of_first (records_before rs rest))
+  left : {rs : List (List ℕ)} → AllSound t first rs → (n f : ℕ) (rest : Records)
+      → first_length n f (length_of_first (records_before rs rest))
       ≡ first
       → Left n f rs rest
   unfolding records_before length_of_first
@@ -118,14 +119,16 @@ unfolding records_before
 before_more [] r rest = refl
 before_more (x ∷ rs) r rest = ap (record_and x) (before_more rs r rest)
 
-pub sound_more : {t : List ℤ} {first : ℕ} {rs : List (List ℕ)} (r : List ℕ) → AllSound t first rs → length r ≡ first → verdict_of t r ≡ sound
+pub sound_more : {t : List ℤ} {first : ℕ} {rs : List (List ℕ)} (r : List ℕ) → AllSound t first rs → length r ≡ first → verdict_of t r
+    ≡ sound
     → AllSound t first (rs ++ r ∷ [])
 sound_more r none_yet e s = one_more e s none_yet
 sound_more r (one_more f q a) e s = one_more f q (sound_more r a e s)
 
 module _ (t : List ℤ) (d : List ℕ) (good : well_formed t ≡ true) where
   named_from : (rest : Records) (rs : List (List ℕ)) (f : ℕ) → SoundBefore t d rs rest
-      → first_length (length rs) f (length_of_first rest) ≡ length_of_first (records_of d) → FileOutcome t d (records_verdict t (length rs) f rest)
+      → first_length (length rs) f (length_of_first rest) ≡ length_of_first (records_of d)
+      → FileOutcome t d (records_verdict t (length rs) f rest)
   unfolding records_verdict length_of_first
   named_from over rs f s k = all_sound rs s
   named_from (unended r) rs f s k = not_ended rs r s

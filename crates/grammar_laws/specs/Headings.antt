@@ -16,7 +16,7 @@ use Rattle.statements.specs.rule.Words.{DATE, TIME, ORIGIN, USER, STANDARD, NAME
 use Rattle.survey.specs.rule.Survey.{KeptText}
 use Rattle.reading.specs.rule.Result.{Result, Is, Not, Reader, bind, turn, repeat}
 use Rattle.reading.specs.rule.Statement.{notes}
-use Rattle.reading.specs.rule.Whole.{HeadingEntry, entry, given, texted, names, heading_entered}
+use Rattle.reading.specs.rule.Whole.{HeadingEntry, entry, given, texted, names, once, heading_entered}
 use Rattle.bridge.specs.Facts.{gap_ahead, word_ahead}
 use Rattle.grammar.specs.Token.{Gap, Here, Keyword, keyword, String, Notes, Phrase}
 use Rattle.grammar.specs.Token as token
@@ -93,16 +93,29 @@ module _ (d : List ℕ) where
       by true e = halts (second e)
       by false e = recast (λ x o y. y) (λ f z. first_time e z) (on e (word_view d {w = NAMES} refl m))
 
+    -- what is tried behind a word that does not stand
+    abbrev from_standard : Reader (Next (List HeadingEntry) (List HeadingEntry))
+    from_standard = once d l 4 STANDARD (names d) (λ m. Is (Done l) m)
+
+    abbrev from_user : Reader (Next (List HeadingEntry) (List HeadingEntry))
+    from_user = once d l 3 USER (texted d) from_standard
+
+    abbrev from_origin : Reader (Next (List HeadingEntry) (List HeadingEntry))
+    from_origin = once d l 2 ORIGIN (texted d) from_user
+
+    abbrev from_time : Reader (Next (List HeadingEntry) (List HeadingEntry))
+    from_time = once d l 1 TIME (texted d) from_origin
+
     entered_view : Gap d n n → View (Step l n) (ItemStops d l n) (heading_entered d l n)
     unfolding heading_entered capitals
     entered_view g =
-        either_view d {w = DATE} refl n _ _ (λ m h. text_view 0 m (λ t k s. grammar.date (phrase h s))) λ o₁.
-        either_view d {w = TIME} refl n _ _ (λ m h. text_view 1 m (λ t k s. grammar.time (phrase h s))) λ o₂.
-        either_view d {w = ORIGIN} refl n _ _ (λ m h. text_view 2 m (λ t k s. grammar.origin (phrase h s))) λ o₃.
-        either_view d {w = USER} refl n _ _ (λ m h. text_view 3 m (λ t k s. grammar.user (phrase h s))) λ o₄.
-        either_view d {w = STANDARD} refl n _ _
+        either_view d {w = DATE} refl n _ from_time (λ m h. text_view 0 m (λ t k s. grammar.date (phrase h s))) λ o₁.
+        either_view d {w = TIME} refl n _ from_origin (λ m h. text_view 1 m (λ t k s. grammar.time (phrase h s))) λ o₂.
+        either_view d {w = ORIGIN} refl n _ from_user (λ m h. text_view 2 m (λ t k s. grammar.origin (phrase h s))) λ o₃.
+        either_view d {w = USER} refl n _ from_standard (λ m h. text_view 3 m (λ t k s. grammar.user (phrase h s))) λ o₄.
+        either_view d {w = STANDARD} refl n _ (λ m. Is (Done l) m)
         (λ m h. names_view m (λ k s. grammar.standard_names (token.statement (token.no_more g) h) s)) λ o₅.
-        reads (done (record { no-date = o₁; no-time = o₂; no_origin = o₃; no-user = o₄; no-standard = o₅ })) where
+        reads (done (record { no_date = o₁; no_time = o₂; no_origin = o₃; no_user = o₄; no_standard = o₅ })) where
           phrase : {w : List ℕ} {m k : ℕ} {t : KeptText} → Here d w n m → String d m t k → Phrase d w n t k
           phrase h s = token.phrase (token.statement (token.no_more g) h) s
 
@@ -125,11 +138,11 @@ module _ (d : List ℕ) where
     entered_halted : {f : Fault} → ItemStops d l n f → heading_entered d l n ≡ Not f
     unfolding heading_entered capitals
     entered_halted =
-        either_halted d {w = DATE} refl n _ _ (λ m f. once_halted 0 m (texted d) (text_halted 0 m)) λ f.
-        either_halted d {w = TIME} refl n _ _ (λ m f. once_halted 1 m (texted d) (text_halted 1 m)) λ f.
-        either_halted d {w = ORIGIN} refl n _ _ (λ m f. once_halted 2 m (texted d) (text_halted 2 m)) λ f.
-        either_halted d {w = USER} refl n _ _ (λ m f. once_halted 3 m (texted d) (text_halted 3 m)) λ f.
-        either_halted d {w = STANDARD} refl n _ _ (λ m f. once_halted 4 m (names d) (names_halted m)) λ f z. absurd z
+        either_halted d {w = DATE} refl n _ from_time (λ m f. once_halted 0 m (texted d) (text_halted 0 m)) λ f.
+        either_halted d {w = TIME} refl n _ from_origin (λ m f. once_halted 1 m (texted d) (text_halted 1 m)) λ f.
+        either_halted d {w = ORIGIN} refl n _ from_user (λ m f. once_halted 2 m (texted d) (text_halted 2 m)) λ f.
+        either_halted d {w = USER} refl n _ from_standard (λ m f. once_halted 3 m (texted d) (text_halted 3 m)) λ f.
+        either_halted d {w = STANDARD} refl n _ (λ m. Is (Done l) m) (λ m f. once_halted 4 m (names d) (names_halted m)) λ f z. absurd z
 
     entered_done : NoItem d n → heading_entered d l n ≡ Is (Done l) n
     unfolding heading_entered capitals
@@ -207,11 +220,11 @@ module _ (d : List ℕ) where
   survey_no_item : {n m : ℕ} → Here d SURVEY n m → NoItem d n
   unfolding capitals differ
   survey_no_item h = record {
-    no-date = other_word d {w = SURVEY} refl refl refl h;
-    no-time = other_word d {w = SURVEY} refl refl refl h;
+    no_date = other_word d {w = SURVEY} refl refl refl h;
+    no_time = other_word d {w = SURVEY} refl refl refl h;
     no_origin = other_word d {w = SURVEY} refl refl refl h;
-    no-user = other_word d {w = SURVEY} refl refl refl h;
-    no-standard = other_word d {w = SURVEY} refl refl refl h;
+    no_user = other_word d {w = SURVEY} refl refl refl h;
+    no_standard = other_word d {w = SURVEY} refl refl refl h;
   }
 
   -- ---- all of them

@@ -154,7 +154,8 @@ module _ (d : List ℕ) where
 
     -- ---- all of them
     pub data LinesRead (b : Block) (a : Amount) (n : ℕ) : Block → ℕ → Type 0 where
-      lines_read : {l : List says.Line} {m : ℕ} → Tail a n l m → Clean (line_faults quantity before b l) → LinesRead b a n (with_lines b l) m
+      lines_read : {l : List says.Line} {m : ℕ} → Tail a n l m → Clean (line_faults quantity before b l)
+          → LinesRead b a n (with_lines b l) m
 
     abbrev loop : ℕ → Block → Amount → Reader Block
     loop f b a = repeat f (listed d quantity before) (listing b a)
@@ -222,7 +223,8 @@ module _ (d : List ℕ) where
       at_notes x ih y (halts z) = halts (refusal.in_line (behind y (inside z)))
 
       at_line : {r : Result says.Line} → View (LineRead d quantity before b a n) (LineStops d quantity before b a n) r → Viewed f
-          → Goal b a n (bind (bind r λ x n. bind (notes d n) λ u. either d END (λ e. bind (end_values d (with_line b x) e) λ b m. Is (Done b)
+          → Goal b a n (bind (bind r λ x n. bind (notes d n) λ u. either d END
+          (λ e. bind (end_values d (with_line b x) e) λ b m. Is (Done b)
           m)
           (λ i. bind (amount d i) λ a m. Is (Again (listing (with_line b x) a)) m)) (turn (repeat f (listed d quantity before))))
       at_line (reads {a = x} {m = k} y) ih = at_notes x ih y (notes_view d k)
@@ -248,7 +250,8 @@ module _ (d : List ℕ) where
           word_not d {w = END} refl (value_no_word 69 (78 ∷ 68 ∷ []) (omega arith) v),
           amount_is d v,
         )
-        (loop_is r (with_line b (line_from a t s)) g f (next_few b (line_from a t s) (line_few b a e) l) ∙ rw (lines_more b (line_from a t s)
+        (loop_is r (with_line b (line_from a t s)) g f (next_few b (line_from a t s) (line_few b a e) l)
+        ∙ rw (lines_more b (line_from a t s)
         k))
 
     loop_halted : {b : Block} {a : Amount} {n : ℕ} {f : Fault} → LinesStops d quantity before b a n f → (g : ℕ) → Few g b

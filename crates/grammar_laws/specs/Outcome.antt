@@ -15,7 +15,8 @@ use Rattle.survey.specs.rule.Table.{table_of}
 use Rattle.reading.specs.rule.Result.{Result}
 use Rattle.reading.specs.rule.Whole.{survey_of}
 use Rattle.definition.specs.declared.Answer.{Answer}
-use Rattle.definition.specs.rule.Definition.{SssOutcome, Built, Refusal, sss_fitting, names_of, quote_at, judge_names, sss_settled, sss_outcome}
+use Rattle.definition.specs.rule.Definition.{SssOutcome, Built, Refusal, sss_fitting, names_of, quote_at, judge_names, sss_settled}
+use Rattle.definition.specs.rule.Definition.{sss_outcome}
 use Rattle.definition.specs.rule.Definition.{sss_answer}
 use Rattle.definition.specs.rule.Definition.{sss_table_after, SssRead}
 use Rattle.grammar.specs.Grammar.{Definition}
@@ -60,7 +61,8 @@ module _ (d : List ℕ) where
     unfolding judge_names
     names_view s h x = by s.heading.standard (ltb (wrong_name s) (length s.variables)) refl refl where
       by : (p q : Bool) → s.heading.standard ≡ p → ltb (wrong_name s) (length s.variables) ≡ q
-          → Settles (cond p (cond q (Refusal 9 (quote_at s.variables (wrong_name s))) (sss_fitting n s.variables)) (sss_fitting n s.variables))
+          → Settles (cond p (cond q (Refusal 9 (quote_at s.variables (wrong_name s))) (sss_fitting n s.variables))
+          (sss_fitting n s.variables))
       by true true e f = misnamed h x e (ltb-true (wrong_name s) (length s.variables) f)
       by true false e f = room_view h x (all_good (ltb-false (wrong_name s) (length s.variables) f))
       by false q e f = room_view h x (not_asked e)

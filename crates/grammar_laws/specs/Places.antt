@@ -75,7 +75,8 @@ word_other at n [] v t e f = never cc
 word_other at n (x ∷ w) [] t e f = never cc
 word_other at n (x ∷ w) (y ∷ v) (stop p) e f = never cc
 word_other at n (x ∷ w) (y ∷ v) (sign p b t) e f = by (eqb (upper_of b) x) (eqb x y) refl refl (word_other (p + 1) n w v t) e f where
-  by : (q r : Bool) → eqb (upper_of b) x ≡ q → eqb x y ≡ r → (word_of (p + 1) t w ≡ Matched n → differ w v ≡ true → word_of (p + 1) t v ≡ Not)
+  by : (q r : Bool) → eqb (upper_of b) x ≡ q → eqb x y ≡ r
+      → (word_of (p + 1) t w ≡ Matched n → differ w v ≡ true → word_of (p + 1) t v ≡ Not)
       → cond q (word_of (p + 1) t w) Not ≡ Matched n → cond r (differ w v) true ≡ true
       → cond (eqb (upper_of b) y) (word_of (p + 1) t v) Not ≡ Not
   by true true g h ih e f = let i = eqb-true (upper_of b) x g in let j = eqb-true x y h in rw (eq-eqb (upper_of b) y (i ∙ j)) (ih e f)

@@ -9,7 +9,7 @@ use Rattle.statements.specs.rule.Words.{POSITION, TO, SIZE, OF, VARIABLE, TYPE, 
 use Rattle.statements.specs.rule.Words.{LOGICAL}
 use Rattle.survey.specs.rule.Survey.{Figure, Variable}
 use Rattle.survey.specs.rule.Survey as says
-use Rattle.reading.specs.rule.Result.{Is, Not}
+use Rattle.reading.specs.rule.Result.{Is, Not, Reader}
 use Rattle.reading.specs.rule.Token.{either, number}
 use Rattle.reading.specs.rule.Statement.{position, spread, size, position_charges, spread_charges, size_charges}
 use Rattle.reading.specs.rule.Statement as rule
@@ -91,7 +91,8 @@ module _ (d : List ℕ) where
   pub spread_is : (width : ℕ) {n m : ℕ} {s : says.Spread} → PartsRead width n s m → spread d width n ≡ Is s m
   unfolding spread capitals
   spread_is width {m = m} {s = s} (parts y o c) =
-      rw (number_is d y, optional_is d {w = OF} refl (number d) (λ n m a. number_is d) o) (judged_there (spread_charges width s.count s.width) s m c)
+      rw (number_is d y, optional_is d {w = OF} refl (number d) (λ n m a. number_is d) o)
+      (judged_there (spread_charges width s.count s.width) s m c)
 
   pub spread_halted : (width n : ℕ) {f : Fault} → SpreadStops d width n f → spread d width n ≡ Not f
   unfolding spread capitals
@@ -135,7 +136,20 @@ module _ (d : List ℕ) where
   none_of n f (absent a (absent b (absent c (stands h z)))) = absurd z
   none_of n f (absent a (absent b (absent c (absent e (stands h z))))) = absurd z
   none_of n f (absent a (absent b (absent c (absent e (absent g (due u)))))) =
-      due (record { no-single = a; no-multiple = b; no-quantity = c; no-character = e; no-logical = g })
+      due (record { no_single = a; no_multiple = b; no_quantity = c; no_character = e; no_logical = g })
+
+  -- what is tried behind a word that does not stand
+  abbrev from_logical : Reader Sort
+  from_logical = either d LOGICAL (λ m. Is Logical m) (λ m. Not (fault 2 m))
+
+  abbrev from_character : Reader Sort
+  from_character = either d CHARACTER (λ m. Is Character m) from_logical
+
+  abbrev from_quantity : Reader Sort
+  from_quantity = either d QUANTITY (λ m. Is Quantity m) from_character
+
+  abbrev from_multiple : Reader Sort
+  from_multiple = either d MULTIPLE (λ m. Is Multiple m) from_quantity
 
   pub type_view : (n : ℕ) → View (TypeRead d n) (TypeStops d n) (type d n)
   unfolding type capitals
@@ -143,11 +157,12 @@ module _ (d : List ℕ) where
       then (statement_view d {w = TYPE} refl n) λ u k s.
       then (gap_view d k) λ u j g.
       recast (λ t m x. x) (none_of j)
-      (either_view d {w = SINGLE} refl j _ _ (λ m h. reads (refusal.type {t = Single} s (keyword g h))) λ a.
-      either_view d {w = MULTIPLE} refl j _ _ (λ m h. reads (refusal.type {t = Multiple} s (keyword g h))) λ b.
-      either_view d {w = QUANTITY} refl j _ _ (λ m h. reads (refusal.type {t = Quantity} s (keyword g h))) λ c.
-      either_view d {w = CHARACTER} refl j _ _ (λ m h. reads (refusal.type {t = Character} s (keyword g h))) λ e.
-      either_view d {w = LOGICAL} refl j _ _ (λ m h. reads (refusal.type {t = Logical} s (keyword g h))) λ f. halts (due tt))
+      (either_view d {w = SINGLE} refl j _ from_multiple (λ m h. reads (refusal.type {t = Single} s (keyword g h))) λ a.
+      either_view d {w = MULTIPLE} refl j _ from_quantity (λ m h. reads (refusal.type {t = Multiple} s (keyword g h))) λ b.
+      either_view d {w = QUANTITY} refl j _ from_character (λ m h. reads (refusal.type {t = Quantity} s (keyword g h))) λ c.
+      either_view d {w = CHARACTER} refl j _ from_logical (λ m h. reads (refusal.type {t = Character} s (keyword g h))) λ e.
+      either_view d {w = LOGICAL} refl j _ (λ m. Not (fault 2 m)) (λ m h. reads (refusal.type {t = Logical} s (keyword g h))) λ f. halts
+      (due tt))
 
   pub type_is : {n m : ℕ} (t : Sort) → TypeRead d n t m → type d n ≡ Is t m
   unfolding type capitals differ

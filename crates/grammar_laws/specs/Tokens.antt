@@ -108,10 +108,12 @@ module _ (d : List ℕ) where
   -- ---- numbers
   pub number_view : (n : ℕ) → View (Number d n) (NumberStops d n) (number d n)
   unfolding figure
-  number_view n = then (gap_view n) (λ u m g. on m g (run_bytes is_digit (text d m)) (run_of is_digit m (text d m)) (run_read is_digit m (text d
+  number_view n = then (gap_view n) (λ u m g. on m g (run_bytes is_digit (text d m)) (run_of is_digit m (text d m))
+      (run_read is_digit m (text d
       m))) where
         on : (m : ℕ) → Gap d n m → (s : List ℕ) (e : ℕ) → Run is_digit m (text d m) s e
-            → View (Number d n) (Due (Run is_digit m (text d m) [] m) m) (cond (eqb (length s) 0) (Not (fault 2 m)) (Is (figure_of m e s) e))
+            → View (Number d n) (Due (Run is_digit m (text d m) [] m) m)
+            (cond (eqb (length s) 0) (Not (fault 2 m)) (Is (figure_of m e s) e))
         on m g [] e r = let q = run_none r in halts (due (rw q at r))
         on m g (b ∷ s) e r = rw (some_bytes b s) (reads (token.number g r))
 

@@ -74,7 +74,7 @@ module _ (d : List ℕ) where
         (either d SPREAD (λ n. bind (spread d (room p) n) λ s m. Is (some s) m) (λ m. Is none m) n)
     unfolding capitals
     spread_or n =
-        either_view d {w = SPREAD} refl n _ _ (λ m h. mapped some (spread_view d (room p) m) (λ s k x. on h x)) (λ o. reads
+        either_view d {w = SPREAD} refl n _ (λ m. Is none m) (λ m h. mapped some (spread_view d (room p) m) (λ s k x. on h x)) (λ o. reads
         (refusal.undivided o)) where
           on : {m k : ℕ} {s : says.Spread} → Here d SPREAD n m → PartsRead d (room p) m s k → SpreadRead d (room p) n (some s) k
           on h (parts y o c) = refusal.SpreadRead.given h y o c
@@ -140,7 +140,7 @@ module _ (d : List ℕ) where
     spread_halts : (n : ℕ) {f : Fault} → Or d SPREAD n (SpreadStops d (room p)) Never f
         → either d SPREAD (λ n. bind (spread d (room p) n) λ s m. Is (some s) m) (λ m. Is none m) n ≡ Not f
     unfolding capitals
-    spread_halts n = either_halted d {w = SPREAD} refl n _ _ (λ m f z. rw (spread_halted d (room p) m z)) (λ f z. absurd z)
+    spread_halts n = either_halted d {w = SPREAD} refl n _ (λ m. Is none m) (λ m f z. rw (spread_halted d (room p) m z)) (λ f z. absurd z)
 
     pub rest_halted : (t : Sort) (n : ℕ) {f : Fault} → RestStops d (room p) before t n f → content d p before t n ≡ Not f
     rest_halted Single n z = rw (values_halted d false before n z)
@@ -162,7 +162,8 @@ module _ (d : List ℕ) where
         → RestRead d (room p) before t h r i → Statement d END i j → Keyword d VARIABLE j m
         → Clean (width_faults (variable_of x name label p r))
         → VariableRead d earlier n (variable_of x name label p r) m
-    variable_of_lem {x = x} {name = name} {label = label} {p = p} {r = r} (refusal.ident s y c) na la (refusal.type ty w) (sound po c₂) (sound
+    variable_of_lem {x = x} {name = name} {label = label} {p = p} {r = r} (refusal.ident s y c) na la (refusal.type ty w) (sound po c₂)
+        (sound
         re c₃) e k c₄ =
         let v = variable_of x name label p r in
         sound (grammar.variable s y na la ty w po re (token.end e k))
@@ -180,7 +181,8 @@ module _ (d : List ℕ) where
         then (rest_view p before t h) λ r i a₆.
         then (statement_view d {w = END} refl i) λ u j a₇.
         then (word_view d {w = VARIABLE} refl j) λ u m a₈.
-        judge (width_faults (variable_of x name label p r)) (variable_of x name label p r) m (λ k. variable_of_lem a₁ a₂ a₃ a₄ a₅ a₆ a₇ a₈ k)
+        judge (width_faults (variable_of x name label p r)) (variable_of x name label p r) m
+        (λ k. variable_of_lem a₁ a₂ a₃ a₄ a₅ a₆ a₇ a₈ k)
 
     pub variable_is : {n m : ℕ} {v : Variable} → VariableRead d earlier n v m → rules.variable d earlier n ≡ Is v m
     unfolding rules.variable capitals differ

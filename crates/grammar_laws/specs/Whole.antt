@@ -79,7 +79,8 @@ module _ (d : List ℕ) where
   title_view : (n : ℕ) → View (TitleRead d n) (Or d TITLE n (StringStops d) Never) (title_or n)
   unfolding capitals
   title_view n =
-      either_view d {w = TITLE} refl n _ _ (λ m h. mapped some (string_view d m) (λ t k s. refusal.TitleRead.given h s)) (λ o. reads
+      either_view d {w = TITLE} refl n _ (λ m. Is none m) (λ m h. mapped some (string_view d m) (λ t k s. refusal.TitleRead.given h s))
+      (λ o. reads
       (refusal.untitled o))
 
   title_read_is : (n : ℕ) {t : Option KeptText} {m : ℕ} → TitleRead d n t m → title_or n ≡ Is t m
@@ -89,7 +90,7 @@ module _ (d : List ℕ) where
 
   title_halted : (n : ℕ) {f : Fault} → Or d TITLE n (StringStops d) Never f → title_or n ≡ Not f
   unfolding capitals
-  title_halted n = either_halted d {w = TITLE} refl n _ _ (λ m f z. rw (string_halted d m z)) (λ f z. absurd z)
+  title_halted n = either_halted d {w = TITLE} refl n _ (λ m. Is none m) (λ m f z. rw (string_halted d m z)) (λ f z. absurd z)
 
   -- TITLE or none, and RECORD behind it
   titled_is : {A : Type 0} {n k m : ℕ} {t : Option KeptText} (K : Option KeptText → Reader A) → Title d n t k → Statement d RECORD k m

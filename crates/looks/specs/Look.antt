@@ -1,5 +1,6 @@
 -- What a look tells: a word, a number, a string that stand just as they are to be written, and the lines that they make.
-use Rattle.std.specs.Prelude.{◌≡◌, refl, Bool, true, false, cond, not, ◌&&◌, ◌||◌, List, [], ◌∷◌, ◌++◌, ℕ, zero, suc, ◌+◌, ◌-◌, ◌≤◌, ◌<◌, eqb, leb, ltb}
+use Rattle.std.specs.Prelude.{◌≡◌, refl, Bool, true, false, cond, not, ◌&&◌, ◌||◌, List, [], ◌∷◌, ◌++◌, ℕ, zero, suc, ◌+◌, ◌-◌, ◌≤◌, ◌<◌}
+use Rattle.std.specs.Prelude.{eqb, leb, ltb}
 use Rattle.std.proofs.Common.{sym, ◌∙◌, ⊎_elim, leb-true, ltb-true, eqb-true, eq-eqb}
 use Rattle.std.proofs.Math.Path.{ap}
 use native.Mathlib.Omega.{arith}
@@ -25,7 +26,8 @@ use Rattle.tokens.specs.rule.Gap.{gap_at}
 use Rattle.tokens.proofs.Gaps.{gap_blank}
 use Rattle.tokens.proofs.Leads.{space_parts}
 use Rattle.steps.specs.declared.Span.{Span}
-use Rattle.steps.specs.Step.{span, found_in, word_past, word_found, notes_past, statement_past, statement_found, gap_past, number_span, phrase_in}
+use Rattle.steps.specs.Step.{span, found_in, word_past, word_found, notes_past, statement_past, statement_found, gap_past, number_span}
+use Rattle.steps.specs.Step.{phrase_in}
 use Rattle.steps.specs.Step.{string_span, value_span, keyword_past}
 use Rattle.steps.specs.Law.{found}
 use Rattle.steps.specs.Quiet.{Quiet, quiet_byte, quiet_name, notes_to, gap_to, string_to}
@@ -298,7 +300,8 @@ module _ {d : List ℕ} {g e : ℕ} (w v : List ℕ) (x : Stands d g (w ++ (32 �
     second_found = found_stands second i end blank
 
     -- another word is not the second
-    pub second_other : (u : List ℕ) → 0 < length v → 0 < length u → (get_or v 0 0 ≡ get_or u 0 0 → ⊥) → (get_or v 0 0 ≡ get_or u 0 0 + 32 → ⊥)
+    pub second_other : (u : List ℕ) → 0 < length v → 0 < length u → (get_or v 0 0 ≡ get_or u 0 0 → ⊥)
+        → (get_or v 0 0 ≡ get_or u 0 0 + 32 → ⊥)
         → word_found d end u ≡ found false (end + 1)
     second_other u k l f h =
         let q = opens_quiet d (end + 1) v (e - 2) second i in

@@ -1,6 +1,7 @@
 -- A stretch without a dropped byte: its kept bytes are all of them.
-use Rattle.std.specs.Prelude.{◌≡◌, refl, Bool, true, false, cond, List, [], ◌∷◌, ◌++◌, ℕ, zero, suc, ◌+◌, ◌-◌, ◌≤◌, ◌<◌, eqb, length, get_or, take, drop}
-use Rattle.std.proofs.Common.{sym, ap, ◌∙◌, arith, length-drop, length-take-le, get_or-take, get_or-drop, ltb-false, ne_eqb, le-leb}
+use Rattle.std.specs.Prelude.{◌≡◌, refl, Bool, true, false, cond, List, [], ◌∷◌, ◌++◌, ℕ, zero, suc, ◌+◌, ◌-◌, ◌≤◌, ◌<◌, eqb, length}
+use Rattle.std.specs.Prelude.{get_or, take, drop}
+use Rattle.std.proofs.Common.{sym, ap, subst, ◌∙◌, arith, length-drop, length-take-le, get_or-take, get_or-drop, ltb-false, ne_eqb, le-leb}
 use Rattle.std.proofs.lemmas.Bool.{lt-leb}
 use Rattle.ascii.specs.rule.Class.{class_of}
 use Rattle.scan.specs.rule.Text.{Text, stop, sign, kept, text}
@@ -29,8 +30,9 @@ up_plain s p zero h f = up_none s p (p + 0) (omega arith)
 up_plain [] p (suc k) h f = absurd (omega arith)
 up_plain (b ∷ s) p (suc k) h f =
     let e : p + suc k ≡ p + 1 + k = omega arith in
-    rw (ne_eqb _ 0 (kept_byte b (f 0 (omega arith))), lt-leb (p + suc k) p (omega arith), e)
-    (ap (λ (l : List ℕ). b ∷ l) (up_plain s (p + 1) k (omega arith) (λ j g. f (suc j) (omega arith))))
+    let i = up_plain s (p + 1) k (omega arith) (λ j g. f (suc j) (omega arith)) in
+    rw (ne_eqb _ 0 (kept_byte b (f 0 (omega arith))), lt-leb (p + suc k) p (omega arith))
+    (ap (λ (l : List ℕ). b ∷ l) (subst (λ (n : ℕ). up_to n (kept (p + 1) s) ≡ take k s) (sym e) i))
 
 -- its kept bytes are those that stand there
 pub plain_bytes : {d : List ℕ} {from end : ℕ} → Plain d from end → span_of d from end ≡ take (end - from) (drop from d)

@@ -2,7 +2,7 @@
 use Rattle.std.specs.Prelude.{◌≡◌, Bool, leb, ltb, ℤ, take, drop, get_or}
 use Rattle.std.proofs.Math.Path.{refl, sym, ap}
 use Rattle.std.proofs.Common.{◌∙◌, div-mul-le_self, le-div_iff_mul-le, length-append, length-take, length-drop, drop_of_length-le}
-use Rattle.std.proofs.Common.{drop-cons, take_all, add-one}
+use Rattle.std.proofs.Common.{drop-cons, take_all, add-one, ⊎_elim}
 use Rattle.std.proofs.Math.Bool.{true, false, cond}
 use mathlib.Core.List.{List, [], ◌∷◌, ◌++◌, map, append_assoc, map-append}
 use Prim.Native.Nat.{ℕ, zero, suc, ◌+◌, ◌-◌, ◌*◌, ◌/◌, ◌≤◌, ◌<◌}
@@ -18,7 +18,7 @@ use Rattle.lows.specs.Lows.{Clear}
 use Rattle.places.specs.rule.Places.{put, run}
 use Rattle.fields.specs.rule.Field.{spaces}
 use Rattle.cuts.specs.rule.Records.{terminator_bytes}
-use Rattle.below.specs.Below.{same_bool, holds_not}
+use Rattle.below.specs.Below.{same_bool, holds_not, lt_or_le}
 use Rattle.cuts.specs.declared.Terminator.{Terminator}
 use Rattle.cuts.specs.rule.Cut.{two_bytes, no_ending, terminator_of}
 use Rattle.cuts.specs.Records.{part}
@@ -244,6 +244,57 @@ module _ (d : List ℕ) (j stop : ℕ) where
   pub plain_over : stop ≤ j → map plain_byte (part d j stop) ≡ []
   plain_over h = ap (map plain_byte) (part_over h)
 
+  module _ (n : ℕ) where
+    bytes_next : j < stop → stop ≤ length d → entry_numbers (byte_entries n j (part d j stop))
+        ≡ entry_numbers (listed_if (low_at d j) (mend_entry 2 n j)) ++ entry_numbers (byte_entries n (j + 1) (part d (j + 1) stop))
+    unfolding byte_entries
+    bytes_next h l =
+        ap (λ (x : List ℕ). entry_numbers (byte_entries n j x)) (part_step h l)
+        ∙ numbers_append (listed_if (low_at d j) (mend_entry 2 n j)) (byte_entries n (j + 1) (part d (j + 1) stop))
+
+    pub bytes_over : stop ≤ j → entry_numbers (byte_entries n j (part d j stop)) ≡ []
+    unfolding byte_entries entry_numbers
+    bytes_over h = ap (λ (x : List ℕ). entry_numbers (byte_entries n j x)) (part_over h)
+
+-- ---- from one byte below 32 to the next: those between have no entry
+module _ (d : List ℕ) (stop n : ℕ) (l : stop ≤ length d) where
+  abbrev rest : ℕ → List ℤ
+  rest j = entry_numbers (byte_entries n j (part d j stop))
+
+  bytes_on : (c j : ℕ) → ((i : ℕ) → j ≤ i → i < j + c → low_at d i ≡ false) → rest j ≡ rest (j + c)
+  unfolding entry_numbers listed_if
+  bytes_on zero j g = let e : j + 0 ≡ j = omega arith in rw e
+  bytes_on (suc c) j g =
+      let e : j + suc c ≡ j + 1 + c = omega arith in
+      let o = bytes_on c (j + 1) (λ i a b. g i (omega arith) (omega arith)) in
+      ⊎_elim
+      (λ h. bytes_next d j stop n h l ∙ rw (g j (omega arith) (omega arith), e) o)
+      (λ h. bytes_over d j stop n h ∙ sym (bytes_over d (j + suc c) stop n (omega arith)))
+      (lt_or_le j stop)
+
+  pub bytes_clear : (j i : ℕ) → Clear d j i → rest j ≡ rest i
+  bytes_clear j i c =
+      let e : j + (i - j) ≡ i = omega (arith, c.on) in
+      rw e at (bytes_on (i - j) j (λ k a b. c.plain k a (rw e at b)))
+
+  pub bytes_low : (j : ℕ) → j < stop → low_at d j ≡ true → rest j ≡ entry_numbers (mend_entry 2 n j ∷ []) ++ rest (j + 1)
+  unfolding listed_if
+  bytes_low j h e = rw e at (bytes_next d j stop n h l)
+
+  pub bytes_low_length : (j : ℕ) → j < stop → low_at d j ≡ true → length (rest j) ≡ 3 + length (rest (j + 1))
+  unfolding entry_numbers
+  bytes_low_length j h e = let k = ap length (bytes_low j h e) in omega (arith, k)
+
+bytes_none : (n at : ℕ) (r : List ℕ) → low_count r ≡ 0 → byte_entries n at r ≡ []
+unfolding byte_entries low_count listed_if
+bytes_none n at [] h = refl
+bytes_none n at (b ∷ r) h = go (ltb b 32) h (λ z. bytes_none n (at + 1) r z)
+  where
+    go : (q : Bool) → cond q 1 0 + low_count r ≡ 0 → (low_count r ≡ 0 → byte_entries n (at + 1) r ≡ [])
+        → listed_if q (mend_entry 2 n at) ++ byte_entries n (at + 1) r ≡ []
+    go true z f = absurd (omega arith)
+    go false z f = f (omega arith)
+
 -- ---- from one byte below 32 to the next: those between have no entry
 module _ (d : List ℕ) (n : ℕ) where
   left_on : (j : ℕ) → j < length d → boundary_at (drop j d) ≡ no_ending
@@ -376,14 +427,26 @@ module _ (d : List ℕ) (e : Terminator) (w i : ℕ) (p : Span) (u : Spans d i p
           ap entry_numbers (piece_empty n h) ∙ rw (part_over d i p.stop (omega arith))
       go false z = piece_full n (λ h. holds_not (eq-eqb p.stop i h) z)
 
-  pub piece_length : (n : ℕ) → length (entry_numbers (piece_entries w e n i (piece_at d i p)))
+  pub piece_length_rest : (n : ℕ) → length (entry_numbers (piece_entries w e n i (piece_at d i p)))
       ≡ length (entry_numbers (byte_entries n i (part d i p.stop))) + length (entry_numbers (rest_entries w e n i p))
-  piece_length n = ap length (piece_numbers n) ∙ length-append (entry_numbers (byte_entries n i (part d i p.stop)))
+  piece_length_rest n = ap length (piece_numbers n) ∙ length-append (entry_numbers (byte_entries n i (part d i p.stop)))
       (entry_numbers (rest_entries w e n i p))
 
   pub piece_stored : (n : ℕ) {l l1 l2 : List ℤ} {k r q : ℕ} → Stored l l1 k (entry_numbers (byte_entries n i (part d i p.stop))) r
       → Stored l1 l2 r (entry_numbers (rest_entries w e n i p)) q → Stored l l2 k (entry_numbers (piece_entries w e n i (piece_at d i p))) q
   piece_stored n x y = rw (piece_numbers n) (stored_join x y)
+
+  pub piece_length : (n : ℕ) → (p.stop ≡ i → ⊥) → length (entry_numbers (piece_entries w e n i (piece_at d i p)))
+      ≡ length (entry_numbers (byte_entries n i (part d i p.stop))) + length (entry_numbers (end_entries n))
+  piece_length n h = ap length (piece_full n h) ∙ length-append (entry_numbers (byte_entries n i (part d i p.stop)))
+      (entry_numbers (end_entries n))
+
+  pub piece_plain : (n : ℕ) → (p.stop ≡ i → ⊥) → p.lows ≡ 0 → entry_numbers (piece_entries w e n i (piece_at d i p))
+      ≡ entry_numbers (end_entries n)
+  unfolding entry_numbers
+  piece_plain n h z =
+      piece_full n h ∙ ap (λ (x : List MendEntry). entry_numbers x ++ entry_numbers (end_entries n))
+      (bytes_none n i (part d i p.stop) (sym u.counted ∙ z))
 
   pub record_empty : p.stop ≡ i → record_of w e (piece_at d i p) ≡ []
   record_empty h = let z : length (part d i p.stop) ≡ 0 = long ∙ omega arith in rw (eq-eqb (length (part d i p.stop)) 0 z)

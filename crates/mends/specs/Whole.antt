@@ -1,5 +1,5 @@
 -- The whole call: what the counts say of it, and what it leaves.
-use Rattle.std.specs.Prelude.{◌≡◌, Bool, ◌&&◌, ◌||◌, ℕ, ◌+◌, ◌-◌, ◌*◌, ◌≤◌, eqb, ltb, leb, ℤ}
+use Rattle.std.specs.Prelude.{◌≡◌, Bool, ◌&&◌, ◌||◌, ℕ, ◌+◌, ◌-◌, ◌*◌, ◌≤◌, eqb, ltb, leb, ℤ, take}
 use Rattle.std.proofs.Math.Path.{refl, sym}
 use Rattle.std.proofs.Common.{ap, ◌∙◌, arith, eqb-true, ne_eqb, ltb-false, lt-ltb, le-ltb, leb-true, leb-false}
 use Rattle.std.proofs.Math.Bool.{true, false, cond}
@@ -19,7 +19,9 @@ use Rattle.mends.specs.declared.Mended.TheVariants as M
 use Rattle.mends.specs.rule.Mend.{ending_of, plain_byte, width_of, mended_record, mended_of, same_boundary}
 use Rattle.mends.specs.rule.Mend.{mend_entries, entry_numbers}
 use Rattle.mends.specs.rule.Mend.{width_of_records, bytes_in, list_in, done, refused, mend_said, mended_as, kept_or_new, Mends}
-use Rattle.mends.specs.Stores.{sets_front}
+use Rattle.places.specs.rule.Places.{put, run}
+use Rattle.std.proofs.Math.Seq.{take-length}
+use Rattle.mends.specs.Stores.{sets_front, put_sets}
 use Rattle.mends.specs.Sizes.{one, larger, kept_in, short_in, others_in, sizes_width, sizes_kept, sizes_others, sizes_short}
 use Rattle.mends.specs.Sizes.{length_entries, length_numbers, length_mended, Sized, width_rest, width_least}
 use Rattle.mends.specs.Mend.{Ends, Measured, start}
@@ -197,10 +199,18 @@ module _ (t : List ℤ) (d out : List ℕ) (list : List ℤ) where
       pub room_copy : Ends d e → z.others + z.short ≡ 0 → length d ≤ length out
       room_copy f n = let b : length (bytes_in t d) ≡ length d = ap length (bytes_same f n) in omega (arith, b, room_out)
 
-      pub mends_copied : Ends d e → z.others + z.short ≡ 0 → (out' : List ℕ) → out' ≡ sets out 0 d
+      pub mends_stored : Ends d e → z.others + z.short ≡ 0 → (out' : List ℕ) → out' ≡ sets out 0 d
+          → Mends t d out out' list list (M.Done (z.kept * (z.width + e.size)) (z.others + z.short))
+      unfolding entry_numbers
+      mends_stored f n out' a =
+          let s = bytes_same f n in
+          let l : list_in t d ≡ [] = none_left (list_in t d) (sym c.entries ∙ n) in
+          mends_done out' list (a ∙ rw s) (rw l)
+
+      pub mends_copied : Ends d e → z.others + z.short ≡ 0 → (out' : List ℕ) → out' ≡ put out (run 0 (length d)) (take (length d) d)
           → Mends t d out out' list list (M.Done (z.kept * (z.width + e.size)) (z.others + z.short))
       unfolding entry_numbers
       mends_copied f n out' a =
           let s = bytes_same f n in
           let l : list_in t d ≡ [] = none_left (list_in t d) (sym c.entries ∙ n) in
-          mends_done out' list (a ∙ rw s) (rw l)
+          mends_done out' list (a ∙ rw (take-length d, put_sets out 0 d (length d) refl, s)) (rw l)

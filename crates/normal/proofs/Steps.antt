@@ -104,7 +104,8 @@ module _ (t : List ℤ) (v : ℕ) (r : Row) (s : List ℕ) where
       go illegal q e l = subst (λ (x : Answer). HeldAs t v r s list' x) (sym e) (ap (λ (f : Field). field_back t v r f s) q)
 
   -- ---- and written back
-  pub written_back : {new : List ℕ} {value : given.Value} {list : List ℤ} {x : List ℕ} {w : Wrote} (h : Value) → reading_of t v r s ≡ holds h
+  pub written_back : {new : List ℕ} {value : given.Value} {list : List ℤ} {x : List ℕ} {w : Wrote} (h : Value) → reading_of t v r s
+      ≡ holds h
       → lent_value value list x ≡ h → WrittenBy r.kind t v r value list x s new w → new ≡ back_of t v r s
   unfolding field_back left_by written_of
   written_back h q e w = w.leaves ∙ rw (e, read_fits t v r h s q, q)
@@ -170,7 +171,8 @@ module _ (t : List ℤ) (old : List ℕ) where
       unfolding normal_after
       refused_as {v} e y = record { says = e ∙ sym verdict_is; leaves = rw (verdict_is ∙ sym e, y) }
 
-      pub done_as : {v : Verdict} {new : List ℕ} → v ≡ verdict_of t old → is_sound v ≡ true → new ≡ normal_form t old → Normalised t old new v
+      pub done_as : {v : Verdict} {new : List ℕ} → v ≡ verdict_of t old → is_sound v ≡ true → new ≡ normal_form t old
+          → Normalised t old new v
       unfolding normal_after
       done_as {v} e y n = record { says = e ∙ sym verdict_is; leaves = n ∙ rw (verdict_is ∙ sym e, y) }
 

@@ -1,7 +1,8 @@
 -- THE CODE'S BOOKS of the clean lines: what is sent from a place of the definition on, and where reading stands then. Crate `page_laws`
 -- says
 -- that these are the lines of what the grammar derives there.
-use Rattle.std.specs.Prelude.{◌≡◌, Bool, true, false, cond, not, ◌&&◌, List, [], ◌∷◌, ◌++◌, ℕ, zero, suc, ◌+◌, ◌-◌, ◌/◌, eqb, ltb, take, drop}
+use Rattle.std.specs.Prelude.{◌≡◌, Bool, true, false, cond, not, ◌&&◌, List, [], ◌∷◌, ◌++◌, ℕ, zero, suc, ◌+◌, ◌-◌, ◌/◌, eqb, ltb, take}
+use Rattle.std.specs.Prelude.{drop}
 use Rattle.sink.specs.rule.Sent.{Sent}
 use Rattle.statements.specs.rule.Words.{VARIABLE, NAME, LABEL, TYPE, SINGLE, MULTIPLE, QUANTITY, CHARACTER, LOGICAL, POSITION, TO, SPREAD}
 use Rattle.statements.specs.rule.Words.{OF}
@@ -10,7 +11,8 @@ use Rattle.clean_text.specs.rule.Span.{span_of}
 use Rattle.clean_text.specs.rule.Clean.{plain_digits}
 use Rattle.steps.specs.declared.Span.{Span}
 use Rattle.steps.specs.declared.Found.{Found}
-use Rattle.steps.specs.Step.{gap_past, notes_past, statement_past, keyword_past, word_found, statement_found, number_span, string_span, value_span}
+use Rattle.steps.specs.Step.{gap_past, notes_past, statement_past, keyword_past, word_found, statement_found, number_span, string_span}
+use Rattle.steps.specs.Step.{value_span}
 use Rattle.pages.specs.declared.Walked.{Walked}
 use Rattle.pages.specs.declared.Sort.{Sort}
 use Rattle.pages.specs.declared.Places.{Places}

@@ -1,8 +1,8 @@
 -- A FILE AS EACH OF ITS RECORDS (rule/Each): found one by one and judged one by one they give the file's own verdict.
-use Rattle.std.specs.Prelude.{◌≡◌, Bool, true, false, cond, List, eqb, ℤ, take, drop}
+use Rattle.std.specs.Prelude.{◌≡◌, Bool, true, false, List, eqb, ℤ, drop}
 use Rattle.std.proofs.Math.Path.{refl}
 use Rattle.std.proofs.Common.{sym, ap, ◌∙◌, arith, eqb-true, length-take, length-drop}
-use Prim.Native.Nat.{ℕ, zero, suc, ◌+◌, ◌-◌, ◌≤◌, ◌<◌}
+use Prim.Native.Nat.{ℕ, zero, suc, ◌+◌, ◌-◌, ◌≤◌}
 use Rattle.std.proofs.lemmas.Bool.{eqb-false}
 use Rattle.std.proofs.Math.ListN.{length}
 use Rattle.cuts.specs.declared.Terminator.{Terminator}
@@ -13,8 +13,9 @@ use Rattle.cuts.specs.rule.Records.{records_from, records_of}
 use Rattle.cuts.specs.Cut.{next_none}
 use Rattle.cuts.specs.Records.{part, EndedAt, next_ended, next_unended, next_nothing, over_past}
 use Rattle.sound.specs.rule.Sound.{well_formed}
-use Rattle.records.specs.rule.Verdict.{Verdict, sound, refused, verdict_of}
-use Rattle.files.specs.rule.File.{FileVerdict, sound_with, bad_table, fault_in, record_verdict, go_on, first_length, records_verdict, file_verdict}
+use Rattle.records.specs.rule.Verdict.{refused, verdict_of}
+use Rattle.files.specs.rule.File.{FileVerdict, sound_with, bad_table, record_verdict, go_on, first_length, records_verdict}
+use Rattle.files.specs.rule.File.{file_verdict}
 use Rattle.files.specs.rule.File.{is_sound}
 use Rattle.files.specs.File.{go_sound, go_fault, verdict_other, records_over, records_unended, records_next}
 use Rattle.file_laws.specs.Files.{record_as_judged}

@@ -1,5 +1,5 @@
 -- EXACTLY WHEN, for a part of a file (rule/Exactly): what is so has its verdict, and the verdict names what is so.
-use Rattle.std.specs.Prelude.{◌≡◌, ◌⊎◌, Bool, cond, not, ℕ, ◌+◌, ◌≤◌, ℤ}
+use Rattle.std.specs.Prelude.{◌≡◌, ◌⊎◌, Bool, cond, not, ℕ, ◌+◌, ℤ}
 use Rattle.std.proofs.Math.Path.{refl, ap}
 use Rattle.std.proofs.Common.{sym, ◌∙◌, inl, inr, ⊎_elim, eq-eqb, ne_eqb, eqb-true, length-append}
 use Rattle.std.proofs.Math.Bool.{true, false}
@@ -13,13 +13,13 @@ use Rattle.cuts.specs.declared.Terminator.{Terminator}
 use Rattle.cuts.specs.rule.Cut.{one_byte, two_bytes, no_ending}
 use Rattle.cuts.specs.rule.Records.{Records, over, unended, record_and, records_from}
 use Rattle.sound.specs.rule.Sound.{well_formed}
-use Rattle.records.specs.rule.Verdict.{Verdict, sound, refused, verdict_of}
-use Rattle.files.specs.rule.File.{FileVerdict, sound_with, bad_table, fault_in, record_verdict, go_on, is_sound}
-use Rattle.files.specs.File.{go_sound, go_fault, verdict_other}
+use Rattle.records.specs.rule.Verdict.{sound, refused, verdict_of}
+use Rattle.files.specs.rule.File.{sound_with, fault_in, go_on, is_sound}
+use Rattle.files.specs.File.{go_fault, verdict_other}
 use Rattle.file_laws.specs.rule.Files.{records_before, AllSound, none_yet, one_more}
 use Rattle.file_laws.specs.Files.{record_as_judged}
 use Rattle.file_laws.specs.Files.{not_sound, is_sound_lem, sound_not, before_more, sound_more}
-use Rattle.parts.specs.rule.Part.{numbered, part_records, PartVerdict, no_terminator, judged_as, part_verdict, PartJudged}
+use Rattle.parts.specs.rule.Part.{numbered, part_records, PartVerdict, judged_as, part_verdict, PartJudged}
 use Rattle.parts.specs.Part.{part_bad, part_none, part_judged}
 use Rattle.part_laws.specs.rule.Exactly.{IsNumber, SoundIn, PartOutcome, not_formed, no_number, all_sound, left_alone, not_ended}
 use Rattle.part_laws.specs.rule.Exactly.{other_length, record_fault}

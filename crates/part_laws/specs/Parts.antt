@@ -4,7 +4,7 @@ use Rattle.std.proofs.Math.Path.{refl, ap}
 use Rattle.std.proofs.Common.{sym, ◌∙◌, zero-mul, suc-mul, eqb-true, ne_eqb, take-append-drop, drop-drop}
 use Rattle.std.proofs.Math.Bool.{true, false, cond}
 use mathlib.Core.List.{List, [], ◌∷◌, ◌++◌}
-use Prim.Native.Nat.{ℕ, zero, suc, ◌+◌, ◌*◌, ◌-◌, ◌≤◌, ◌<◌}
+use Prim.Native.Nat.{ℕ, zero, suc, ◌+◌, ◌*◌, ◌-◌, ◌≤◌}
 use native.Mathlib.Omega.{arith}
 use Rattle.std.proofs.Math.ListN.{length}
 use Rattle.std.proofs.Math.Seq.{length-take-le}
@@ -12,17 +12,18 @@ use Rattle.below.specs.Below.{holds_not}
 use Rattle.cuts.specs.declared.Terminator.{Terminator}
 use Rattle.cuts.specs.declared.Next.{Next}
 use Rattle.cuts.specs.declared.Next.TheVariants.{Ended, Unended, Nothing}
-use Rattle.cuts.specs.rule.Cut.{one_byte, two_bytes, no_ending, begins_with, terminator_at, terminator_of, whole_at, begins_at, next_from}
+use Rattle.cuts.specs.rule.Cut.{one_byte, two_bytes, begins_with, terminator_at, terminator_of, whole_at, begins_at, next_from}
 use Rattle.cuts.specs.rule.Records.{Records, over, unended, record_and, at_end, cut, records_from, records_of, count_ended, length_of_first}
 use Rattle.cuts.specs.Records.{part, EndedAt, next_ended, next_unended, next_nothing, over_past}
 use Rattle.sound.specs.rule.Sound.{well_formed}
 use Rattle.sound.specs.rule.Rows.{rows_of, length_of}
 use Rattle.records.specs.rule.Verdict.{Verdict, sound, refused, low_byte, bad_field, rows_verdict}
-use Rattle.files.specs.rule.File.{FileVerdict, sound_with, bad_table, fault_in, record_verdict, go_on, first_length, records_verdict, file_verdict}
+use Rattle.files.specs.rule.File.{FileVerdict, sound_with, bad_table, fault_in, record_verdict, go_on, first_length, records_verdict}
+use Rattle.files.specs.rule.File.{file_verdict}
 use Rattle.files.specs.rule.File.{is_sound}
 use Rattle.files.specs.File.{go_sound, go_fault}
 use Rattle.file_laws.specs.rule.Files.{records_before, AllSound, none_yet, one_more}
-use Rattle.parts.specs.rule.Part.{numbered, part_records, PartVerdict, no_terminator, judged_as, part_verdict}
+use Rattle.parts.specs.rule.Part.{numbered, part_records, PartVerdict, judged_as, part_verdict}
 use Rattle.parts.specs.Part.{part_bad, part_judged}
 use Rattle.part_laws.specs.rule.Exactly.{IsNumber, PartOutcome, not_formed, no_number, all_sound, left_alone, not_ended}
 use Rattle.part_laws.specs.rule.Exactly.{other_length, record_fault}

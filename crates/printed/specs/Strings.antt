@@ -9,7 +9,7 @@ use Rattle.signs.specs.declared.Sign.{Sign}
 use Rattle.signs.specs.declared.Sign.TheVariants.{Byte, Break}
 use Rattle.scan.specs.rule.Text.{stop, sign, text}
 use Rattle.scan.specs.rule.Text as scan
-use Rattle.scan.proofs.Texts.{From, at_sign, from_text}
+use Rattle.scan.proofs.Texts.{From, at_stop, at_sign, from_text}
 use Rattle.marks.specs.declared.Inside.TheVariants.{Plain}
 use Rattle.marks.specs.rule.Spelling.{hex_pair, decode_of}
 use Rattle.marks.specs.Spelling.{Pairs, last, more, Piece, plain, quote, brace, line, bytes, Spelt, closed, piece}
@@ -134,6 +134,7 @@ module _ (d : List ℕ) where
     by h s =
         let f = s.from in
         record { span = rw (lt-leb q p (omega arith)) (ap (λ (x : List ℕ). b ∷ x) s.span); from = omega arith; rest = s.rest }
+  ink_spans {q = q} {c = c} {u = u} {k = k} (at_stop {at = at} {p = p}) x = elim x [ ]
 
   -- a text by its kept bytes: they are the inside of a string that says its signs, wherever they stand before a quote
   pub record TextSaid (t : KeptText) : Type 0 where

@@ -19,7 +19,8 @@ use Rattle.heading.specs.Heading.{or, last, entry_of, again, text_at, once_of, t
 use Rattle.heading.specs.Heading.{entries_from, entries_on, title_or, front_of, front_on}
 use Rattle.refusals.specs.Loops.{Onward, loop_keeps}
 use Rattle.refusals.specs.Scanned.{either}
-use Rattle.refusals.specs.Tokens.{Stands, word_here_lem, word_on_lem, ChoiceStands, choice_of_lem, PhraseStands, string_on_lem, past_string_lem}
+use Rattle.refusals.specs.Tokens.{Stands, word_here_lem, word_on_lem, ChoiceStands, choice_of_lem, PhraseStands, string_on_lem}
+use Rattle.refusals.specs.Tokens.{past_string_lem}
 use Rattle.refusals.specs.Statements.{notes_on_lem, opening_of_lem, record_on_lem}
 
 module _ (d : List ℕ) where

@@ -162,7 +162,8 @@ module _ (d : List ℕ) where
       refusal_placed = stands.2
 
 -- what the call answers as refused is such a refusal
-pub answered : (d : List ℕ) (n k p : ℕ) → rule.sss_answer (rule.sss_outcome d n) ≡ answer.Refused k p → rule.sss_outcome d n ≡ rule.Refusal k p
+pub answered : (d : List ℕ) (n k p : ℕ) → rule.sss_answer (rule.sss_outcome d n) ≡ answer.Refused k p → rule.sss_outcome d n
+    ≡ rule.Refusal k p
 unfolding rule.sss_answer
 answered d n k p = by (rule.sss_outcome d n) where
   by : (o : rule.SssOutcome) → rule.sss_answer o ≡ answer.Refused k p → o ≡ rule.Refusal k p

@@ -209,4 +209,5 @@ module _ (d : List ℕ) where
 
   pub size_on_lem : (t : Reading) → Stands d t → NumberStands d (size_on d t)
   unfolding size_on
-  size_on_lem t h = judge_size_lem (number_on d (statement_on d t SIZE)) (number_on_lem d (statement_on d t SIZE) (statement_on_lem t SIZE h))
+  size_on_lem t h = judge_size_lem (number_on d (statement_on d t SIZE))
+      (number_on_lem d (statement_on d t SIZE) (statement_on_lem t SIZE h))

@@ -36,12 +36,14 @@ use Rattle.values.specs.declared.Turn.{Turn}
 use Rattle.values.specs.declared.Turn.TheVariants as turn
 use Rattle.values.specs.Value.{form_of, large_of, true_of, scaled_of}
 use Rattle.values.specs.Range.{limit_range, reversed_of, judge_range, settled, ranged_of, with_or, range_rest}
-use Rattle.values.specs.Line.{said_of, special_or, line_rest, number_at, repeated_in, line_fault, judge_line, grown_by, end_of, end_or, more_of}
+use Rattle.values.specs.Line.{said_of, special_or, line_rest, number_at, repeated_in, line_fault, judge_line, grown_by, end_of, end_or}
+use Rattle.values.specs.Line.{more_of}
 use Rattle.values.specs.Line.{Given, Is, Not, Listing, state_of, after, judged_step, read_step, line_step, lines_from}
 use Rattle.values.specs.Block.{empty_block, closed_by, range_then, to_or, values_on}
 use Rattle.refusals.specs.Loops.{Onward, loop_keeps}
 use Rattle.refusals.specs.Scanned.{either}
-use Rattle.refusals.specs.Tokens.{Met, Stands, gap_on_lem, word_here_lem, word_on_lem, ChoiceStands, choice_of_lem, ValueStands, AmountStands}
+use Rattle.refusals.specs.Tokens.{Met, Stands, gap_on_lem, word_here_lem, word_on_lem, ChoiceStands, choice_of_lem, ValueStands}
+use Rattle.refusals.specs.Tokens.{AmountStands}
 use Rattle.refusals.specs.Tokens.{value_here_lem, value_on_lem, past_value_lem, PhraseStands, string_on_lem, past_string_lem}
 use Rattle.refusals.specs.Statements.{notes_on_lem, statement_on_lem}
 
@@ -251,7 +253,8 @@ module _ (d : List ℕ) where
     g = gap_on d (past_value a)
 
     value : AmountStands d a
-    value = value_here_lem d (notes_on d (statement_on d t VALUES)) (notes_on_lem d (statement_on d t VALUES) (statement_on_lem d t VALUES h))
+    value = value_here_lem d (notes_on d (statement_on d t VALUES))
+        (notes_on_lem d (statement_on d t VALUES) (statement_on_lem d t VALUES h))
 
     behind : Stands d g
     behind = gap_on_lem d (past_value a) (past_value_lem d a value)

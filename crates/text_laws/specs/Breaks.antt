@@ -92,7 +92,8 @@ pairs_bytes (more f h r) zero e = none cc
 pairs_bytes (more f h r) (suc k) e = pairs_bytes r k e
 
 -- a break is in what the first part says, or in what the second does
-split : (m s : List Sign) (k : ℕ) → break_at (m ++ s) k ≡ true → (break_at m k ≡ true) ⊎ ((j : ℕ) × (k ≡ length m + j) × (break_at s j ≡ true))
+split : (m s : List Sign) (k : ℕ) → break_at (m ++ s) k ≡ true
+    → (break_at m k ≡ true) ⊎ ((j : ℕ) × (k ≡ length m + j) × (break_at s j ≡ true))
 unfolding break_at
 split [] s k e = inr (k, omega arith, e)
 split (x ∷ m) s zero e = inl e

@@ -1,5 +1,6 @@
 -- A string of a definition, cut off before its closing quote: what the call decodes is what the string says.
-use Rattle.std.specs.Prelude.{◌≡◌, refl, ◌↔◌, Bool, true, false, cond, ◌&&◌, List, [], ◌∷◌, ◌++◌, ℕ, zero, suc, ◌+◌, ◌-◌, ◌≤◌, ◌<◌, eqb, leb, length, take, drop}
+use Rattle.std.specs.Prelude.{◌≡◌, refl, ◌↔◌, Bool, true, false, cond, ◌&&◌, List, [], ◌∷◌, ◌++◌, ℕ, zero, suc, ◌+◌, ◌-◌, ◌≤◌, ◌<◌, eqb}
+use Rattle.std.specs.Prelude.{leb, length, take, drop}
 use Rattle.std.proofs.Common.{◌∙◌, sym, ap, arith, length-drop, length-take-le, take-add, drop_at, eq-eqb, le-leb, eqb-true, leb-true}
 use Rattle.std.proofs.Math.Nat.{suc_inj}
 use Rattle.std.proofs.lemmas.List.{drop-append-le}
@@ -170,5 +171,6 @@ inside_exactly d place long = (to, from) where
 
   from : (place + long ≤ length d) × Spelt (kept place (drop place (whole ++ 34 ∷ [])))
       (decode_of Plain 0 (kept place (drop place whole))) (place + long + 1)
-      → (leb (place + long) (length d) && closes_at (place + long + 1) (string_of Plain (kept place (drop place (whole ++ 34 ∷ []))))) ≡ true
+      → (leb (place + long) (length d) && closes_at (place + long + 1) (string_of Plain (kept place (drop place (whole ++ 34 ∷ [])))))
+      ≡ true
   from p = rw (le-leb (place + long) (length d) p.0, string_complete p.1) (eq-eqb (place + long + 1) (place + long + 1) refl)

@@ -24,7 +24,8 @@ use Rattle.definition.proofs.Bridge.{Sames, SameOutcome, outcome_same}
 use Rattle.definition.proofs.Bridge as bridge
 use Rattle.texts.specs.declared.Decoded.{Decoded}
 use Rattle.texts.specs.declared.Decoded.TheVariants as decoded
-use Rattle.texts.specs.rule.Decode.{inside_text, signs_at, numbers_of, DecodeOutcome, signs, refused, decode_said, decode_fitting, decoded_as}
+use Rattle.texts.specs.rule.Decode.{inside_text, signs_at, numbers_of, DecodeOutcome, signs, refused, decode_said, decode_fitting}
+use Rattle.texts.specs.rule.Decode.{decoded_as}
 use Rattle.texts.specs.rule.Decode.{signs_after}
 use Rattle.texts.specs.rule.Decode.{TextDecoded}
 use Rattle.text_laws.specs.Cut.{none, Says, string_says}

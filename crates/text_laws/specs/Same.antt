@@ -1,6 +1,7 @@
 -- No refusal of any definition changed when {NL} became a break. Before, it was byte 10: the outcome with every break of a name put as byte
 -- 10 is the outcome. For neither is a letter or digit.
-use Rattle.std.specs.Prelude.{◌≡◌, refl, Bool, true, false, cond, not, ◌&&◌, ◌||◌, List, [], ◌∷◌, ℕ, zero, suc, ◌+◌, ◌≤◌, ◌<◌, eqb, ltb, leb, length, get_or}
+use Rattle.std.specs.Prelude.{◌≡◌, refl, Bool, true, false, cond, not, ◌&&◌, ◌||◌, List, [], ◌∷◌, ℕ, zero, suc, ◌+◌, ◌≤◌, ◌<◌, eqb, ltb}
+use Rattle.std.specs.Prelude.{leb, length, get_or}
 use Rattle.std.proofs.Common.{◌∙◌, sym, ap, ⊎_elim, arith, eq-or-lt_of_le, ne_eqb, le-ltb, lt-ltb}
 use Rattle.std.proofs.Math.Bool.{and-false}
 use Rattle.below.specs.rule.Below.{any_below}

@@ -51,7 +51,8 @@ use Rattle.values.specs.declared.Verdict.TheVariants as verdict
 use Rattle.values.specs.declared.Turn.{Turn}
 use Rattle.values.specs.declared.Turn.TheVariants as turn
 use Rattle.values.specs.Range.{range_rest}
-use Rattle.values.specs.Line.{Given, said_of, special_or, line_rest, number_at, judge_line, grown_by, more_of, Listing, state_of, after, judged_step}
+use Rattle.values.specs.Line.{Given, said_of, special_or, line_rest, number_at, judge_line, grown_by, more_of, Listing, state_of, after}
+use Rattle.values.specs.Line.{judged_step}
 use Rattle.values.specs.Line.{read_step, line_step, lines_from}
 use Rattle.values.specs.Line as given
 use Rattle.values.specs.Block.{empty_block, closed_by, range_then, to_or, values_on}
@@ -59,7 +60,8 @@ use Rattle.variables.specs.declared.Head.{Head}
 use Rattle.variables.specs.declared.Headed.{Headed}
 use Rattle.variables.specs.declared.Headed.TheVariants as headed
 use Rattle.variables.specs.Head.{join_titles, join_head, head_on}
-use Rattle.variables.specs.Rest.{Telling, Told, join_values, values_rest, join_size, join_nothing, spread_or, optional, spread_then, rest_of}
+use Rattle.variables.specs.Rest.{Telling, Told, join_values, values_rest, join_size, join_nothing, spread_or, optional, spread_then}
+use Rattle.variables.specs.Rest.{rest_of}
 use Rattle.variables.specs.Rest as told
 use Rattle.measures.specs.Survey.{Variable, lines_all, ident_met, lines_in, holds_in}
 use Rattle.entries.specs.Entry.{Entry, variable, end_variable, ended, told_then, held_by, rest_then, head_then, entry_of}
@@ -219,7 +221,8 @@ module _ (d : List ℕ) where
   no_telling : (f : _) → TellingStands (told.Not f)
   no_telling f = record { telling_stands = λ e. none cc }
 
-  values_rest_lem : (quantity : Bool) (first : ℕ) (t : Reading) (count width : ℕ) → TellingStands (values_rest d quantity first t count width)
+  values_rest_lem : (quantity : Bool) (first : ℕ) (t : Reading) (count width : ℕ)
+      → TellingStands (values_rest d quantity first t count width)
   unfolding values_rest join_values
   values_rest_lem quantity first t count width = by (values_on d quantity first t) (values_stand quantity first t) where
     by : (g : Given) → LinesStand g → TellingStands (join_values count width g)

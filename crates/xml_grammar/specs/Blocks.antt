@@ -1,20 +1,20 @@
 -- `<values>`: a range or a value, then values, as the table says.
-use Rattle.std.specs.Prelude.{◌≡◌, refl, Bool, true, false, cond, List, [], ◌∷◌, ◌++◌, ℕ, suc, ◌+◌}
+use Rattle.std.specs.Prelude.{◌≡◌, refl, Bool, List, [], ◌∷◌, ℕ, suc}
 use Rattle.std.proofs.Common.{◌∙◌, sym}
-use Rattle.std.proofs.Math.Option.{Option, none, some}
+use Rattle.std.proofs.Math.Option.{none, some}
 use Rattle.layout.specs.rule.Layout.{most_lines}
-use Rattle.scan.specs.rule.Loop.{Next, Again, Done}
+use Rattle.scan.specs.rule.Loop.{Next, Again}
 use Rattle.pairs.specs.rule.Stand.{bare_of}
 use Rattle.survey.specs.rule.Survey.{Block, Line}
 use Rattle.survey.specs.rule.Survey as survey
-use Rattle.reading.specs.rule.Result.{Result, Is, Not, Reader, ◌>>=◌, ◌>>◌, give, repeat, bind}
+use Rattle.reading.specs.rule.Result.{Result, Is, Not, Reader, ◌>>=◌, give, repeat, bind}
 use Rattle.reading.specs.rule.Values.{with_line, unlisted}
 use Rattle.xml_reading.specs.rule.Word.{VALUES, RANGE, VALUE}
 use Rattle.xml_reading.specs.rule.Open.{Open, within_element, due, unknown_at, enter}
 use Rattle.xml_reading.specs.rule.Open as stands
 use Rattle.xml_reading.specs.rule.Block.{range, line, lined, on_open, another_line, first, values}
 use Rattle.xml_grammar.specs.Grammar.{Element, Values, Range, Value, either, any}
-use Rattle.xml_grammar.specs.Reader.{steps, round, rounds, element}
+use Rattle.xml_grammar.specs.Reader.{steps, round, element}
 use Rattle.xml_grammar.specs.Meaning.{State, with_block, is_quantity, lines_before, meanings}
 use Rattle.xml_grammar.specs.Behind.{map_behind, on_tag_lem, due_behind, either_behind}
 use Rattle.xml_grammar.specs.Leaves.{range_is, value_is}

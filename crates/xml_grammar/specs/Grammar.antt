@@ -1,7 +1,7 @@
 -- THE GRAMMAR OF DOCUMENT 000, a line an element, as its DTD and "Definition File Elements and Attributes" have it: the word of its tag,
 -- its attributes, what it holds, in this order. No limit and no test of numbers is here, and nothing mentions a reader. What is `later` or
 -- `newly` is not in version 1.1 ("Changes from triple-s XML 1.1 to triple-s XML 1.2"). Inside texts stand br and text: crate `contents`.
-use Rattle.std.specs.Prelude.{List, [], ◌∷◌, ◌++◌, ℕ}
+use Rattle.std.specs.Prelude.{List, [], ◌∷◌, ℕ}
 use Rattle.forms.specs.rule.Form as form
 use Rattle.reading.specs.rule.Variable.{Sort, Single, Multiple, Quantity, Character, Logical}
 use Rattle.xml_reading.specs.rule.Word.{SSS, VERSION, OPTIONS, LANGUAGES, DATE, TIME, ORIGIN, USER, SURVEY, NAME, TITLE, RECORD, IDENT}

@@ -1,9 +1,9 @@
 -- The elements that hold no others: each is read as its line of the table says.
-use Rattle.std.specs.Prelude.{◌≡◌, Bool, true, false, cond, ℕ, suc, ◌+◌, ◌-◌, take, drop}
+use Rattle.std.specs.Prelude.{◌≡◌, Bool, ℕ, suc, ◌+◌, ◌-◌, take, drop}
 use Rattle.std.proofs.Math.Path.{refl}
-use Rattle.std.proofs.Common.{◌∙◌, sym}
+use Rattle.std.proofs.Common.{◌∙◌}
 use mathlib.Core.List.{List, [], ◌∷◌, ◌++◌}
-use Rattle.std.proofs.Math.Option.{Option, none, some, get_or}
+use Rattle.std.proofs.Math.Option.{some}
 use Rattle.spans.specs.rule.Heard.{heard}
 use Rattle.forms.specs.rule.Form.{fits_of}
 use Rattle.tags.specs.declared.Held.{Held}
@@ -12,8 +12,8 @@ use Rattle.tags.specs.rule.Tag.{tag_of}
 use Rattle.pairs.specs.rule.Stand.{bare_of}
 use Rattle.tokens.specs.rule.Gap.{fault}
 use Rattle.survey.specs.rule.Survey.{Figure, KeptText}
-use Rattle.reading.specs.rule.Result.{Result, Is, Not, Reader, ◌>>=◌, ◌>>◌, give, bind}
-use Rattle.reading.specs.rule.Least.{Charge, ◌when◌, judged}
+use Rattle.reading.specs.rule.Result.{Reader, ◌>>=◌, ◌>>◌, give, bind}
+use Rattle.reading.specs.rule.Least.{judged}
 use Rattle.reading.specs.rule.Statement.{size_charges}
 use Rattle.reading.specs.rule.Values.{with_line, unlisted}
 use Rattle.reading.specs.rule.Variable.{room}
@@ -27,7 +27,8 @@ use Rattle.xml_grammar.specs.Grammar.{Date, Time, Origin, User, SurveyName, Surv
 use Rattle.xml_grammar.specs.Grammar.{Spread}
 use Rattle.xml_grammar.specs.Grammar.{Size, Range, Value}
 use Rattle.xml_grammar.specs.Reader.{counting, element}
-use Rattle.xml_grammar.specs.Meaning.{State, with_name, with_label, with_place, with_filter, with_spread, with_block, with_size, is_quantity}
+use Rattle.xml_grammar.specs.Meaning.{State, with_name, with_label, with_place, with_filter, with_spread, with_block, with_size}
+use Rattle.xml_grammar.specs.Meaning.{is_quantity}
 use Rattle.xml_grammar.specs.Meaning.{lines_before, named, filtered, meanings}
 use Rattle.xml_grammar.specs.Behind.{map_behind, judged_as, judged_map, fit_behind, on_tag_lem}
 

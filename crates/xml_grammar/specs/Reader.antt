@@ -1,8 +1,9 @@
 -- THE READER THAT KNOWS NOTHING BUT THE TABLE (Grammar.antt) and what each element says (`Meaning`). A state is handed from element to
--- element. Where the grammar is left, `due`, `over` and `within_element` of crate `xml_reading` have the number: 51 for a start tag that may
+-- element. Where the grammar is left, `due`, `over` and `within_element` of crate `xml_reading` have the number: 51 for a start tag that
+-- may
 -- not
 -- stand there, 2 for an end tag or text, 50 where XML is broken. Above it: Meaning.antt, and that the rule is this reader.
-use Rattle.std.specs.Prelude.{Bool, true, false, cond, List, [], ◌∷◌, ◌++◌, ℕ, zero, suc, ◌+◌, ◌-◌, length, take, drop}
+use Rattle.std.specs.Prelude.{Bool, cond, List, [], ◌∷◌, ◌++◌, ℕ, zero, suc, ◌+◌, ◌-◌, take, drop}
 use Rattle.scan.specs.rule.Loop.{Next, Again, Done}
 use Rattle.spans.specs.rule.Heard.{heard}
 use Rattle.forms.specs.rule.Form.{fits_of}
@@ -11,7 +12,7 @@ use Rattle.tags.specs.declared.Tag.{Tag}
 use Rattle.tags.specs.rule.Tag.{tag_of}
 use Rattle.tokens.specs.rule.Gap.{fault}
 use Rattle.survey.specs.rule.Survey.{KeptText}
-use Rattle.reading.specs.rule.Result.{Result, Is, Not, Reader, ◌>>=◌, ◌>>◌, give, repeat, bind}
+use Rattle.reading.specs.rule.Result.{Not, Reader, ◌>>=◌, ◌>>◌, give, repeat, bind}
 use Rattle.reading.specs.rule.Least.{Charge, judged}
 use Rattle.reading.specs.rule.Variable.{Sort}
 use Rattle.xml_reading.specs.rule.Open.{Open, within_element, due, over, unknown_at, on_tag, enter}
@@ -20,7 +21,7 @@ use Rattle.xml_reading.specs.rule.Element.{Body, body}
 use Rattle.xml_reading.specs.rule.Block.{rich}
 use Rattle.xml_grammar.specs.Grammar.{Element, Form, anything, digits, signed, letter, type, usage, option}
 use Rattle.xml_grammar.specs.Grammar.{Attribute, required, implied, later, Part, once, perhaps, newly, either, any}
-use Rattle.xml_grammar.specs.Grammar.{Holds, nothing, plain, number, texts, parts, typed, Rule, rule_of, typed_of}
+use Rattle.xml_grammar.specs.Grammar.{Holds, nothing, plain, number, texts, parts, typed, rule_of, typed_of}
 
 -- ---- attributes: the numbers that crate `forms` has for forms; version 1.1 (`old`) doesn't know what came later
 abbrev pub number_of : Form → ℕ

@@ -1,12 +1,12 @@
 -- `<record>`: variables, one at least, as the table says.
-use Rattle.std.specs.Prelude.{◌≡◌, Bool, true, false, cond, ℕ, suc, ◌+◌}
+use Rattle.std.specs.Prelude.{◌≡◌, Bool, true, false, cond, ℕ, suc}
 use Rattle.std.proofs.Math.Path.{refl}
-use Rattle.std.proofs.Common.{◌∙◌, sym}
+use Rattle.std.proofs.Common.{◌∙◌}
 use mathlib.Core.List.{List, [], ◌∷◌, ◌++◌}
 use Rattle.layout.specs.rule.Layout.{most_rows}
-use Rattle.scan.specs.rule.Loop.{Next, Again, Done}
+use Rattle.scan.specs.rule.Loop.{Again}
 use Rattle.tags.specs.rule.Tag.{tag_of}
-use Rattle.reading.specs.rule.Result.{Result, Is, Not, Reader, ◌>>=◌, ◌>>◌, give, repeat, bind}
+use Rattle.reading.specs.rule.Result.{Result, Is, Not, Reader, ◌>>=◌, give, repeat, bind}
 use Rattle.xml_reading.specs.rule.Word.{RECORD, VARIABLE, IDENT, HREF}
 use Rattle.xml_reading.specs.rule.Open.{Open, within_element, due, unknown_at, enter}
 use Rattle.xml_reading.specs.rule.Role.{XmlEntry}
@@ -15,7 +15,7 @@ use Rattle.xml_reading.specs.rule.Sheet.{record_tag, on_open, another_element, v
 use Rattle.xml_grammar.specs.Grammar.{Element, Record, Variable, once, any}
 use Rattle.xml_grammar.specs.Reader.{steps, round, element}
 use Rattle.xml_grammar.specs.Meaning.{State, between, meanings}
-use Rattle.xml_grammar.specs.Behind.{same_behind, both_behind, on_tag_lem, due_same}
+use Rattle.xml_grammar.specs.Behind.{same_behind, on_tag_lem, due_same}
 use Rattle.xml_grammar.specs.Loops.{onward, ending, rounds_are, turn_is}
 use Rattle.xml_grammar.specs.Variables.{variable_is}
 

@@ -1,7 +1,7 @@
 -- `<survey>` and `<sss>`: texts that may be left out, then what is due, as the table says.
-use Rattle.std.specs.Prelude.{◌≡◌, Bool, cond, List, [], ◌∷◌, ◌++◌, ℕ, suc, ◌+◌}
+use Rattle.std.specs.Prelude.{◌≡◌, Bool, cond, List, [], ◌∷◌, ℕ, suc, ◌+◌}
 use Rattle.std.proofs.Math.Path.{refl}
-use Rattle.std.proofs.Common.{◌∙◌, sym}
+use Rattle.std.proofs.Common.{◌∙◌}
 use Rattle.std.proofs.Math.Bool.{true, false}
 use Rattle.tags.specs.rule.Tag.{tag_of, is_named}
 use Rattle.pairs.specs.rule.Stand.{bare_of}
@@ -95,7 +95,8 @@ module _ (bad : Bool) (d : List ℕ) (f : ℕ) where
         ≡ bind (bind (bind r (perhaps_element bad d SURVEY VERSION 0)) title_read) ((in_survey last).at (so false))
     named_then (Is o n) =
         version_part o n
-        ∙ map_behind (perhaps_element bad d SURVEY VERSION 0 o n) title_read ((in_survey titled).at (so false)) ((in_survey last).at (so false))
+        ∙ map_behind (perhaps_element bad d SURVEY VERSION 0 o n) title_read ((in_survey titled).at (so false))
+        ((in_survey last).at (so false))
         λ o n.
         title_part false o n
     named_then (Not x) = refl
@@ -104,7 +105,8 @@ module _ (bad : Bool) (d : List ℕ) (f : ℕ) where
         ≡ bind (titles bad d (by old languages standard latin) n) ((in_survey last).at (so old))
     unfolding steps titles
     titles_part true n =
-        map_behind (within_element bad d SURVEY n) title_read ((in_survey titled).at (so true)) ((in_survey last).at (so true)) λ o n. title_part
+        map_behind (within_element bad d SURVEY n) title_read ((in_survey titled).at (so true)) ((in_survey last).at (so true)) λ o n.
+        title_part
         true o
         n
     titles_part false n =

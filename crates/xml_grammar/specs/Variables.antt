@@ -1,12 +1,11 @@
 -- `<variable>`: name, label, position, a filter or none, then by type, as the table says.
-use Rattle.std.specs.Prelude.{◌≡◌, Bool, true, ℕ, suc, ◌+◌, eqb}
+use Rattle.std.specs.Prelude.{◌≡◌, Bool, true, ℕ, suc, eqb}
 use Rattle.std.proofs.Math.Path.{refl, sym}
 use Rattle.std.proofs.Common.{◌∙◌}
 use Rattle.std.proofs.Math.Bool.{false, cond}
 use mathlib.Core.List.{List, [], ◌∷◌, ◌++◌}
 use Rattle.std.proofs.Math.Option.{Option, none, some}
-use Rattle.tags.specs.declared.Held.{Held}
-use Rattle.tags.specs.rule.Tag.{tag_of, is_named}
+use Rattle.tags.specs.rule.Tag.{tag_of}
 use Rattle.survey.specs.rule.Survey.{Figure, KeptText, Content, Block, single, multiple, quantity, character, logical}
 use Rattle.survey.specs.rule.Survey as survey
 use Rattle.reading.specs.rule.Result.{Result, Is, Not, Reader, ◌>>=◌, ◌>>◌, give, bind}
@@ -23,7 +22,7 @@ use Rattle.xml_reading.specs.rule.Block.{rich, values}
 use Rattle.xml_reading.specs.rule.Role.{XmlEntry, Title, variables_of, title, naming, filter}
 use Rattle.xml_reading.specs.rule.Variable.{Manner, Then, with, filtered, spreading, content, variable}
 use Rattle.xml_grammar.specs.Grammar.{Element, Variable, Name, Label, Position, Filter, Spread, Values, Size}
-use Rattle.xml_grammar.specs.Grammar.{Part, once, newly, typed_of}
+use Rattle.xml_grammar.specs.Grammar.{once, newly, typed_of}
 use Rattle.xml_grammar.specs.Reader.{Steps, steps, element}
 use Rattle.xml_grammar.specs.Meaning.{State, begun, between, with_name, with_label, with_place, with_filter, with_spread, with_block}
 use Rattle.xml_grammar.specs.Meaning.{with_size}
@@ -159,7 +158,8 @@ module _ (bad : Bool) (d : List ℕ) (f : ℕ) where
         ≡ bind (bind r λ s. inside >>= λ o. give (with (some s) o)) behind
     unfolding steps
     spread_then_lem (Is s n) =
-        both_behind (inside n) ((rest_of Single).at (divided (some s))) (λ o. give (with (some s) o)) closed behind λ o m. blocks (some s) o m
+        both_behind (inside n) ((rest_of Single).at (divided (some s))) (λ o. give (with (some s) o)) closed behind λ o m. blocks (some s) o
+        m
     spread_then_lem (Not g) = refl
 
     spread_read : (q n : ℕ)
@@ -237,7 +237,8 @@ module _ (bad : Bool) (d : List ℕ) (f : ℕ) where
         (give (with 0 o))
 
     abbrev step_or : Open → Reader State
-    step_or o = stands.either_element bad d FILTER o (λ q. child Filter (at 0) q >>= (rest_of (sort_of t)).go) ((rest_of (sort_of t)).at (at 0) o)
+    step_or o = stands.either_element bad d FILTER o (λ q. child Filter (at 0) q >>= (rest_of (sort_of t)).go)
+        ((rest_of (sort_of t)).at (at 0) o)
 
     filter_by : (old : Bool) (o : Open) (n : ℕ)
         → bind (cond old ((rest_of (sort_of t)).at (at 0) o) (step_or o) n) closed

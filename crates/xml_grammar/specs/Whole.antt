@@ -1,15 +1,14 @@
 -- THE WHOLE: a definition in XML is read as the table of document 000 (Grammar.antt) says, element by element, and every refusal is the
 -- same, number and place. Before `<sss` stand the declaration and the DOCTYPE, behind `</sss>` what may follow: crate `prologs`.
-use Rattle.std.specs.Prelude.{◌≡◌, Bool, true, false, cond, List, [], ◌∷◌, ◌++◌, ℕ, ◌+◌, ltb, length, take}
+use Rattle.std.specs.Prelude.{◌≡◌, Bool, true, false, cond, List, ℕ, ltb, length, take}
 use Rattle.std.proofs.Math.Path.{refl, sym}
-use Rattle.std.proofs.Common.{◌∙◌}
 use Rattle.utf.specs.rule.Cut.{first_bad}
 use Rattle.prologs.specs.rule.Told.{declaration_of, tail_from}
 use Rattle.prologs.specs.declared.Prolog.{Prolog}
 use Rattle.prologs.specs.declared.Prolog.TheVariants as prolog
 use Rattle.reading.specs.rule.Result.{Result, Is, Not, Reader, ◌>>=◌, ◌>>◌, give, bind}
 use Rattle.xml_reading.specs.rule.Word.{SSS, SURVEY, RECORD}
-use Rattle.xml_reading.specs.rule.Open.{Open, within_element, due, over}
+use Rattle.xml_reading.specs.rule.Open.{within_element, due, over}
 use Rattle.xml_reading.specs.rule.Role.{XmlEntry}
 use Rattle.xml_reading.specs.rule.Variable.{Manner}
 use Rattle.xml_reading.specs.rule.Sheet.{XmlSurvey, root, manner, heading, survey, titles, record_tag, preface, variables, cleared}

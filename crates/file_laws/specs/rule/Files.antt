@@ -33,4 +33,5 @@ pub data FileOutcome (t : List ℤ) (d : List ℕ) : FileVerdict → Type 0 wher
   other_length : (rs : List (List ℕ)) (r : List ℕ) (rest : Records) → SoundBefore t d rs (record_and r rest)
       → (length r ≡ length_of_first (records_of d) → ⊥) → FileOutcome t d (fault_in (length rs + 1) (refused 31))
   record_fault : (rs : List (List ℕ)) (r : List ℕ) (rest : Records) → SoundBefore t d rs (record_and r rest)
-      → length r ≡ length_of_first (records_of d) → (verdict_of t r ≡ sound → ⊥) → FileOutcome t d (fault_in (length rs + 1) (verdict_of t r))
+      → length r ≡ length_of_first (records_of d) → (verdict_of t r ≡ sound → ⊥)
+      → FileOutcome t d (fault_in (length rs + 1) (verdict_of t r))

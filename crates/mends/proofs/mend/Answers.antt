@@ -16,7 +16,7 @@ use Rattle.pieces.specs.rule.Pieces.{cut_from}
 use Rattle.mends.specs.declared.Sizes.{Sizes}
 use Rattle.mends.specs.rule.Mend.{mended_of, mend_entries, entry_numbers}
 use Rattle.mends.specs.Mend.{Ends, Measured}
-use Rattle.mends.specs.Whole.{Counts, counts, said_bytes, said_list, wide_enough, mends_bad, mends_short, mends_done, mends_copied}
+use Rattle.mends.specs.Whole.{Counts, counts, said_bytes, said_list, wide_enough, mends_bad, mends_short, mends_done, mends_stored}
 use Rattle.mends.specs.Whole.{room_both, room_out, room_list, room_copy}
 use Rattle.mends.proofs.mend.Goals as goal
 use Rattle.mends.proofs.mend.Goals.{Else-not-has_room}
@@ -134,7 +134,7 @@ mend_into-requires c = record {
 
 pub returns-then-entries-eq0 : goal.returns-then-entries-eq0
 returns-then-entries-eq0 c =
-    mends_copied (table (goal.at.returns-then-entries-eq0 c).Else-not-has_room)
+    mends_stored (table (goal.at.returns-then-entries-eq0 c).Else-not-has_room)
     (file (goal.at.returns-then-entries-eq0 c).Else-not-has_room) (out (goal.at.returns-then-entries-eq0 c).Else-not-has_room)
     (list (goal.at.returns-then-entries-eq0 c).Else-not-has_room) (good (goal.at.returns-then-entries-eq0 c).Else-not-has_room)
     (e (goal.at.returns-then-entries-eq0 c).Else-not-has_room) (z (goal.at.returns-then-entries-eq0 c).Else-not-has_room)

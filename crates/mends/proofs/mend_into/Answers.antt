@@ -5,7 +5,7 @@ use lib.ListN.{length, drop}
 use lib.Seq.{sets}
 use Rattle.pieces.specs.rule.Pieces.{cut_from}
 use Rattle.mends.specs.Mend.{stored_on, stored_length, mended_next, mended_length, entries_next, entries_length, width_next}
-use Rattle.mends.specs.Mend.{mended_over, entries_over, left_within, piece_length, piece_stored}
+use Rattle.mends.specs.Mend.{mended_over, entries_over, left_within, piece_length_rest, piece_stored}
 use Rattle.mends.proofs.mend_into.Goals as goal
 
 pub loop-i-init : goal.loop-i-init
@@ -38,7 +38,7 @@ overflow_mul-p c =
     let h : length a.list.now < 18446744073709551616 = omega arith in
     let u = c.note_lows-p.ensures.spans in
     let n = entries_length _ a.e a.width _ _ u (l.number + 1) in
-    let m = piece_length _ a.e a.width _ _ u (l.number + 1) in
+    let m = piece_length_rest _ a.e a.width _ _ u (l.number + 1) in
     omega (arith, h, n, m, l.invariant.7, l.invariant.8, c.note_lows-p.ensures.stored.next)
 
 pub overflow_add-k : goal.overflow_add-k
@@ -48,7 +48,7 @@ overflow_add-k c =
     let h : length a.list.now < 18446744073709551616 = omega arith in
     let u = c.note_lows-p.ensures.spans in
     let n = entries_length _ a.e a.width _ _ u (l.number + 1) in
-    let m = piece_length _ a.e a.width _ _ u (l.number + 1) in
+    let m = piece_length_rest _ a.e a.width _ _ u (l.number + 1) in
     omega (arith, h, n, m, l.invariant.7, l.invariant.8, c.note_lows-p.ensures.stored.next)
 
 pub note_rest-k-requires : goal.note_rest-k-requires
@@ -58,7 +58,7 @@ note_rest-k-requires c =
     let u = c.note_lows-p.ensures.spans in
     let s = c.note_lows-p.ensures.stored in
     let n = entries_length _ a.e a.width _ _ u (l.number + 1) in
-    let m = piece_length _ a.e a.width _ _ u (l.number + 1) in record {
+    let m = piece_length_rest _ a.e a.width _ _ u (l.number + 1) in record {
       from_le_stop = (u.on, omega (arith, u.within), omega (arith, l.invariant.1, l.invariant.0, c.loop-i-test.true));
       p_in_bounds = omega (arith, n, m, l.invariant.7, s.next, stored_length s);
     }

@@ -2,7 +2,7 @@
 -- 0
 -- here". "XML blocks alike" for the point's code.
 use Rattle.std.specs.Prelude.{Bool, false, cond, not, ◌&&◌, List, [], ◌∷◌, ◌++◌, ℕ, suc}
-use Rattle.std.proofs.Math.Option.{Option, none, some}
+use Rattle.std.proofs.Math.Option.{none, some}
 use Rattle.std.specs.Int.Signed.{lt_z}
 use Rattle.layout.specs.rule.Layout.{most_lines}
 use Rattle.scan.specs.rule.Loop.{Next, Again, Done}
@@ -11,11 +11,11 @@ use Rattle.pairs.specs.rule.Stand.{bare_of}
 use Rattle.tokens.specs.rule.Gap.{fault}
 use Rattle.survey.specs.rule.Survey.{Amount, Range, Line, Block}
 use Rattle.survey.specs.rule.Width.{scaled}
-use Rattle.reading.specs.rule.Result.{Result, Is, Not, Reader, ◌>>=◌, ◌>>◌, give, repeat, bind}
+use Rattle.reading.specs.rule.Result.{Reader, ◌>>=◌, ◌>>◌, give, repeat}
 use Rattle.reading.specs.rule.Least.{Charge, ◌when◌, judged}
 use Rattle.reading.specs.rule.Values.{form_is, large, unlike_amounts, line_charges, with_line, range_from, unlisted}
 use Rattle.xml_reading.specs.rule.Word.{VALUES, RANGE, VALUE, FROM, TO, CODE}
-use Rattle.xml_reading.specs.rule.Open.{Open, start, shut, within_element, either_element, due, refuse, unknown_at, on_tag, nothing}
+use Rattle.xml_reading.specs.rule.Open.{Open, start, shut, within_element, either_element, due, unknown_at, on_tag, nothing}
 use Rattle.xml_reading.specs.rule.Open.{enter}
 use Rattle.xml_reading.specs.rule.Element.{amount_in, body}
 

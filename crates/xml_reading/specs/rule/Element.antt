@@ -3,12 +3,11 @@
 -- by lowest number, equal numbers by place." Texts, POSITION, SPREAD and SIZE, by the charges that 1.1 has for them. "A text tabled: place
 -- just after its tag's `>`, length to its end tag's `<`." "An unknown attribute is 51 at its name."
 -- Each reader begins behind the name of its start tag, whose < stands at p.
-use Rattle.std.specs.Prelude.{Bool, cond, not, List, [], ◌∷◌, ◌++◌, ℕ, ◌+◌, ◌-◌, eqb, length, take, drop}
+use Rattle.std.specs.Prelude.{Bool, cond, List, [], ◌∷◌, ◌++◌, ℕ, ◌+◌, ◌-◌, eqb, length, take, drop}
 use Rattle.std.proofs.Math.Option.{Option, none, some, get_or}
 use Rattle.scan.specs.rule.Number.{decimal_of}
 use Rattle.spans.specs.rule.Heard.{Heard, All, Ill, heard}
 use Rattle.forms.specs.rule.Form.{fits_of}
-use Rattle.tags.specs.declared.Held.{Held}
 use Rattle.tags.specs.rule.Tag.{tag_of}
 use Rattle.pairs.specs.rule.Stand.{bare_of}
 use Rattle.contents.specs.rule.Content.{content_of}
@@ -16,8 +15,8 @@ use Rattle.contents.specs.declared.Content.{Content}
 use Rattle.contents.specs.declared.Content.TheVariants as content
 use Rattle.tokens.specs.rule.Gap.{fault}
 use Rattle.survey.specs.rule.Survey.{Figure, Amount, KeptText, Spread}
-use Rattle.reading.specs.rule.Result.{Result, Is, Not, Reader, ◌>>=◌, bind}
-use Rattle.reading.specs.rule.Least.{Charge, ◌when◌, judged}
+use Rattle.reading.specs.rule.Result.{Result, Is, Not, Reader, ◌>>=◌}
+use Rattle.reading.specs.rule.Least.{Charge, judged}
 use Rattle.reading.specs.rule.Token.{amount_read}
 use Rattle.reading.specs.rule.Statement.{Position, position_charges, spread_charges, size_charges}
 use Rattle.xml_reading.specs.rule.Word.{POSITION, START, FINISH, SPREAD, SUBFIELDS, WIDTH, SIZE}

@@ -5,21 +5,21 @@
 -- own, exactly one has the decoded text as its name, and that is an earlier logical; else, and on a serial or weight, 52 at the text's
 -- place. A later variable with the name of a logical that has served as a filter is 52 at its name's text. Names compare by decoded
 -- characters, with standardnames case aside."
-use Rattle.std.specs.Prelude.{Bool, true, false, cond, not, ◌&&◌, ◌||◌, List, [], ◌∷◌, ◌++◌, map, ℕ, zero, suc, ◌+◌, ◌-◌, eqb, ltb, length, take, drop}
+use Rattle.std.specs.Prelude.{Bool, true, false, cond, not, ◌&&◌, ◌||◌, List, [], ◌∷◌, ◌++◌, map, ℕ, zero, suc, ◌+◌, ◌-◌, eqb, ltb}
+use Rattle.std.specs.Prelude.{take, drop}
 use Rattle.signs.specs.declared.Sign.{Sign}
 use Rattle.signs.specs.declared.Sign.TheVariants.{Byte, Break}
 use Rattle.names.specs.rule.Standard.{agree}
 use Rattle.spans.specs.rule.Heard.{heard}
 use Rattle.forms.specs.rule.Form.{form_kind, use_of}
-use Rattle.tags.specs.declared.Held.{Held}
 use Rattle.tags.specs.rule.Tag.{tag_of}
 use Rattle.contents.specs.rule.Content.{begun, signs_from}
 use Rattle.tokens.specs.rule.Gap.{fault}
-use Rattle.survey.specs.rule.Survey.{Figure, KeptText, Variable, Content, logical}
+use Rattle.survey.specs.rule.Survey.{Figure, KeptText, Variable}
 use Rattle.survey.specs.rule.Width.{some_of}
 use Rattle.survey.specs.rule.Table.{type_of}
-use Rattle.reading.specs.rule.Result.{Result, Is, Not, Reader, ◌>>=◌, bind}
-use Rattle.reading.specs.rule.Least.{Charge, ◌when◌, judged}
+use Rattle.reading.specs.rule.Result.{Reader, ◌>>=◌}
+use Rattle.reading.specs.rule.Least.{◌when◌, judged}
 use Rattle.reading.specs.rule.Variable.{ident_charges}
 use Rattle.xml_reading.specs.rule.Word.{IDENT, TYPE, USE, NAME, FILTER}
 use Rattle.xml_reading.specs.rule.Open.{unknown_at, on_tag, entered}

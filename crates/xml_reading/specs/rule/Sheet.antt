@@ -2,7 +2,7 @@
 -- href,
 -- languages: each 51." "4 in XML a version not 1.1 or 1.2." "Before `<sss`: another start tag 51, a processing instruction 51", anything
 -- else 50. "Behind `</sss>` only white space and comments, else 50 there (51 for a processing instruction)."
-use Rattle.std.specs.Prelude.{Bool, true, false, cond, not, ◌&&◌, List, [], ◌∷◌, ◌++◌, ℕ, suc, ◌+◌, ◌-◌, eqb, drop, take}
+use Rattle.std.specs.Prelude.{Bool, cond, not, ◌&&◌, List, [], ◌∷◌, ◌++◌, ℕ, suc, ◌+◌, ◌-◌, eqb, drop, take}
 use Rattle.layout.specs.rule.Layout.{most_rows}
 use Rattle.scan.specs.rule.Loop.{Next, Again, Done}
 use Rattle.markup.specs.rule.Bytes.{stands}
@@ -20,8 +20,8 @@ use Rattle.prologs.specs.declared.Prolog.TheVariants as prolog
 use Rattle.prologs.specs.declared.Tail.{Tail}
 use Rattle.prologs.specs.declared.Tail.TheVariants as tail
 use Rattle.tokens.specs.rule.Gap.{fault}
-use Rattle.reading.specs.rule.Result.{Result, Is, Not, Reader, ◌>>=◌, ◌>>◌, give, repeat, bind}
-use Rattle.reading.specs.rule.Least.{Charge, ◌when◌, judged}
+use Rattle.reading.specs.rule.Result.{Result, Is, Not, Reader, ◌>>=◌, ◌>>◌, give, repeat}
+use Rattle.reading.specs.rule.Least.{◌when◌}
 use Rattle.xml_reading.specs.rule.Word.{SSS, VERSION, OPTIONS, LANGUAGES, DATE, TIME, ORIGIN, USER, SURVEY, NAME, TITLE, RECORD}
 use Rattle.xml_reading.specs.rule.Word.{IDENT, HREF, VARIABLE, ONE-ONE, ONE-TWO}
 use Rattle.xml_reading.specs.rule.Open.{Open, start, shut, within_element, misplaced, either_element, due, over, unknown_at, on_tag}

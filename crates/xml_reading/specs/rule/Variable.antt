@@ -1,17 +1,17 @@
 -- "variable(name, label, position, filter?, then single, quantity: values; multiple: spread?, values; character: size; logical: nothing)."
 -- "Version 1.1 has no .. filter." "Width after `</variable>`", 7 at start's value.
-use Rattle.std.specs.Prelude.{Bool, true, false, cond, List, [], ◌∷◌, ℕ, eqb}
+use Rattle.std.specs.Prelude.{Bool, true, false, cond, List, ℕ, eqb}
 use Rattle.std.proofs.Math.Option.{Option, none, some}
 use Rattle.survey.specs.rule.Survey.{KeptText, Content, single, multiple, quantity, character, logical, Spread, Block}
 use Rattle.survey.specs.rule.Table.{lines_all}
-use Rattle.reading.specs.rule.Result.{Result, Is, Not, Reader, ◌>>=◌, ◌>>◌, give, bind}
+use Rattle.reading.specs.rule.Result.{Reader, ◌>>=◌, ◌>>◌, give}
 use Rattle.reading.specs.rule.Statement.{Position}
 use Rattle.reading.specs.rule.Variable.{room, variable_of, held}
 use Rattle.xml_reading.specs.rule.Word.{VARIABLE, NAME, LABEL, POSITION, FILTER, SPREAD, VALUES, SIZE}
 use Rattle.xml_reading.specs.rule.Open.{Open, within_element, either_element, due, over}
 use Rattle.xml_reading.specs.rule.Element.{text, position, spread, size}
 use Rattle.xml_reading.specs.rule.Block.{rich, values}
-use Rattle.xml_reading.specs.rule.Role.{XmlEntry, Title, variables_of, title, naming, filter}
+use Rattle.xml_reading.specs.rule.Role.{XmlEntry, variables_of, title, naming, filter}
 
 -- what the preface says that the variables go by: version 1.1, languages, standardnames; and the file's encoding
 pub record Manner : Type 0 where

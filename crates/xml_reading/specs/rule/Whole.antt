@@ -2,7 +2,7 @@
 -- the
 -- elements; then, with standardnames, 9 at the text's place, and 10. "The first header number becomes 12 for XML"; rows have use and
 -- filter.
-use Rattle.std.specs.Prelude.{Bool, true, false, cond, List, [], ◌∷◌, ◌++◌, map, ℕ, zero, suc, ◌+◌, ltb, ℤ, length, take}
+use Rattle.std.specs.Prelude.{Bool, cond, List, [], ◌∷◌, ◌++◌, map, ℕ, zero, suc, ◌+◌, ltb, ℤ, length, take}
 use Rattle.layout.specs.rule.Layout.{mark_xml, header_size, lines_base}
 use Rattle.layout.specs.declared.Columns.{Columns}
 use Rattle.layout.specs.declared.Header.{Header}

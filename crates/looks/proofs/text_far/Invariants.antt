@@ -1,0 +1,12 @@
+-- `looks::text_far` meets its contract. The invariant: a text goes on at each byte so far.
+use mathlib.Core.Path.{◌≡◌}
+use Prim.Native.Nat.{◌-◌, ◌≤◌}
+use lib.ListN.{length}
+use Rattle.looks.specs.Each.{Each, On}
+use Rattle.looks.proofs.text_far.Given as goal
+
+abbrev pub invariant-loop-i : goal.invariant-loop-i
+invariant-loop-i l = (8 ≤ length l.d) × (l.last ≡ length l.d - 8) × Each (On l.d) l.from l.i
+
+abbrev pub decreases-loop-i : goal.decreases-loop-i
+decreases-loop-i l = length l.d - l.i

@@ -1,0 +1,7 @@
+use Rattle.steps.specs.Step.{keyword_past}
+use Rattle.pages.proofs.past_values.Goals as goal
+
+pub returns : goal.returns
+unfolding keyword_past
+returns c =
+    rw (c.past_word.ensures, c.past_gap-g.ensures)

@@ -1,0 +1,6 @@
+use Rattle.steps.specs.Step.{statement_found}
+use Rattle.steps.proofs.find_statement.Goals as goal
+
+pub returns : goal.returns
+unfolding statement_found
+returns c = rw (c.find_here.ensures, c.past_notes-g.ensures)
