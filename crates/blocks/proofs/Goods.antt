@@ -1,23 +1,23 @@
 -- A BLOCK THAT WAS READ IS GOOD: the limits of its type, its range and its lines, as values' specs/Good says it of the books.
 use mathlib.Core.Path.{◌≡◌, refl, ◌∙◌, sym, ap}
 use mathlib.Core.Logic.{◌⊎◌, inl, inr, ⊎_elim}
-use mathlib.Core.Bool.{Bool, true, false, cond, not, ◌&&◌, ◌||◌}
+use mathlib.Core.Bool.{Bool, true, false, cond, ◌||◌}
 use mathlib.Core.List.{List, [], ◌∷◌, ◌++◌, map, append_assoc}
 use mathlib.Core.Option.{Option, none, some}
 use Prim.Native.Nat.{ℕ, zero, suc, ◌+◌, ◌-◌, ◌*◌, ◌^◌, ◌≤◌, ◌<◌}
 use native.Mathlib.Nat.{pow-suc, pow-zero, mul-one, one-mul, mul_comm, mul_assoc, mul-le-mul_right, le_trans, eq-or-lt_of_le}
 use native.Mathlib.Omega.{arith}
-use lib.Dec.{eqb, ltb, leb}
+use lib.Dec.{eqb, ltb}
 use lib.IntN.{ℤ, pos, negsuc}
 use lib.ListN.{length, length-append}
 use lib.Signed.{le_z, lt_z}
 use borrow.Author.Tests.{ltb-true, ltb-false, le-leb, leb-false, eqb-true, eqb-false, not-false}
 use Rattle.below.specs.Below.{holds_not, and_left, and_right, any_holds}
-use Rattle.cells.specs.rule.Cell.{number_of, signed_of, eq_z}
+use Rattle.cells.specs.rule.Cell.{signed_of, eq_z}
 use Rattle.scan.specs.rule.Number.{is_digit, decimal_of}
 use Rattle.scan.specs.Number.{capped}
 use Rattle.scan.proofs.Orders.{digit_bounds}
-use Rattle.scan.specs.rule.Loop.{Next, Again, Done}
+use Rattle.scan.specs.rule.Loop.{Again}
 use Rattle.layout.specs.rule.Layout.{most_lines}
 use Rattle.markup.specs.rule.Grammar.{Each, no_more, each}
 use Rattle.markup.specs.declared.Skip.{Skip}
@@ -30,7 +30,6 @@ use Rattle.pairs.specs.rule.Stand.{stand_of, shut_of, bare_of}
 use Rattle.pairs.specs.declared.Stand.{Stand}
 use Rattle.pairs.specs.declared.Stand.TheVariants as stand
 use Rattle.elements.proofs.Bounds.{start_within}
-use Rattle.values.specs.declared.Block as books
 use Rattle.values.specs.declared.Said.{Said}
 use Rattle.values.specs.Value.{scaled_of, point_of}
 use Rattle.values.specs.Line.{number_on, numbers, number_at, repeated_in}
@@ -44,8 +43,7 @@ use Rattle.survey.specs.rule.Survey.{Amount, Range, Line, Block}
 use Rattle.survey.specs.rule.Width.{some_of, each_of, range_ends, amounts, scaled, decimals_in, bare, point_in}
 use Rattle.survey.specs.rule.Table.{from_of, to_of}
 use Rattle.reading.specs.rule.Result.{Result, Is, Not, bind, turn, repeat}
-use Rattle.reading.specs.rule.Token.{amount_read}
-use Rattle.reading.specs.rule.Values.{form_is, large, unlike_amounts, line_charges, with_line, range_from, unlisted}
+use Rattle.reading.specs.rule.Values.{form_is, large, unlike_amounts, line_charges, with_line, unlisted}
 use Rattle.bridge.specs.Lowest.{never, Clear, clear}
 use Rattle.bridge.specs.Facts.{capped_small}
 use Rattle.bridge.specs.Blocks.{form_same, large_same, small}

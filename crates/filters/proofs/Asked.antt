@@ -18,7 +18,8 @@ use Rattle.names.specs.rule.Standard.{name_at}
 use Rattle.names.proofs.Standards.{keys_fault}
 use Rattle.survey.specs.rule.Survey.{KeptText}
 use Rattle.survey.specs.rule.Width.{some_of}
-use Rattle.xml_reading.specs.rule.Role.{XmlEntry, may_serve, use_wrong, signs_in, same_name, is_name_of, has_served, count_named, filter_from}
+use Rattle.xml_reading.specs.rule.Role.{XmlEntry, may_serve, use_wrong, signs_in, same_name, is_name_of, has_served, count_named}
+use Rattle.xml_reading.specs.rule.Role.{filter_from}
 use Rattle.xml_reading.specs.rule.Role.{filter_of}
 use Rattle.xml_reading.specs.rule.Whole.{xml_names}
 use Rattle.filters.specs.rule.Kept.{At, name_of, entry_kind}
@@ -139,7 +140,8 @@ module _ (latin standard : Bool) (d : List ℕ) (rows : List ℤ) (count : ℕ) 
   pub found_begin : FoundFrom 0
   found_begin l h = refl
 
-  found_step : (i : ℕ) (q : Bool) → i < count → FoundFrom i → q ≡ (same (name_in rows i) && eqb (column_in rows i 1) 5) → (l : List XmlEntry)
+  found_step : (i : ℕ) (q : Bool) → i < count → FoundFrom i → q ≡ (same (name_in rows i) && eqb (column_in rows i 1) 5)
+      → (l : List XmlEntry)
       → RowsOf rows count l
       → filter_from same 0 l ≡ cond q (i + 1) (filter_from same (i + 1) (drop (i + 1) l))
   unfolding filter_from
@@ -230,14 +232,15 @@ pub names_said : (latin : Bool) (d : List ℕ) (rows : List ℤ) (keys : List �
     → ((j : ℕ) → j < i → get_or keys j 0 ≡ key_of 0 0 (signs_in latin d (name_in rows j))) → r ≡ fault_of keys count
     → NamesSaid latin d rows count r
 names_said latin d rows keys count i r q g e = record
-    { is = λ l h. e ∙ ap (fault_of keys) (sym (names_count latin d l ∙ h.counted)) ∙ keys_fault keys (xml_names latin d l) (told l h) } where
-      told : (l : List XmlEntry) → RowsOf rows count l → (j : ℕ) → j < length (xml_names latin d l) → get_or keys j 0
-          ≡ key_of 0 0 (name_at (xml_names latin d l) j)
-      told l h j m =
-          let n = h.counted in
-          let o = names_count latin d l in
-          let x = next_row l j (omega arith) in
-          g j (omega arith) ∙ ap (key_of 0 0) (ap (signs_in latin d) (row_reads h x.at).name ∙ sym (name_at_lem latin d x.at))
+    { is = λ l h. e ∙ ap (fault_of keys) (sym (names_count latin d l ∙ h.counted)) ∙ keys_fault keys (xml_names latin d l) (told l h) }
+  where
+    told : (l : List XmlEntry) → RowsOf rows count l → (j : ℕ) → j < length (xml_names latin d l) → get_or keys j 0
+        ≡ key_of 0 0 (name_at (xml_names latin d l) j)
+    told l h j m =
+        let n = h.counted in
+        let o = names_count latin d l in
+        let x = next_row l j (omega arith) in
+        g j (omega arith) ∙ ap (key_of 0 0) (ap (signs_in latin d) (row_reads h x.at).name ∙ sym (name_at_lem latin d x.at))
 
 pub keys_more : (f : ℕ → ℕ) (keys : List ℕ) (i k : ℕ) → i < length keys → ((j : ℕ) → j < i → get_or keys j 0 ≡ f j) → k ≡ f i
     → (j : ℕ) → j < i + 1 → get_or (set keys i k) j 0 ≡ f j

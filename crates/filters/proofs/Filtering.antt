@@ -57,11 +57,13 @@ module _ (f : KeptText → Bool) where
     pub is : n ≡ k + place
     pub sole : Sole l place
 
-  first_only : {v : XmlEntry} {l : List XmlEntry} {j : ℕ} {w : XmlEntry} → At (v ∷ l) j w → count_named f l ≡ 0 → f (name_of w) ≡ true → j ≡ 0
+  first_only : {v : XmlEntry} {l : List XmlEntry} {j : ℕ} {w : XmlEntry} → At (v ∷ l) j w → count_named f l ≡ 0 → f (name_of w) ≡ true → j
+      ≡ 0
   first_only here c y = refl
   first_only (there a) c y = holds_not y (none_named a c)
 
-  later_only : {v : XmlEntry} {l : List XmlEntry} {i j : ℕ} {w : XmlEntry} → f (name_of v) ≡ false → Sole l i → At (v ∷ l) j w → f (name_of w)
+  later_only : {v : XmlEntry} {l : List XmlEntry} {i j : ℕ} {w : XmlEntry} → f (name_of v) ≡ false → Sole l i → At (v ∷ l) j w
+      → f (name_of w)
       ≡ true
       → j ≡ suc i
   later_only g s here y = holds_not y g

@@ -27,11 +27,13 @@ use Rattle.reading.specs.rule.Statement.{Position}
 use Rattle.reading.specs.rule.Variable.{ident_charges, variable_of, held}
 use Rattle.bridge.specs.Lowest.{never, Clear, clear}
 use Rattle.xml_reading.specs.rule.Word.{IDENT, TYPE, USE, NAME, LABEL, POSITION, FILTER, SIZE, VARIABLE, RECORD}
-use Rattle.xml_reading.specs.rule.Open.{Open, start, shut, within_element, misplaced, on_bare, either_element, due, over, unknown_at, on_tag}
+use Rattle.xml_reading.specs.rule.Open.{Open, start, shut, within_element, misplaced, on_bare, either_element, due, over, unknown_at}
+use Rattle.xml_reading.specs.rule.Open.{on_tag}
 use Rattle.xml_reading.specs.rule.Open.{entered}
 use Rattle.xml_reading.specs.rule.Element.{text, position, size, figure_of}
 use Rattle.xml_reading.specs.rule.Block.{rich}
-use Rattle.xml_reading.specs.rule.Role.{XmlEntry, Title, variables_of, type_at, use_at, may_serve, use_wrong, same_name, is_name_of, has_served}
+use Rattle.xml_reading.specs.rule.Role.{XmlEntry, Title, variables_of, type_at, use_at, may_serve, use_wrong, same_name, is_name_of}
+use Rattle.xml_reading.specs.rule.Role.{has_served}
 use Rattle.xml_reading.specs.rule.Role.{title}
 use Rattle.xml_reading.specs.rule.Role.{naming, filter, filter_of}
 use Rattle.xml_reading.specs.rule.Variable.{Manner, Then, with, filtered, block, ended, content, variable}
@@ -45,7 +47,8 @@ use Rattle.filters.proofs.Texts.{bound, judged_is, text_lies}
 -- ---- the use
 use_known : (d : List ℕ) (v e : ℕ) → use_at d v e ≤ 2
 unfolding use_at use_of
-use_known d v e = by (eqb v 0) (heard_word serial (heard (take (e - v) (drop v d)) 0)) (heard_word weight (heard (take (e - v) (drop v d)) 0))
+use_known d v e = by (eqb v 0) (heard_word serial (heard (take (e - v) (drop v d)) 0))
+    (heard_word weight (heard (take (e - v) (drop v d)) 0))
   where
     by : (p q r : Bool) → cond p 0 (cond q 1 (cond r 2 0)) ≤ 2
     by true q r = omega arith

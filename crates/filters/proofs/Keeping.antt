@@ -18,7 +18,8 @@ use Rattle.cells.specs.rule.Cell.{cell, count_of}
 use Rattle.layout.specs.rule.Layout.{row_size, row_base, columns_at}
 use Rattle.layout.specs.declared.Header.{Header}
 use Rattle.rows.specs.rule.Cells.{row_cells, header_cells}
-use Rattle.uses.specs.rule.Uses.{use_known, serial_typed, weight_typed, unfiltered, own_use, filter_good, use_good, is_use, uses_of, uses_good}
+use Rattle.uses.specs.rule.Uses.{use_known, serial_typed, weight_typed, unfiltered, own_use, filter_good, use_good, is_use, uses_of}
+use Rattle.uses.specs.rule.Uses.{uses_good}
 use Rattle.uses.specs.rule.Uses.{specials_none, xml_good, kind_good}
 use Rattle.survey.specs.rule.Table.{variable_columns, lines_of, lines_all, all_lines}
 use Rattle.xml_reading.specs.rule.Role.{XmlEntry, variables_of}
@@ -64,7 +65,7 @@ module _ (latin standard : Bool) (d : List ℕ) (l : List XmlEntry) (w : XmlEntr
     known = r.known;
     serial = r.serial;
     weight = r.weight;
-    use-unfiltered = r.use_unfiltered;
+    use_unfiltered = r.use_unfiltered;
     filter = λ f e. before_more i f (r.filter f e);
   }
 
@@ -77,7 +78,7 @@ module _ (latin standard : Bool) (d : List ℕ) (l : List XmlEntry) (w : XmlEntr
     known = j.known;
     serial = j.serial;
     weight = j.weight;
-    use-unfiltered = λ h. unfiltered_new w.filter refl h;
+    use_unfiltered = λ h. unfiltered_new w.filter refl h;
     filter = λ f g.
         let x = (j.filter f g).filters in
         let b = at_below x.before in
@@ -213,7 +214,8 @@ unfolding xml_rows
 rows_long b [] = refl
 rows_long b (v ∷ l) =
     let n = b + length (lines_of v.variable) in
-    length-append (row_cells (columns_for b v)) (xml_rows n l) ∙ (let e = row_long (columns_for b v) in let f = rows_long n l in omega arith)
+    length-append (row_cells (columns_for b v)) (xml_rows n l)
+    ∙ (let e = row_long (columns_for b v) in let f = rows_long n l in omega arith)
 
 pub table_row : (l : List XmlEntry) (i k : ℕ) → i < length l → k < row_size → cell (xml_table l) (row_base i + k)
     ≡ cell (xml_rows 0 l) (row_size * i + k)

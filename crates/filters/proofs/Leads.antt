@@ -58,7 +58,8 @@ step_is : (d : List ℕ) (p : ℕ) → p < length d → Plain (get_or d p 0) →
 unfolding step_of
 step_is d p h x = rw (lt-leb (length d) p h, x.no_mark, x.no_refer, x.no_bracket, x.no_return)
 
-pub plain_signs : (l : Bool) (d : List ℕ) (p : ℕ) → p < length d → plain_of (get_or d p 0) ≡ true → signs_from l d (begun p) ≡ Byte (get_or d p 0)
+pub plain_signs : (l : Bool) (d : List ℕ) (p : ℕ) → p < length d → plain_of (get_or d p 0) ≡ true → signs_from l d (begun p)
+    ≡ Byte (get_or d p 0)
     ∷ signs_from l d (begun (p + 1))
 unfolding signs_of
 plain_signs l d p h e =
@@ -80,7 +81,8 @@ module _ (standard : Bool) (s t : List ℕ) (p q : ℕ) where
 
   shares_step : (k : ℕ) → p + k < length s → q + k < length t → plain_of (get_or s (p + k) 0) ≡ true → plain_of (get_or t (q + k) 0) ≡ true
       → (b : Bool)
-      → b ≡ cond standard (eqb (upper_of (get_or s (p + k) 0)) (upper_of (get_or t (q + k) 0))) (eqb (get_or s (p + k) 0) (get_or t (q + k) 0))
+      → b ≡ cond standard (eqb (upper_of (get_or s (p + k) 0)) (upper_of (get_or t (q + k) 0)))
+      (eqb (get_or s (p + k) 0) (get_or t (q + k) 0))
       → Shares k → (l : Bool)
       → alike standard (signs_from l s (begun p)) (signs_from l t (begun q))
       ≡ (b && alike standard (signs_from l s (begun (p + k + 1))) (signs_from l t (begun (q + k + 1))))
@@ -91,16 +93,20 @@ module _ (standard : Bool) (s t : List ℕ) (p q : ℕ) where
       (signs_from l t (begun (q + k + 1)))
       ∙ ap (λ (z : Bool). z && alike standard (signs_from l s (begun (p + k + 1))) (signs_from l t (begun (q + k + 1)))) (sym e))
 
-  pub shares_more : (k : ℕ) → p + k < length s → q + k < length t → plain_of (get_or s (p + k) 0) ≡ true → plain_of (get_or t (q + k) 0) ≡ true
-      → true ≡ cond standard (eqb (upper_of (get_or s (p + k) 0)) (upper_of (get_or t (q + k) 0))) (eqb (get_or s (p + k) 0) (get_or t (q + k) 0))
+  pub shares_more : (k : ℕ) → p + k < length s → q + k < length t → plain_of (get_or s (p + k) 0) ≡ true → plain_of (get_or t (q + k) 0)
+      ≡ true
+      → true ≡ cond standard (eqb (upper_of (get_or s (p + k) 0)) (upper_of (get_or t (q + k) 0)))
+      (eqb (get_or s (p + k) 0) (get_or t (q + k) 0))
       → Shares k → Shares (k + 1)
   shares_more k i j x y e h l =
       let a : p + (k + 1) ≡ p + k + 1 = omega arith in
       let c : q + (k + 1) ≡ q + k + 1 = omega arith in
       shares_step k i j x y true e h l ∙ rw (a, c)
 
-  pub lead_apart : (k : ℕ) → p + k < length s → q + k < length t → plain_of (get_or s (p + k) 0) ≡ true → plain_of (get_or t (q + k) 0) ≡ true
-      → false ≡ cond standard (eqb (upper_of (get_or s (p + k) 0)) (upper_of (get_or t (q + k) 0))) (eqb (get_or s (p + k) 0) (get_or t (q + k) 0))
+  pub lead_apart : (k : ℕ) → p + k < length s → q + k < length t → plain_of (get_or s (p + k) 0) ≡ true → plain_of (get_or t (q + k) 0)
+      ≡ true
+      → false ≡ cond standard (eqb (upper_of (get_or s (p + k) 0)) (upper_of (get_or t (q + k) 0)))
+      (eqb (get_or s (p + k) 0) (get_or t (q + k) 0))
       → Shares k
       → Leads standard s t p q lead.Apart
   lead_apart k i j x y e h = record { says = shares_step k i j x y false e h; first = omega arith; second = omega arith }

@@ -33,7 +33,8 @@ rows_with b (w ∷ l) v =
     let n = length (lines_of w.variable) in
     let e : b + n + lines_all (variables_of l) ≡ b + (n + lines_all (variables_of l)) = omega arith in
     ap (λ (s : List ℤ). row_cells (columns_for b w) ++ s) (rows_with (b + n) l v ∙ rw e)
-    ∙ sym (append_assoc (row_cells (columns_for b w)) (xml_rows (b + n) l) (row_cells (columns_for (b + (n + lines_all (variables_of l))) v)))
+    ∙ sym (append_assoc (row_cells (columns_for b w)) (xml_rows (b + n) l)
+    (row_cells (columns_for (b + (n + lines_all (variables_of l))) v)))
 
 pub rows_none : (rows : List ℤ) → RowsOf rows 0 []
 unfolding xml_rows
@@ -71,7 +72,8 @@ pub record NamesLie (n : ℕ) (l : List XmlEntry) : Type 0 where
 pub lie_none : (n : ℕ) → NamesLie n []
 lie_none n = record { lie = λ i v a. absurd (at_none a refl) }
 
-pub lie_more : (n : ℕ) (l : List XmlEntry) (w : XmlEntry) → NamesLie n l → (name_of w).place + (name_of w).length ≤ n → NamesLie n (l ++ w ∷ [])
+pub lie_more : (n : ℕ) (l : List XmlEntry) (w : XmlEntry) → NamesLie n l → (name_of w).place + (name_of w).length ≤ n
+    → NamesLie n (l ++ w ∷ [])
 lie_more n l w x h = record { lie = λ i v a. by i v (at_split l w a) } where
   by : (i : ℕ) (v : XmlEntry) → Split l w i v → (name_of v).place + (name_of v).length ≤ n
   by i v (old a) = x.lie i v a

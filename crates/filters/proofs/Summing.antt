@@ -70,7 +70,8 @@ unfolding sum_from step_of
 sum_end latin d at a h = rw (signs_over latin d (begun at) (Fault 50 at) (rw (le-leb (length d) at h)))
 
 pub sum_plain : (latin : Bool) (d : List ℕ) (p a : ℕ) → p < length d → plain_of (get_or d p 0) ≡ true
-    → sum_from a (signs_from latin d (begun p)) ≡ sum_from (sum_with a (folded_of (Byte (get_or d p 0)))) (signs_from latin d (begun (p + 1)))
+    → sum_from a (signs_from latin d (begun p)) ≡ sum_from (sum_with a (folded_of (Byte (get_or d p 0))))
+    (signs_from latin d (begun (p + 1)))
 unfolding sum_from
 sum_plain latin d p a h e = rw (plain_signs latin d p h e)
 
@@ -165,7 +166,8 @@ module _ (latin : Bool) (d : List ℕ) (rows : List ℤ) (i : ℕ) (sums : List 
     pub room_filtered : Summing latin d rows (i + 1) (set with b 1)
     room_filtered = record {
       room = length-set with b 1 ∙ with_room;
-      names = λ j h. get_or-set_other with b j 1 0 (λ q. omega (arith, bin, bin_far (sum_in latin d (name_in rows (column_in rows i 19 - 1)))))
+      names = λ j h. get_or-set_other with b j 1 0
+          (λ q. omega (arith, bin, bin_far (sum_in latin d (name_in rows (column_in rows i 19 - 1)))))
           ∙ with_names j h;
       served = λ j h n. ⊎_elim (here j) (λ m. kept j m n) (eq-or-lt_of_le (le j h));
     } where

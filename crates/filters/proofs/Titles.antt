@@ -82,7 +82,8 @@ module _ (met : ℕ → Bool) (earlier : List Variable) (knows : (n : ℕ) → m
       w at em q kind usage ≡ rest
   rest_sized s e = rw e rest_is
 
-  chained : titled_by (judge_ident met (length earlier) (to_number (Is x n))) u w at em q kind usage ≡ chain titled.Not (to (Is is n)) charges
+  chained : titled_by (judge_ident met (length earlier) (to_number (Is x n))) u w at em q kind usage
+      ≡ chain titled.Not (to (Is is n)) charges
   unfolding judge_ident wrong_ident chain ident_charges
   chained = by (ltb 4 x.digits) refl where
     five : Titled

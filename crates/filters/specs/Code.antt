@@ -76,7 +76,8 @@ lead_count (lead.Shared k) = k
 lead_count lead.Apart = 0
 
 pub record Leads (standard : Bool) (s t : List ℕ) (p q : ℕ) (r : Lead) : Type 0 where
-  pub says : (latin : Bool) → alike standard (signs_from latin s (begun p)) (signs_from latin t (begun q)) ≡ lead_says latin standard s t p q r
+  pub says : (latin : Bool) → alike standard (signs_from latin s (begun p)) (signs_from latin t (begun q))
+      ≡ lead_says latin standard s t p q r
   pub first : lead_count r ≤ length s - p
   pub second : lead_count r ≤ length t - q
 

@@ -78,8 +78,6 @@ shape_of-marks-in-Not c =
     let k = c.requires.standing.lines.holds.slots in
     search rules
 
--- left: argument 2: c.loop-place.invariant.inside
-
 pub overflow_add-last : goal.overflow_add-last
 overflow_add-last c = omega (
   arith,
