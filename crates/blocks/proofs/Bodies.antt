@@ -1,8 +1,8 @@
 -- Where an element that was read ends, and where its text lies: inside.
-use mathlib.Core.Path.{◌≡◌, refl, ◌∙◌, sym}
-use mathlib.Core.Bool.{Bool, true, false, cond, not}
+use mathlib.Core.Path.{◌≡◌, refl}
+use mathlib.Core.Bool.{Bool, true, false, cond}
 use mathlib.Core.List.{List, [], ◌∷◌}
-use Prim.Native.Nat.{ℕ, ◌+◌, ◌-◌, ◌≤◌, ◌<◌}
+use Prim.Native.Nat.{ℕ, ◌≤◌}
 use native.Mathlib.Omega.{arith}
 use lib.Dec.{eqb}
 use lib.ListN.{length}
@@ -19,10 +19,9 @@ use Rattle.contents.specs.rule.Content.{content_of}
 use Rattle.contents.specs.declared.Content.{Content}
 use Rattle.contents.specs.declared.Content.TheVariants as content
 use Rattle.contents.proofs.Exactly.{content_exactly}
-use Rattle.tokens.specs.rule.Gap.{fault}
-use Rattle.reading.specs.rule.Result.{Result, Is, Not}
-use Rattle.reading.specs.rule.Least.{Charge, ◌when◌}
-use Rattle.bridge.specs.Lowest.{never, Clear, none, clear}
+use Rattle.reading.specs.rule.Result.{Is}
+use Rattle.reading.specs.rule.Least.{Charge}
+use Rattle.bridge.specs.Lowest.{never, Clear, clear}
 use Rattle.xml_reading.specs.rule.Word.{VALUE}
 use Rattle.xml_reading.specs.rule.Open.{unknown_at, on_pair, nothing}
 use Rattle.xml_reading.specs.rule.Element.{Body, body_of, on_content, body}

@@ -1,13 +1,12 @@
 -- Charges of one number behind charges of lower ones: they count only where none of those is named.
-use mathlib.Core.Path.{◌≡◌, refl, sym}
+use mathlib.Core.Path.{◌≡◌, refl}
 use mathlib.Core.Bool.{Bool, true, false, cond}
 use mathlib.Core.List.{List, [], ◌∷◌, ◌++◌}
 use Prim.Native.Nat.{ℕ, ◌<◌}
 use native.Mathlib.Omega.{arith}
-use lib.Dec.{ltb}
 use borrow.Author.Tests.{lt-ltb}
 use Rattle.tokens.specs.declared.Fault.{Fault}
-use Rattle.reading.specs.rule.Result.{Result, Is, Not, bind}
+use Rattle.reading.specs.rule.Result.{Result, Is, bind}
 use Rattle.bridge.specs.Lowest.{never, Clear, Judged, fine, faulty, judged_view}
 use Rattle.reading.specs.rule.Least.{Charge, ◌when◌, named, goes_before, Finding, clean, first, lower, least, found, judged}
 

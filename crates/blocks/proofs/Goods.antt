@@ -1,23 +1,23 @@
 -- A BLOCK THAT WAS READ IS GOOD: the limits of its type, its range and its lines, as values' specs/Good says it of the books.
 use mathlib.Core.Path.{◌≡◌, refl, ◌∙◌, sym, ap}
 use mathlib.Core.Logic.{◌⊎◌, inl, inr, ⊎_elim}
-use mathlib.Core.Bool.{Bool, true, false, cond, not, ◌&&◌, ◌||◌}
+use mathlib.Core.Bool.{Bool, true, false, cond, ◌||◌}
 use mathlib.Core.List.{List, [], ◌∷◌, ◌++◌, map, append_assoc}
 use mathlib.Core.Option.{Option, none, some}
 use Prim.Native.Nat.{ℕ, zero, suc, ◌+◌, ◌-◌, ◌*◌, ◌^◌, ◌≤◌, ◌<◌}
 use native.Mathlib.Nat.{pow-suc, pow-zero, mul-one, one-mul, mul_comm, mul_assoc, mul-le-mul_right, le_trans, eq-or-lt_of_le}
 use native.Mathlib.Omega.{arith}
-use lib.Dec.{eqb, ltb, leb}
+use lib.Dec.{eqb, ltb}
 use lib.IntN.{ℤ, pos, negsuc}
 use lib.ListN.{length, length-append}
 use lib.Signed.{le_z, lt_z}
 use borrow.Author.Tests.{ltb-true, ltb-false, le-leb, leb-false, eqb-true, eqb-false, not-false}
 use Rattle.below.specs.Below.{holds_not, and_left, and_right, any_holds}
-use Rattle.cells.specs.rule.Cell.{number_of, signed_of, eq_z}
+use Rattle.cells.specs.rule.Cell.{signed_of, eq_z}
 use Rattle.scan.specs.rule.Number.{is_digit, decimal_of}
 use Rattle.scan.specs.Number.{capped}
 use Rattle.scan.proofs.Orders.{digit_bounds}
-use Rattle.scan.specs.rule.Loop.{Next, Again, Done}
+use Rattle.scan.specs.rule.Loop.{Again}
 use Rattle.layout.specs.rule.Layout.{most_lines}
 use Rattle.markup.specs.rule.Grammar.{Each, no_more, each}
 use Rattle.markup.specs.declared.Skip.{Skip}
@@ -30,7 +30,6 @@ use Rattle.pairs.specs.rule.Stand.{stand_of, shut_of, bare_of}
 use Rattle.pairs.specs.declared.Stand.{Stand}
 use Rattle.pairs.specs.declared.Stand.TheVariants as stand
 use Rattle.elements.proofs.Bounds.{start_within}
-use Rattle.values.specs.declared.Block as books
 use Rattle.values.specs.declared.Said.{Said}
 use Rattle.values.specs.Value.{scaled_of, point_of}
 use Rattle.values.specs.Line.{number_on, numbers, number_at, repeated_in}
@@ -44,8 +43,7 @@ use Rattle.survey.specs.rule.Survey.{Amount, Range, Line, Block}
 use Rattle.survey.specs.rule.Width.{some_of, each_of, range_ends, amounts, scaled, decimals_in, bare, point_in}
 use Rattle.survey.specs.rule.Table.{from_of, to_of}
 use Rattle.reading.specs.rule.Result.{Result, Is, Not, bind, turn, repeat}
-use Rattle.reading.specs.rule.Token.{amount_read}
-use Rattle.reading.specs.rule.Values.{form_is, large, unlike_amounts, line_charges, with_line, range_from, unlisted}
+use Rattle.reading.specs.rule.Values.{form_is, large, unlike_amounts, line_charges, with_line, unlisted}
 use Rattle.bridge.specs.Lowest.{never, Clear, clear}
 use Rattle.bridge.specs.Facts.{capped_small}
 use Rattle.bridge.specs.Blocks.{form_same, large_same, small}
@@ -241,7 +239,8 @@ module _ (quantity : Bool) where
   low_first : {k : ℕ} {a b : Amount} {l : List Amount} → Every (Low k) (a ∷ b ∷ l) → Low k a × Low k b
   low_first (also p (also q r)) = (p, q)
 
-  range_good_lem : (o : Option Range) (m : List Amount) → Every (Fine quantity (decimals_in (range_ends o ++ m))) (range_ends o ++ m) → OrderedIn o
+  range_good_lem : (o : Option Range) (m : List Amount) → Every (Fine quantity (decimals_in (range_ends o ++ m))) (range_ends o ++ m)
+      → OrderedIn o
       → RangeGood o (range_ends o ++ m)
   range_good_lem none m e u = record {
     unranged = λ q. (refl, refl);
@@ -294,8 +293,8 @@ module _ (quantity : Bool) where
       let l = amounts c in
       let r = range_good_lem c.range (map (λ x. x.value) c.lines) w.fine w.ordered in
       record {
-        few-decimals = few l w.fine;
-        point-code = code_low l;
+        few_decimals = few l w.fine;
+        point_code = code_low l;
         pointed = pointed l w.fine;
         shared = shared l w.fine;
         category = λ q. (no_decimals q l w.fine, rw (no_point q l w.fine));
@@ -429,7 +428,7 @@ module _ (quantity : Bool) where
       let v : Stood d x.value = rw t.is t.told.value in
       let a = t.told.place in
       let b = t.told.short in
-      let g : GoodLine (said_of x) = rw t.is (record { special = omega arith; text-place = omega arith; text-length = omega arith }) in
+      let g : GoodLine (said_of x) = rw t.is (record { special = omega arith; text_place = omega arith; text_length = omega arith }) in
       record {
         fine = rw (amounts_more c x) (fine_more (amounts c) x.value w.fine k.alike
             (λ m e. stood_fine d quantity m v k.form k.fits e));
@@ -528,7 +527,8 @@ module _ (bad : Bool) (d : List ℕ) (languages quantity : Bool) (before : ℕ) 
     by : (o : Result Open) → within_element bad d VALUES n ≡ o
         → ((c : Block) (n : ℕ) (k : Block) (m : ℕ) → Well quantity before c → Full quantity c
         → repeat f (another_line bad d languages quantity before) c n ≡ Is k m → Kept k)
-        → bind (bind o (on_open bad d languages quantity before c)) (turn (repeat f (another_line bad d languages quantity before))) ≡ Is k m
+        → bind (bind o (on_open bad d languages quantity before c)) (turn (repeat f (another_line bad d languages quantity before)))
+        ≡ Is k m
         → Kept k
     by (Is (start p) e) i ih g =
         step p e (inside bad d VALUES n i) (due bad d VALUE (start p) (lined bad d languages quantity before c) e) refl ih

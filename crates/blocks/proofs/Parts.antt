@@ -1,38 +1,31 @@
 -- The readers of ranges and lines, part by part: what the code makes of a tag, of what follows it and of the judgement is what the rule
 -- says.
-use mathlib.Core.Path.{◌≡◌, refl, ◌∙◌, sym, ap}
-use mathlib.Core.Bool.{Bool, true, false, cond, not, ◌&&◌}
+use mathlib.Core.Path.{◌≡◌, refl, ◌∙◌, ap}
+use mathlib.Core.Bool.{Bool, true, false, cond}
 use mathlib.Core.List.{List, [], ◌∷◌, ◌++◌}
-use mathlib.Core.Option.{none, some}
-use Prim.Native.Nat.{ℕ, ◌+◌, ◌-◌, ◌≤◌, ◌<◌}
+use Prim.Native.Nat.{ℕ, ◌-◌, ◌≤◌}
 use native.Mathlib.Omega.{arith}
 use lib.Dec.{eqb}
 use lib.IntN.{ℤ}
 use lib.ListN.{length}
-use lib.Signed.{lt_z}
-use borrow.Author.Tests.{not-false, eqb-true}
 use Rattle.below.specs.Below.{and_left}
 use Rattle.ranks.specs.declared.Found.{Found}
 use Rattle.ranks.specs.rule.Rank.{found_at, lower_found}
-use Rattle.tags.specs.rule.Tag.{is_named, tag_of}
+use Rattle.tags.specs.rule.Tag.{tag_of}
 use Rattle.tags.specs.declared.Held.{Held}
-use Rattle.tags.specs.declared.Tag.{Tag}
 use Rattle.tags.specs.declared.Tag.TheVariants as tag
 use Rattle.tokens.specs.declared.Fault.{Fault}
 use Rattle.tokens.specs.declared.Value.{Value}
 use Rattle.tokens.specs.rule.Gap.{fault}
 use Rattle.values.specs.declared.Block as books
 use Rattle.values.specs.declared.Said.{Said}
-use Rattle.values.specs.declared.Judged.{Judged}
-use Rattle.values.specs.declared.Judged.TheVariants as judgment
 use Rattle.values.specs.Line.{judge_line}
 use Rattle.values.specs.Room.{room_at, storable, judged_room, judged_marks}
-use Rattle.survey.specs.rule.Survey.{Amount, Range, Line, Block}
-use Rattle.survey.specs.rule.Width.{scaled}
-use Rattle.reading.specs.rule.Result.{Result, Is, Not, Reader, bind}
+use Rattle.survey.specs.rule.Survey.{Amount, Range, Block}
+use Rattle.reading.specs.rule.Result.{Result, Is, Not, bind}
 use Rattle.reading.specs.rule.Least.{Charge, ◌when◌, judged}
 use Rattle.reading.specs.rule.Token.{amount_read}
-use Rattle.reading.specs.rule.Values.{form_is, large, unlike_amounts, range_from, unlisted, with_line}
+use Rattle.reading.specs.rule.Values.{form_is, range_from}
 use Rattle.bridge.specs.Lowest as charges
 use Rattle.bridge.specs.Lowest.{never, Clear, clear, fine, faulty, judged_view}
 use Rattle.elements.specs.declared.Body as held
@@ -42,9 +35,9 @@ use Rattle.elements.specs.Code.{Slot, found_of, ruled, Numbered, passed_of, bodi
 use Rattle.elements.proofs.Ranking.{found_behind, judged_ruled}
 use Rattle.elements.proofs.Bodies.{passed_is, passed_refused, nothing_numbered, body_is, body_refused, body_numbered}
 use Rattle.xml_reading.specs.rule.Word.{VALUE, RANGE, CODE, FROM, TO}
-use Rattle.xml_reading.specs.rule.Open.{unknown_at, on_tag, nothing}
-use Rattle.xml_reading.specs.rule.Element.{Body, amount_in, body}
-use Rattle.xml_reading.specs.rule.Block.{rich, pair_charges, range, line, lined}
+use Rattle.xml_reading.specs.rule.Open.{unknown_at, nothing}
+use Rattle.xml_reading.specs.rule.Element.{amount_in, body}
+use Rattle.xml_reading.specs.rule.Block.{rich, pair_charges, range, lined}
 use Rattle.blocks.specs.Code.{held_as, Below, pair_of, block_of, range_block, judged_of, ranged_of, settled_of, word_of, placed_of}
 use Rattle.blocks.specs.Lines.{Wording, line_from, said_for, wording, worded_of, range_read, lined_of, Lines, Went}
 use Rattle.blocks.specs.declared.Lined.{Lined}
@@ -134,7 +127,8 @@ module _ (bad : Bool) (d : List ℕ) (quantity : Bool) (p e : ℕ) (l : e ≤ le
         let b = nothing_passes bad d RANGE em m range_next i.reads in
         rw (t, i.reads) (rw i.found at (range_behind d quantity h n i.charges num b.late))
 
-    pub range_not : {f : Fault} → passed_of (nothing bad d RANGE em m) ≡ passed.Not f → lining.Not f ≡ lined_of (range_read bad d quantity p e)
+    pub range_not : {f : Fault} → passed_of (nothing bad d RANGE em m) ≡ passed.Not f → lining.Not f
+        ≡ lined_of (range_read bad d quantity p e)
     unfolding range
     range_not g = rw (t, passed_refused (nothing bad d RANGE em m) g)
 

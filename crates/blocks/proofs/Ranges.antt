@@ -1,15 +1,13 @@
 -- A range judged by the code is judged as the rule says, in whichever order its values stand.
-use mathlib.Core.Path.{◌≡◌, refl, ◌∙◌, sym, ap}
+use mathlib.Core.Path.{◌≡◌, refl, ◌∙◌, ap}
 use mathlib.Core.Bool.{Bool, true, false, cond, not, ◌&&◌, ◌||◌}
-use mathlib.Core.List.{List, [], ◌∷◌, ◌++◌}
-use mathlib.Core.Option.{some}
-use Prim.Native.Nat.{ℕ, ◌≤◌, ◌<◌}
+use mathlib.Core.List.{List, [], ◌∷◌}
+use Prim.Native.Nat.{ℕ}
 use native.Mathlib.Omega.{arith}
 use lib.Dec.{eqb, ltb, leb}
 use lib.Signed.{lt_z}
 use borrow.Author.Tests.{le-leb, lt-leb, ltb-true, ltb-false, eqb-true, not-false}
 use Rattle.scan.specs.Number.{capped}
-use Rattle.tokens.specs.declared.Fault.{Fault}
 use Rattle.tokens.specs.rule.Gap.{fault}
 use Rattle.values.specs.declared.Block as books
 use Rattle.values.specs.declared.Judged.{Judged}
@@ -19,7 +17,7 @@ use Rattle.values.specs.Range.{limit_range, judge_range}
 use Rattle.survey.specs.rule.Survey.{Amount, Range}
 use Rattle.survey.specs.rule.Width.{some_of, each_of, amounts, scaled}
 use Rattle.reading.specs.rule.Result.{Result, Is, Not, bind}
-use Rattle.reading.specs.rule.Least.{Charge, ◌when◌, named, goes_before, Finding, clean, first, lower, least, found, judged}
+use Rattle.reading.specs.rule.Least.{Charge, ◌when◌, named, goes_before, lower, least, judged}
 use Rattle.reading.specs.rule.Values.{form_is, large, unlike_amounts, range_from}
 use Rattle.bridge.specs.Blocks.{form_same, large_same, small, Kept}
 use Rattle.xml_reading.specs.rule.Block.{pair_charges}
@@ -64,7 +62,7 @@ range_kept x y u =
       decimals = refl;
       point = refl;
       known = refl;
-      unlike-some = λ c. rw (← e) (twice (unlike_amounts c x));
+      unlike_some = λ c. rw (← e) (twice (unlike_amounts c x));
       ranged = refl;
       from = refl;
       to = refl;
@@ -222,7 +220,8 @@ module _ (quantity below : Bool) (x y : Amount) (n : ℕ) where
             → cond o (cond (form_is quantity y) (turned quantity (held_as y) (judge (form_is quantity x) (form_is quantity y)
             (eqb x.decimals y.decimals) below (large quantity x) (large quantity y))) (refused 6 b))
             (judge (form_is quantity x) (form_is quantity y) (eqb x.decimals y.decimals) below (large quantity x) (large quantity y))
-            ≡ judged_of (bind (judged (sixes a b (form_is quantity x) (form_is quantity y) (unlike_amounts x y) (lt_z (scaled y) (scaled x)))
+            ≡ judged_of (bind (judged (sixes a b (form_is quantity x) (form_is quantity y) (unlike_amounts x y)
+            (lt_z (scaled y) (scaled x)))
             good n)
             (λ r n. judged (eights a b (large quantity x) (large quantity y)) r n))
         by true e =

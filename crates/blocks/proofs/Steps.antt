@@ -1,11 +1,11 @@
 -- A line more: what the code does with it in the room is what the rule does with the block.
-use mathlib.Core.Path.{◌≡◌, refl, ◌∙◌, sym, ap}
-use mathlib.Core.Bool.{Bool, true, false, cond, not}
+use mathlib.Core.Path.{◌≡◌, refl, ◌∙◌, ap}
+use mathlib.Core.Bool.{Bool, true, false, cond}
 use mathlib.Core.List.{List, [], ◌∷◌, ◌++◌}
 use mathlib.Core.Option.{Option, none, some}
 use Prim.Native.Nat.{ℕ, ◌+◌, ◌-◌, ◌*◌, ◌≤◌, ◌<◌}
 use native.Mathlib.Omega.{arith}
-use lib.Dec.{eqb, leb}
+use lib.Dec.{eqb}
 use lib.IntN.{ℤ}
 use lib.ListN.{length, set}
 use borrow.Author.Tests.{leb-false}
@@ -15,32 +15,27 @@ use Rattle.tags.specs.rule.Tag.{tag_of}
 use Rattle.tags.specs.declared.Held.{Held}
 use Rattle.tags.specs.declared.Tag.{Tag}
 use Rattle.tags.specs.declared.Tag.TheVariants as tag
-use Rattle.tokens.specs.declared.Fault.{Fault}
 use Rattle.tokens.specs.rule.Gap.{fault}
 use Rattle.values.specs.declared.Block as books
-use Rattle.values.specs.declared.Said.{Said}
 use Rattle.values.specs.declared.Verdict.{Verdict}
-use Rattle.values.specs.declared.Verdict.TheVariants as verdict
 use Rattle.values.specs.Value.{scaled_of}
-use Rattle.values.specs.Line.{number_at, judge_line, grown_by, line_cells}
+use Rattle.values.specs.Line.{judge_line, grown_by, line_cells}
 use Rattle.values.specs.Room.{room_at, slot_of, judged_room, judged_marks}
-use Rattle.values.proofs.Lists.{Holds, none_held, judged_here, one_more}
-use Rattle.survey.specs.rule.Survey.{Amount, KeptText, Range, Line, Block}
+use Rattle.values.proofs.Lists.{none_held, judged_here, one_more}
+use Rattle.survey.specs.rule.Survey.{Amount, Range, Line, Block}
 use Rattle.survey.specs.rule.Width.{flag, some_of, amounts, scaled}
 use Rattle.survey.specs.rule.Table.{ranged}
 use Rattle.reading.specs.rule.Result.{Result, Is, Not, bind}
-use Rattle.reading.specs.rule.Least.{Charge, ◌when◌, judged}
-use Rattle.reading.specs.rule.Values.{form_is, large, unlike_amounts, line_charges, with_line, unlisted}
+use Rattle.reading.specs.rule.Least.{judged}
+use Rattle.reading.specs.rule.Values.{large, unlike_amounts, line_charges, with_line, unlisted}
 use Rattle.bridge.specs.Lowest.{never, Clear, clear, Judged, fine, faulty, judged_view}
-use Rattle.bridge.specs.Blocks.{small, line_of, Kept, kept_more}
-use Rattle.bridge.specs.Values.{empty_kept}
+use Rattle.bridge.specs.Blocks.{small, Kept, kept_more}
 use Rattle.xml_reading.specs.rule.Word.{VALUE, CODE}
 use Rattle.xml_reading.specs.rule.Open.{unknown_at, on_tag}
 use Rattle.xml_reading.specs.rule.Element.{Body, amount_in, body}
 use Rattle.xml_reading.specs.rule.Block.{rich, line}
 use Rattle.blocks.specs.Code.{held_as, has_range, block_of, said_of, told, Small, verdict_of, placed_of}
-use Rattle.blocks.specs.Lines.{Wording, line_from, said_for, wording, Lines, lined_of, Went}
-use Rattle.blocks.specs.declared.Lined.{Lined}
+use Rattle.blocks.specs.Lines.{Wording, line_from, said_for, wording, Lines, Went}
 use Rattle.blocks.specs.declared.Lined.TheVariants as lined
 use Rattle.blocks.proofs.Charges.{Late, judged_split, judged_clear}
 use Rattle.blocks.proofs.Told.{told_more, told_count, small_more, line_judged}
@@ -128,7 +123,8 @@ module _ {quantity : Bool} {before : ℕ} {start room : List ℤ} {stamp : ℕ} 
   unfolding scaled_of
   number_same f = rw (small quantity a f.fits)
 
-  stands : Free → Lines quantity before start (pasted room (4 * last) (line_cells (said_for w n))) stamp (set marks (slot_of (scaled a)) stamp)
+  stands : Free → Lines quantity before start (pasted room (4 * last) (line_cells (said_for w n))) stamp
+      (set marks (slot_of (scaled a)) stamp)
       (last + 1)
       (block_of (with_line c x)) (with_line c x)
   unfolding scaled_of
@@ -169,7 +165,8 @@ module _ {quantity : Bool} {before : ℕ} {start room : List ℤ} {stamp : ℕ} 
       found_on false f g = record { answer = refl; lines = λ {c = c'} {n = n'} i. never cc; next = λ {c = c'} {n = n'} i. never cc }
 
       by : {r : Result Line} → Judged (line_charges quantity before c a) x n r
-          → Went top quantity before start (judged_room room last (said_for w n) (verdict_of r)) stamp (judged_marks marks stamp (verdict_of r))
+          → Went top quantity before start (judged_room room last (said_for w n) (verdict_of r)) stamp
+          (judged_marks marks stamp (verdict_of r))
           last
           (bind (bind r (λ l m. judged w.charges l m)) more) (placed_of b (said_for w n) y (verdict_of r))
       by (fine k) = rw found (found_on (eqb y.number 0) (free k) found)

@@ -1,21 +1,19 @@
 -- Lines as the rule has them and as the books keep them: their numbers, those that an earlier line says, and how a line is judged.
 use mathlib.Core.Path.{◌≡◌, refl, ◌∙◌, sym, ap}
-use mathlib.Core.Bool.{Bool, true, false, cond, not, ◌&&◌, ◌||◌}
+use mathlib.Core.Bool.{Bool, true, false, cond, not, ◌||◌}
 use mathlib.Core.List.{List, [], ◌∷◌, ◌++◌, map}
-use Prim.Native.Nat.{ℕ, zero, suc, ◌+◌, ◌≤◌, ◌<◌}
+use Prim.Native.Nat.{ℕ, zero, suc, ◌+◌}
 use native.Mathlib.Omega.{arith}
-use lib.Dec.{eqb, ltb, leb}
+use lib.Dec.{eqb, leb}
 use lib.IntN.{ℤ}
 use lib.ListN.{length}
 use borrow.Author.Tests.{le-leb, eqb-true, not-false}
 use Rattle.below.specs.rule.Below.{any_below}
 use Rattle.below.specs.Below.{holds_not}
-use Rattle.cells.specs.rule.Cell.{number_of, signed_of, eq_z}
+use Rattle.cells.specs.rule.Cell.{signed_of, eq_z}
 use Rattle.cells.specs.Cell.{same_true}
-use Rattle.tokens.specs.declared.Fault.{Fault}
 use Rattle.tokens.specs.rule.Gap.{fault}
 use Rattle.values.specs.declared.Block as books
-use Rattle.values.specs.declared.Said.{Said}
 use Rattle.values.specs.declared.Verdict.{Verdict}
 use Rattle.values.specs.declared.Verdict.TheVariants as verdict
 use Rattle.values.specs.Value.{scaled_of}
@@ -26,9 +24,8 @@ use Rattle.values.proofs.Shares.{size_number}
 use Rattle.survey.specs.rule.Survey.{Amount, Line, Block}
 use Rattle.survey.specs.rule.Width.{some_of, range_ends, amounts, scaled}
 use Rattle.survey.specs.rule.Table as table
-use Rattle.reading.specs.rule.Result.{Result, Is, Not}
 use Rattle.reading.specs.rule.Least.{goes_before, judged}
-use Rattle.reading.specs.rule.Values.{form_is, large, unlike_amounts, line_charges, with_line}
+use Rattle.reading.specs.rule.Values.{form_is, large, unlike_amounts, line_charges}
 use Rattle.bridge.specs.Lowest.{chain, rising, chain_least}
 use Rattle.bridge.specs.Blocks.{form_same, large_same, small, Kept}
 use Rattle.blocks.specs.Code.{held_as, said_of, told, verdict_of, Small}
@@ -161,7 +158,8 @@ module _ (quantity : Bool) (first : ℕ) (b : books.Block) (c : Block) (kept : K
       (by (form_is quantity a) (some_of (unlike_amounts a) (amounts c)) (large quantity a) refl refl))
     where
       ends : (r e : Bool) → large quantity a ≡ false
-          → cond r (bad 6) (cond e (bad 8) (verdict.Good (scaled_of (held_as a)))) ≡ cond r (bad 6) (cond e (bad 8) (verdict.Good (scaled a)))
+          → cond r (bad 6) (cond e (bad 8) (verdict.Good (scaled_of (held_as a))))
+          ≡ cond r (bad 6) (cond e (bad 8) (verdict.Good (scaled a)))
       ends r e g = rw (said g)
 
       by : (q u g : Bool) → some_of (unlike_amounts a) (amounts c) ≡ u → large quantity a ≡ g

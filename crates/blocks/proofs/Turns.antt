@@ -1,17 +1,15 @@
 -- The first element of a block, and its lines one behind the other: as many turns as lines may still come are enough.
 use mathlib.Core.Path.{◌≡◌, refl, ◌∙◌, sym, ap}
-use mathlib.Core.Bool.{Bool, true, false, cond, not, ◌&&◌}
-use mathlib.Core.List.{List, [], ◌∷◌, ◌++◌}
-use mathlib.Core.Option.{none, some}
-use Prim.Native.Nat.{ℕ, zero, suc, ◌+◌, ◌-◌, ◌*◌, ◌≤◌, ◌<◌}
+use mathlib.Core.Bool.{Bool, true, false, cond}
+use mathlib.Core.List.{List, []}
+use mathlib.Core.Option.{none}
+use Prim.Native.Nat.{ℕ, zero, suc, ◌+◌, ◌-◌, ◌≤◌, ◌<◌}
 use native.Mathlib.Omega.{arith}
-use lib.Dec.{eqb}
 use lib.IntN.{ℤ}
 use lib.ListN.{length}
 use lib.Signed.{lt_z}
 use borrow.Author.Tests.{not-false, eq-eqb, ne_eqb}
-use Rattle.cells.specs.rule.Cell.{pasted}
-use Rattle.scan.specs.rule.Loop.{Next, Again, Done}
+use Rattle.scan.specs.rule.Loop.{Next, Again}
 use Rattle.tags.specs.rule.Tag.{is_named}
 use Rattle.tags.specs.declared.Held.{Held}
 use Rattle.tags.specs.declared.Tag.{Tag}
@@ -23,15 +21,12 @@ use Rattle.values.specs.declared.Block as books
 use Rattle.values.specs.declared.Listed.{Listed}
 use Rattle.values.specs.declared.Listed.TheVariants as listing
 use Rattle.values.specs.Block.{empty_block}
-use Rattle.survey.specs.rule.Survey.{Amount, Range, Line, Block}
+use Rattle.survey.specs.rule.Survey.{Amount, Range, Block}
 use Rattle.survey.specs.rule.Width.{scaled}
-use Rattle.survey.specs.rule.Table.{cells_of}
-use Rattle.values.specs.Line as lines
-use Rattle.reading.specs.rule.Result.{Result, Is, Not, Reader, bind, repeat}
-use Rattle.reading.specs.rule.Least.{Charge, ◌when◌, named, lower, least, judged}
-use Rattle.reading.specs.rule.Values.{form_is, large, unlike_amounts, range_from, unlisted, with_line}
+use Rattle.reading.specs.rule.Result.{Result, Is, Not, bind, repeat}
+use Rattle.reading.specs.rule.Least.{named, lower, least, judged}
+use Rattle.reading.specs.rule.Values.{form_is, large, unlike_amounts, unlisted}
 use Rattle.bridge.specs.Lowest.{never, Clear, clear}
-use Rattle.bridge.specs.Blocks.{Kept}
 use Rattle.bridge.specs.Values.{empty_kept}
 use Rattle.elements.specs.declared.Open.{Open}
 use Rattle.elements.specs.declared.Open.TheVariants as opened
@@ -42,7 +37,7 @@ use Rattle.xml_reading.specs.rule.Open as rule
 use Rattle.xml_reading.specs.rule.Open.{start, shut, within_element, due, misplaced}
 use Rattle.xml_reading.specs.rule.Block.{pair_charges, range, lined, on_open, another_line}
 use Rattle.xml_reading.specs.rule.Block as block
-use Rattle.blocks.specs.Code.{block_of, range_block, told, counted_of, listed_of, Stored}
+use Rattle.blocks.specs.Code.{block_of, range_block, counted_of, listed_of}
 use Rattle.blocks.specs.Lines.{range_read, first_tag, block_read, lined_of, Lines, Standing, Went, Begun, Closed}
 use Rattle.blocks.specs.declared.Lined.{Lined}
 use Rattle.blocks.specs.declared.Lined.TheVariants as lining
@@ -82,7 +77,8 @@ module _ (quantity : Bool) (before : ℕ) (room : List ℤ) (stamp : ℕ) (marks
       → is_named d (p + 1) e RANGE ≡ true → l ≡ lined_of (range_read bad d quantity p e) → r ≡ counted_of l before
       → Begun (length d) quantity before room room stamp marks (first_tag bad d languages quantity before p e) r
   unfolding listed_of
-  first_range bad d languages p e {l} {r} h q i j = rw q (by (range bad d quantity p e) refl (j ∙ ap (λ (x : Lined). counted_of x before) i))
+  first_range bad d languages p e {l} {r} h q i j = rw q
+      (by (range bad d quantity p e) refl (j ∙ ap (λ (x : Lined). counted_of x before) i))
     where
       by : (x : Result Range) → range bad d quantity p e ≡ x → r ≡ counted_of (lined_of (bind x (λ r m. Is (range_block r) m))) before
           → Begun (length d) quantity before room room stamp marks (bind x (λ r m. Is (range_block r) m)) r

@@ -1,13 +1,12 @@
 -- What the code answers with, for each answer of the rule (crate `xml_reading`, rule/Block): a block by the few numbers that the books of
 -- crate `values` keep of it, its lines by their numbers in a lent room.
-use Rattle.std.specs.Prelude.{◌≡◌, Bool, true, false, cond, not, ◌&&◌, List, [], ◌∷◌, ℕ, ◌+◌, ◌*◌, ◌-◌, eqb, ltb, ℤ, length, take, drop}
+use Rattle.std.specs.Prelude.{◌≡◌, Bool, true, false, cond, ◌&&◌, List, [], ◌∷◌, ℕ, ◌+◌, ◌*◌, ◌-◌, eqb, ltb, ℤ, length, take, drop}
 use Rattle.std.proofs.Math.Option.{Option, none, some}
 use Rattle.std.specs.Int.Signed.{lt_z}
 use Rattle.cells.specs.rule.Cell.{number_of, pasted}
 use Rattle.layout.specs.rule.Layout.{line_size}
 use Rattle.spans.specs.rule.Heard.{heard, All}
 use Rattle.amounts.specs.rule.Said.{true_in}
-use Rattle.tokens.specs.declared.Fault.{Fault}
 use Rattle.tokens.specs.declared.Value.{Value}
 use Rattle.tokens.specs.rule.Gap.{fault}
 use Rattle.values.specs.declared.Block as books

@@ -1,15 +1,14 @@
 -- Where the code stands in a block, beside the block that the rule has: the numbers of its lines in the room, with their marks, and what
 -- the books keep of it. A line as it is read, before it is judged.
-use Rattle.std.specs.Prelude.{◌≡◌, Bool, false, cond, List, [], ◌∷◌, ℕ, suc, ◌+◌, ◌*◌, ◌≤◌, ℤ, length}
+use Rattle.std.specs.Prelude.{◌≡◌, Bool, false, List, [], ◌∷◌, ℕ, suc, ◌+◌, ◌*◌, ◌≤◌, ℤ, length}
 use Rattle.std.proofs.Math.Option.{none, some}
 use Rattle.layout.specs.rule.Layout.{line_size, most_lines}
 use Rattle.tags.specs.rule.Tag.{tag_of}
-use Rattle.tokens.specs.declared.Fault.{Fault}
 use Rattle.values.specs.declared.Block as books
 use Rattle.values.specs.declared.Said.{Said}
 use Rattle.values.proofs.Lists.{Holds}
 use Rattle.survey.specs.rule.Survey.{Amount, KeptText, Line, Block}
-use Rattle.reading.specs.rule.Result.{Result, Is, Not, Reader, ◌>>=◌, give, bind, repeat}
+use Rattle.reading.specs.rule.Result.{Result, Is, Not, Reader, ◌>>=◌, give, repeat}
 use Rattle.reading.specs.rule.Values.{unlisted}
 use Rattle.reading.specs.rule.Least.{Charge}
 use Rattle.bridge.specs.Blocks.{Kept, said_as}

@@ -25,7 +25,7 @@ use Rattle.reading.specs.rule.Result.{Result, Is, Not, Reader, bind}
 use Rattle.reading.specs.rule.Least.{◌when◌, named, lower, least, judged}
 use Rattle.reading.specs.rule.Token.{word}
 use Rattle.reading.specs.rule.Statement.{Position, statement, phrase, position}
-use Rattle.reading.specs.rule.Variable.{Sort, room, variable_of, held, ident, type, content, variable}
+use Rattle.reading.specs.rule.Variable.{Sort, room, variable_of, held, type, content, variable}
 use Rattle.bridge.specs.Facts.{capped_small}
 use Rattle.bridge.specs.Tokens.{to_reading, to_number, to_phrase, word_on_lem}
 use Rattle.bridge.specs.Notes.{statement_on_lem, phrase_on}

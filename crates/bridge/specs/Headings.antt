@@ -5,7 +5,6 @@ use Rattle.std.proofs.Common.{◌∙◌, arith}
 use Rattle.std.proofs.Math.Bool.{true, false, cond}
 use Rattle.std.proofs.Math.Option.{Option, none, some}
 use Prim.Native.Nat.{ℕ, zero, suc, ◌-◌, ◌≤◌, ◌<◌}
-use Rattle.scan.specs.rule.Text.{text}
 use Rattle.scan.specs.rule.Loop.{Next, Again, Done}
 use Rattle.scan.specs.rule.Word.{word_at}
 use Rattle.scan.specs.declared.Word.{Word}
@@ -27,7 +26,7 @@ use Rattle.heading.specs.Given.{Reached}
 use Rattle.heading.specs.Given as was
 use Rattle.heading.proofs.Entries.{entries_text, entries_names, entries_other}
 use Rattle.heading.proofs.Once.{text_first, text_second, names_first, names_second}
-use Rattle.survey.specs.rule.Survey.{KeptText, Heading}
+use Rattle.survey.specs.rule.Survey.{KeptText}
 use Rattle.survey.specs.rule.Width.{some_of}
 use Rattle.reading.specs.rule.Result.{Result, Is, Not, Reader, bind, turn, repeat}
 use Rattle.reading.specs.rule.Token.{on_word, word, string}

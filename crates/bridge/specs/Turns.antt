@@ -20,7 +20,7 @@ use Rattle.tokens.specs.Token.{choice_of, past_string}
 use Rattle.tokens.proofs.Aheads.{taken_less, string_left, word_left}
 use Rattle.statements.specs.Note.{past_note}
 use Rattle.statements.proofs.Notes.{note_left, notes_left}
-use Rattle.statements.specs.rule.Words.{DATE, TIME, ORIGIN, USER, NOTE, STANDARD, NAMES, SPECIAL, END, VALUES, VARIABLE, NAME, LABEL}
+use Rattle.statements.specs.rule.Words.{TIME, ORIGIN, USER, NOTE, STANDARD, NAMES, SPECIAL, END, VALUES, VARIABLE, NAME, LABEL}
 use Rattle.survey.specs.rule.Survey.{Figure, Amount, KeptText, Line, Block, Variable}
 use Rattle.reading.specs.rule.Result.{Result, Is, Not, Reader, bind, turn, repeat}
 use Rattle.reading.specs.rule.Least.{judged}

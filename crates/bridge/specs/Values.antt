@@ -33,8 +33,7 @@ use Rattle.values.specs.Block.{empty_block, closed_by, range_then, to_or, values
 use Rattle.values.specs.Order.{paper_from, Reached, alone, behind}
 use Rattle.values.proofs.Orders.{paper_lines}
 use Rattle.survey.specs.rule.Survey.{Amount, Range, Block}
-use Rattle.survey.specs.rule.Width.{flag, some_of, each_of, amounts, scaled}
-use Rattle.survey.specs.rule.Table.{ranged}
+use Rattle.survey.specs.rule.Width.{some_of, each_of, amounts, scaled}
 use Rattle.reading.specs.rule.Result.{Result, Is, Not, Reader, bind, repeat}
 use Rattle.reading.specs.rule.Least.{goes_before, judged}
 use Rattle.reading.specs.rule.Token.{passed, here, word, optional, amount, value, string}

@@ -10,7 +10,7 @@ use Rattle.std.proofs.Math.ListN.{length}
 use Rattle.std.proofs.Math.Seq.{get_or-drop}
 use Rattle.below.specs.Below.{both_and, all_of}
 use Rattle.cells.specs.rule.Cell.{cell, pasted}
-use Rattle.layout.specs.rule.Layout.{mark, most_rows, most_lines, lines_base, line_base, header_of}
+use Rattle.layout.specs.rule.Layout.{most_rows, most_lines, lines_base, line_base, header_of}
 use Rattle.layout.specs.rule.Row.{row_of, row_at}
 use Rattle.layout.specs.declared.Columns.{Columns}
 use Rattle.layout.specs.declared.Header.{Header}

@@ -36,7 +36,8 @@ use Rattle.grammar.specs.Grammar as says
 use Rattle.clean_text.specs.rule.Span.{up_to, span_of}
 use Rattle.clean_text.specs.rule.Clean.{Token, line_of, clean_text, plain_digits, figure_token, amount_token, quoted_token, perhaps, marked}
 use Rattle.clean_text.specs.rule.Clean.{value_line, some_line}
-use Rattle.clean_text.specs.rule.Clean.{range_line, values_lines, spread_line, type_word, content_lines, positions, variable_lines, each_variable}
+use Rattle.clean_text.specs.rule.Clean.{range_line, values_lines, spread_line, type_word, content_lines, positions, variable_lines}
+use Rattle.clean_text.specs.rule.Clean.{each_variable}
 use Rattle.clean_text.specs.rule.Clean.{standard_line, head_lines, clean_lines, clean_of}
 use Rattle.page_laws.specs.Values.{text_append}
 
@@ -170,7 +171,8 @@ module _ (d : List ℕ) where
 
   -- ---- statements of a word and a text, or a word and a number
   phrase_fits : {w : List ℕ} {n m : ℕ} {t : KeptText} → Phrase d w n t m → length (line_of (w ∷ quoted_token d t ∷ [])) + 3 * n ≤ 3 * m
-  phrase_fits {w} {t = t} (token.phrase s x) = omega (arith, line_two w (quoted_token d t), quoted_size t, statement_on_lem s, string_on_lem x)
+  phrase_fits {w} {t = t} (token.phrase s x) = omega
+      (arith, line_two w (quoted_token d t), quoted_size t, statement_on_lem s, string_on_lem x)
 
   number_fits : {w : List ℕ} {n k m : ℕ} {x : Figure} → 2 ≤ length w → Statement d w n k → Number d k x m
       → length (line_of (w ∷ figure_token d x ∷ [])) + 3 * n ≤ 3 * m
@@ -192,11 +194,20 @@ module _ (d : List ℕ) where
         keyword_on k,
       )
   line_fits (says.line {a = a} {t = t} r v x (token.no g o)) =
-      omega (arith, line_two (amount_token d a) (quoted_token d t), quoted_size t, notes_on_lem r, value_on_lem v, string_on_lem x, gap_on_lem g)
+      omega (
+        arith,
+        line_two (amount_token d a) (quoted_token d t),
+        quoted_size t,
+        notes_on_lem r,
+        value_on_lem v,
+        string_on_lem x,
+        gap_on_lem g,
+      )
 
   lines_fits : {n m : ℕ} {l : List Line} → says.Lines d n l m → size (map (value_line d) l) + 3 * n + 27 ≤ 3 * m
   lines_fits (says.last {l = l} x e) = omega (arith, size_one (value_line d l), line_fits x, end_on e)
-  lines_fits (says.more {l = l} {ls = ls} x y) = omega (arith, size_more (value_line d l) (map (value_line d) ls), line_fits x, lines_fits y)
+  lines_fits (says.more {l = l} {ls = ls} x y) = omega
+      (arith, size_more (value_line d l) (map (value_line d) ls), line_fits x, lines_fits y)
 
   range_size : (r : Range) (q : Bool)
       → length (line_of (amount_token d r.from ∷ TO ∷ amount_token d r.to ∷ marked d q WITH)) ≤ length (amount_token d r.from)
@@ -253,7 +264,14 @@ module _ (d : List ℕ) where
   position_fits : {n m : ℕ} {a : Figure} {b : Option Figure} → says.Position d n a b m
       → length (line_of (POSITION ∷ figure_token d a ∷ TO ∷ figure_token d (get_or b a) ∷ [])) + 3 * n ≤ 3 * m
   position_fits {a = a} (says.position s x (token.given {a = b} k y)) =
-      omega (arith, line_four POSITION (figure_token d a) TO (figure_token d b), statement_on_lem s, number_on_lem x, keyword_on k, number_on_lem y)
+      omega (
+        arith,
+        line_four POSITION (figure_token d a) TO (figure_token d b),
+        statement_on_lem s,
+        number_on_lem x,
+        keyword_on k,
+        number_on_lem y,
+      )
   position_fits {a = a} (says.position s x (token.absent g o)) =
       omega (arith, line_four POSITION (figure_token d a) TO (figure_token d a), statement_on_lem s, number_on_lem x, gap_on_lem g)
 
@@ -294,7 +312,8 @@ module _ (d : List ℕ) where
   rest_fits room says.logical = omega (arith, size_none)
 
   -- ---- a variable
-  type_fits : {n k m : ℕ} (t : Sort) (c : Content) → type_word d c ≡ says.type_word t → Statement d TYPE n k → Keyword d (says.type_word t) k m
+  type_fits : {n k m : ℕ} (t : Sort) (c : Content) → type_word d c ≡ says.type_word t → Statement d TYPE n k
+      → Keyword d (says.type_word t) k m
       → length (line_of (TYPE ∷ type_word d c ∷ [])) + 3 * n ≤ 3 * m
   type_fits t c e s k = rw e (omega (arith, line_two TYPE (says.type_word t), statement_on_lem s, keyword_on k))
 
@@ -372,7 +391,8 @@ module _ (d : List ℕ) where
   title_fits says.untitled = omega (arith, size_none)
 
   opening_on : {m : ℕ} → says.Opening d m → 10 ≤ m
-  opening_on (says.opening {e = e} h s w r x) = omega (arith, here_on h, spaces_on_lem s, here_on w, spaces_on_lem r, run_on x (from_text d e))
+  opening_on (says.opening {e = e} h s w r x) = omega
+      (arith, here_on h, spaces_on_lem s, here_on w, spaces_on_lem r, run_on x (from_text d e))
 
   head_size : (l : List HeadingEntry) (t : Option KeptText) (x : ℕ) → size (head_lines d (heading l t x)) ≡ items_size l
       + size (perhaps d TITLE t) + 36

@@ -33,7 +33,7 @@ use Rattle.reading.specs.rule.Result as reading
 use Rattle.reading.specs.rule.Token.{on_word, word, either}
 use Rattle.reading.specs.rule.Statement.{notes, statement}
 use Rattle.reading.specs.rule.Variable.{variable}
-use Rattle.reading.specs.rule.Whole.{another_variable, front, ends, survey, survey_of}
+use Rattle.reading.specs.rule.Whole.{another_variable, ends, survey, survey_of}
 use Rattle.bridge.specs.Tokens.{to_reading, word_on_lem}
 use Rattle.bridge.specs.Notes.{notes_on_lem, statement_on_lem}
 use Rattle.bridge.specs.Blocks.{lines_count, lines_cells}

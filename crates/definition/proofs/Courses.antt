@@ -1,53 +1,34 @@
 -- The variables one after the other: what the code keeps of them, and what one more adds.
-use mathlib.Core.Path.{◌≡◌, refl, sym, ap, ◌∙◌}
+use mathlib.Core.Path.{◌≡◌, refl, ap}
 use mathlib.Core.Bool.{Bool, true, false, cond, ◌||◌}
-use mathlib.Core.List.{List, [], ◌∷◌, ◌++◌}
-use Prim.Native.Nat.{ℕ, zero, suc, ◌+◌, ◌-◌, ◌*◌, ◌≤◌, ◌<◌, max}
+use mathlib.Core.List.{List}
+use Prim.Native.Nat.{ℕ, ◌-◌, ◌<◌}
 use native.Mathlib.Omega.{arith}
-use borrow.Author.Tests.{eqb-true, eqb-false, ne_eqb, eq-eqb, ltb-true}
-use lib.Dec.{eqb, ltb, leb}
-use lib.IntN.{ℤ}
-use lib.ListN.{length, get_or, set, length-set}
-use lib.Seq.{get_or-set_same, get_or-set_other}
-use Rattle.cells.specs.rule.Cell.{pasted}
-use Rattle.cells.specs.Cell.{paste_more, paste_none}
-use Rattle.layout.specs.rule.Layout.{row_size, line_size, most_rows, most_lines}
-use Rattle.layout.specs.declared.Columns.{Columns}
-use Rattle.scan.specs.rule.Loop.{Next, Again, Done, loop_of}
+use borrow.Author.Tests.{ltb-true}
+use lib.Dec.{eqb, ltb}
+use lib.ListN.{length}
+use Rattle.scan.specs.rule.Loop.{Again, Done}
 use Rattle.scan.proofs.Loops.{loop_again, loop_done}
-use Rattle.tokens.specs.declared.Fault.{Fault}
 use Rattle.tokens.specs.declared.Figures.{Figures}
 use Rattle.tokens.specs.declared.Number.{Number}
 use Rattle.tokens.specs.declared.Number.TheVariants as number
 use Rattle.tokens.specs.declared.Reading.{Reading}
-use Rattle.tokens.specs.declared.Reading.TheVariants.{At, Refused}
+use Rattle.tokens.specs.declared.Reading.TheVariants.{At}
 use Rattle.tokens.specs.declared.Choice.{Choice}
 use Rattle.tokens.specs.declared.Choice.TheVariants.{Taken, Left}
 use Rattle.tokens.specs.rule.Gap.{fault}
 use Rattle.tokens.specs.Token.{choice_of, number_on}
 use Rattle.statements.specs.rule.Words.{END, VARIABLE}
 use Rattle.statements.specs.Note.{notes_on, statement_on}
-use Rattle.rows.specs.rule.Cells.{row_cells}
-use Rattle.values.specs.Line.{cells_of}
 use Rattle.variables.specs.Ident.{wrong_ident, judge_ident, ident_on}
-use Rattle.variables.specs.Ident.{marked}
-use Rattle.measures.specs.Survey.{Variable, lines_in, columns_in, lines_all, highest_in, ident_met, rows_from, all_lines}
-use Rattle.measures.specs.Good.{Good, GoodVariable}
-use Rattle.measures.specs.Good as good
-use Rattle.measures.proofs.Snoc.{added, length_with, lines_with, highest_with, met_with, rows_with, cells_with, rows_length, lines_length}
+use Rattle.measures.specs.Survey.{Variable, lines_all, ident_met}
+use Rattle.measures.proofs.Snoc.{added, length_with}
 use Rattle.entries.specs.Entry.{Entry, entry_of}
 use Rattle.entries.specs.Entry.{Stored}
 use Rattle.entries.specs.Entry as entry
-use Rattle.entries.specs.Good.{EntryGood}
-use Rattle.entries.proofs.Goods.{entry_good, entry_left}
-use Rattle.laying.specs.declared.Tally.{Tally}
-use Rattle.definition.specs.declared.Turn.{Turn}
-use Rattle.definition.specs.declared.Turn.TheVariants as turn
+use Rattle.entries.proofs.Goods.{entry_left}
 use Rattle.definition.specs.Books.{Variables, Course, course, end_or, entered, variable_step, variables_from}
 use Rattle.definition.specs.Books as variables
-use Rattle.definition.specs.Code.{tally_of, turn_or, followed, turn_after, RowStored}
-use Rattle.definition.proofs.Small.{row_ident, row_finish, ident_few}
-use Rattle.built.specs.Nth.{few_rows, few_lines}
 
 none : {A : Type 0} → ◌≡◌ {A = ℕ} 0 1 → A
 none e = absurd (omega arith)

@@ -1,14 +1,13 @@
 -- Every definition that is read gives good variables, one at least: so that the table built is well formed.
-use mathlib.Core.Path.{◌≡◌, refl, sym, ap, ◌∙◌}
+use mathlib.Core.Path.{◌≡◌, refl, sym, ◌∙◌}
 use mathlib.Core.Bool.{Bool, true, false, cond}
-use mathlib.Core.List.{List, [], ◌∷◌, ◌++◌}
-use Prim.Native.Nat.{ℕ, zero, suc, ◌+◌, ◌-◌, ◌≤◌, ◌<◌}
+use mathlib.Core.List.{List, []}
+use Prim.Native.Nat.{ℕ, zero, suc, ◌-◌, ◌≤◌}
 use native.Mathlib.Omega.{arith}
 use lib.Dec.{ltb}
 use lib.IntN.{ℤ}
 use lib.ListN.{length}
 use borrow.Author.Tests.{ltb-false}
-use Rattle.cells.specs.rule.Cell.{pasted}
 use Rattle.scan.specs.rule.Loop.{Next, Again, Done, on_next, loop_of}
 use Rattle.tokens.specs.declared.Reading.{Reading}
 use Rattle.tokens.specs.declared.Reading.TheVariants.{At, Refused}
@@ -18,7 +17,6 @@ use Rattle.tokens.specs.rule.Gap.{fault}
 use Rattle.tokens.specs.Token.{choice_of}
 use Rattle.statements.specs.rule.Words.{END}
 use Rattle.statements.specs.Note.{notes_on}
-use Rattle.heading.specs.declared.Front.{Front}
 use Rattle.heading.specs.Heading.{front_on}
 use Rattle.sound.specs.rule.Sound.{well_formed}
 use Rattle.measures.specs.Survey.{Variable, lines_all, ident_met, table_of}

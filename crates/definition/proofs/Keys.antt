@@ -1,5 +1,5 @@
 -- The numbers of the names, one after the other.
-use mathlib.Core.Path.{◌≡◌, refl, sym, ap, ◌∙◌}
+use mathlib.Core.Path.{◌≡◌, sym, ap, ◌∙◌}
 use mathlib.Core.Logic.{⊎_elim}
 use mathlib.Core.List.{List}
 use Prim.Native.Nat.{ℕ, ◌+◌, ◌≤◌, ◌<◌}
@@ -9,7 +9,6 @@ use lib.IntN.{ℤ}
 use lib.ListN.{length, get_or, set}
 use lib.Seq.{get_or-set_same, get_or-set_other}
 use Rattle.names.specs.Name.{key_of}
-use Rattle.names.specs.rule.Standard.{name_at, name_fault}
 use Rattle.names.specs.Clash.{fault_of}
 use Rattle.names.proofs.Standards.{keys_fault}
 use Rattle.definition.specs.Code.{name_in, NamesJudged}

@@ -1,7 +1,6 @@
 -- The highest finish of good variables lies where positions may.
-use mathlib.Core.Path.{◌≡◌}
-use mathlib.Core.List.{List, [], ◌∷◌, ◌++◌}
-use Prim.Native.Nat.{ℕ, ◌≤◌, max}
+use mathlib.Core.List.{List}
+use Prim.Native.Nat.{◌≤◌}
 use native.Mathlib.Omega.{arith}
 use Rattle.measures.specs.Survey.{Variable, lines_all, highest_in}
 use Rattle.measures.specs.Good.{Good, GoodVariable}

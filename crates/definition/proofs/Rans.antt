@@ -1,22 +1,21 @@
 -- What holds whenever the reader of variables stands before another one, and how it is carried on.
 use mathlib.Core.Path.{◌≡◌, refl, sym, ap, ◌∙◌}
-use mathlib.Core.Bool.{Bool, true, false, cond, ◌||◌}
-use mathlib.Core.List.{List, [], ◌∷◌, ◌++◌}
-use Prim.Native.Nat.{ℕ, zero, suc, ◌+◌, ◌-◌, ◌*◌, ◌≤◌, ◌<◌, max}
+use mathlib.Core.Bool.{Bool, true, false, ◌||◌}
+use mathlib.Core.List.{List, []}
+use Prim.Native.Nat.{ℕ, ◌+◌, ◌*◌, ◌≤◌, ◌<◌}
 use native.Mathlib.Omega.{arith}
-use borrow.Author.Tests.{eqb-true, eqb-false, eq-eqb, ne_eqb}
+use borrow.Author.Tests.{eqb-true, eqb-false}
 use lib.Dec.{eqb}
 use lib.IntN.{ℤ}
-use lib.ListN.{length, get_or, set, length-set}
+use lib.ListN.{length, set, length-set}
 use lib.Seq.{get_or-set_same, get_or-set_other}
 use Rattle.below.specs.Below.{or_true}
 use Rattle.cells.specs.rule.Cell.{pasted}
 use Rattle.cells.specs.Cell.{paste_none}
-use Rattle.layout.specs.rule.Layout.{row_size, line_size, most_rows, most_lines}
-use Rattle.scan.specs.rule.Loop.{Next, Again, Done}
+use Rattle.layout.specs.rule.Layout.{row_size, line_size}
 use Rattle.tokens.specs.declared.Fault.{Fault}
 use Rattle.tokens.specs.declared.Reading.{Reading}
-use Rattle.tokens.specs.declared.Reading.TheVariants.{At, Refused}
+use Rattle.tokens.specs.declared.Reading.TheVariants.{At}
 use Rattle.tokens.specs.declared.Choice.{Choice}
 use Rattle.tokens.specs.declared.Choice.TheVariants.{Taken, Left}
 use Rattle.tokens.specs.Token.{choice_of}
@@ -26,7 +25,7 @@ use Rattle.rows.specs.rule.Cells.{row_cells}
 use Rattle.values.specs.Line.{cells_of}
 use Rattle.values.proofs.Rooms.{paste_fits}
 use Rattle.variables.specs.Ident.{marked}
-use Rattle.measures.specs.Survey.{Variable, lines_in, columns_in, lines_all, highest_in, ident_met, rows_from, all_lines}
+use Rattle.measures.specs.Survey.{Variable, lines_in, columns_in, lines_all, ident_met, rows_from, all_lines}
 use Rattle.measures.specs.Good.{Good, GoodVariable}
 use Rattle.measures.specs.Good as good
 use Rattle.measures.proofs.Snoc.{added, length_with, lines_with, highest_with, met_with, rows_with, cells_with, rows_length, lines_length}
@@ -38,7 +37,6 @@ use Rattle.entries.proofs.Goods.{entry_good}
 use Rattle.laying.specs.declared.Tally.{Tally}
 use Rattle.definition.specs.declared.Turn.{Turn}
 use Rattle.definition.specs.declared.Turn.TheVariants as turn
-use Rattle.definition.specs.declared.Run.{Run}
 use Rattle.definition.specs.declared.Run.TheVariants as run
 use Rattle.definition.specs.Books.{Variables, Course, course, end_or, entered, variable_step, variables_from}
 use Rattle.definition.specs.Books as variables
@@ -63,7 +61,7 @@ module _ (d : List ℕ) (y : Tally) where
   pub record More (e : Entry) (ident : ℕ) (z : Tally) (t : Reading) : Type 0 where
     pub variable : Variable
     pub place : ℕ
-    pub entry_is_lem : e ≡ entry.Is variable place
+    pub entry_is : e ≡ entry.Is variable place
     pub tally_is : z ≡ tally_with y (columns_in y.lines variable) (y.lines + length (lines_in variable))
     pub choice : choice_of d (notes_on d (At place)) END ≡ Left
     pub ident_is : ident ≡ (columns_in y.lines variable).ident
@@ -72,7 +70,7 @@ module _ (d : List ℕ) (y : Tally) where
   pub record Over (e : Entry) (z : Tally) (m : ℕ) : Type 0 where
     pub variable : Variable
     pub place : ℕ
-    pub entry_is_lem : e ≡ entry.Is variable place
+    pub entry_is : e ≡ entry.Is variable place
     pub tally_is : z ≡ tally_with y (columns_in y.lines variable) (y.lines + length (lines_in variable))
     pub choice : choice_of d (notes_on d (At place)) END ≡ Taken m
 
@@ -88,7 +86,7 @@ module _ (d : List ℕ) (y : Tally) where
         let a : (columns_in y.lines v).ident ≡ ident = cc in
         let b : tally_with y (columns_in y.lines v) (y.lines + length (lines_in v)) ≡ z = cc in
         let o : notes_on d (At n) ≡ t = cc in
-        record { variable = v; place = n; entry_is_lem = refl; tally_is = sym b; choice = e; ident_is = sym a; onward = sym o }
+        record { variable = v; place = n; entry_is = refl; tally_is = sym b; choice = e; ident_is = sym a; onward = sym o }
 
   pub over_of : (e : Entry) (z : Tally) (m : ℕ) → turn_after d y e ≡ turn.Over z m → Over e z m
   unfolding turn_after followed
@@ -100,7 +98,7 @@ module _ (d : List ℕ) (y : Tally) where
     by (Taken o) e j =
         let a : o ≡ m = cc in
         let b : tally_with y (columns_in y.lines v) (y.lines + length (lines_in v)) ≡ z = cc in
-        record { variable = v; place = n; entry_is_lem = refl; tally_is = sym b; choice = e ∙ ap Taken a }
+        record { variable = v; place = n; entry_is = refl; tally_is = sym b; choice = e ∙ ap Taken a }
     by Left e j = none cc
 
   pub not_of : (e : Entry) (f : Fault) → turn_after d y e ≡ turn.Not f → e ≡ entry.Not f
@@ -281,7 +279,7 @@ module _ (d : List ℕ) (t₀ : Reading) (rows₀ lines₀ : List ℤ) (at : Rea
         let m = more_of_lem d y entry_now ident z t (sym says ∙ e) in
         let v = m.variable in
         let n = m.place in
-        let i = m.entry_is_lem in
+        let i = m.entry_is in
         let l = r.read in
         let small : (columns_in y.lines v).ident < 10000 =
         ident_small d t₀ rows₀ lines₀ at y seen rows lines l r.same r.tally r.met r.rows_are r.lines_are r.good
@@ -324,7 +322,7 @@ module _ (d : List ℕ) (t₀ : Reading) (rows₀ lines₀ : List ℤ) (at : Rea
         let o = over_of d y entry_now z m (sym says ∙ e) in
         let v = o.variable in
         let n = o.place in
-        let i = o.entry_is_lem in
+        let i = o.entry_is in
         let l = r.read in
         record {
           all = added l v;

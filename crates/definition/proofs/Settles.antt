@@ -9,7 +9,7 @@ use native.Mathlib.Nat.{le_of_suc-le-suc, not-suc-le-zero}
 use borrow.Author.Tests.{lt-ltb, le-ltb}
 use lib.Dec.{ltb}
 use lib.IntN.{ℤ, pos}
-use lib.ListN.{length, take, get_or, length-take}
+use lib.ListN.{length, take, length-take}
 use lib.Seq.{get_or-append-add, get_or-take}
 use Rattle.cells.specs.rule.Cell.{cell, count_of, pasted}
 use Rattle.scan.specs.rule.Text.{text}
@@ -19,13 +19,12 @@ use Rattle.layout.specs.rule.Layout.{mark, row_size, line_size, line_base}
 use Rattle.rows.specs.rule.Cells.{row_cells, header_cells}
 use Rattle.names.specs.rule.Standard.{name_at, name_fault}
 use Rattle.measures.specs.Width.{full_columns, widened, plain_columns}
-use Rattle.measures.specs.Survey.{Variable, lines_in, columns_in, lines_all, highest_in, header_for, rows_from, all_lines, table_of}
+use Rattle.measures.specs.Survey.{Variable, lines_in, columns_in, lines_all, header_for, rows_from, all_lines, table_of}
 use Rattle.measures.proofs.Snoc.{row_length, rows_length, lines_length, table_length}
 use Rattle.laying.specs.declared.Tally.{Tally}
-use Rattle.definition.specs.declared.Answer.{Answer}
 use Rattle.definition.specs.declared.Answer.TheVariants as answer
 use Rattle.laying.specs.declared.Rooms.TheVariants as rooms
-use Rattle.definition.specs.Books.{names_of, quote_at, Outcome, Built, Refusal, fitting, named, answer_in, table_in}
+use Rattle.definition.specs.Books.{names_of, quote_at, Built, Refusal, fitting, named, answer_in, table_in}
 use Rattle.laying.specs.Code.{header_by, cells_in, filled_over}
 use Rattle.definition.specs.Code.{tally_of, Held, name_in, NamesJudged, fill_says, NamesSettled}
 

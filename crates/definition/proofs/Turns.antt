@@ -1,8 +1,8 @@
 -- One variable by what the code is told of it.
-use mathlib.Core.Path.{◌≡◌, refl, sym, ap, ◌∙◌}
+use mathlib.Core.Path.{◌≡◌, sym, ap, ◌∙◌}
 use mathlib.Core.Bool.{Bool}
 use mathlib.Core.List.{List}
-use Prim.Native.Nat.{ℕ, ◌+◌, ◌*◌, ◌≤◌, ◌<◌, max}
+use Prim.Native.Nat.{ℕ, ◌+◌, ◌*◌, ◌≤◌, ◌<◌}
 use native.Mathlib.Omega.{arith}
 use lib.IntN.{ℤ}
 use lib.ListN.{length}
@@ -34,7 +34,7 @@ none e = absurd (omega arith)
 -- the variable behind its columns
 pub record Told (e : Entry) (before : ℕ) (c : Columns) (last n : ℕ) : Type 0 where
   pub variable : Variable
-  pub entry_is_lem : e ≡ entry.Is variable n
+  pub entry_is : e ≡ entry.Is variable n
   pub columns_are : c ≡ columns_in before variable
   pub last_is : last ≡ before + length (lines_in variable)
 
@@ -46,7 +46,7 @@ told (entry.Is v m) before c last n s i j =
     let a : columns_in before v ≡ c = cc in
     let b : before + length (lines_in v) ≡ last = cc in
     let o : m ≡ n = cc in
-    record { variable = v; entry_is_lem = ap (entry.Is v) o; columns_are = sym a; last_is = sym b }
+    record { variable = v; entry_is = ap (entry.Is v) o; columns_are = sym a; last_is = sym b }
 told (entry.Not f) before c last n s i j =
     let k : stood.Not f ≡ stood.Is c last n = sym i ∙ j in
     none cc
@@ -57,7 +57,7 @@ module _ (d : List ℕ) (t : Reading) (met : ℕ → Bool) (y : Tally) (long : l
 
   module _ (c : Columns) (last n : ℕ) (k : Told here y.lines c last n) where
     good : EntryGood met y.rows y.lines k.variable
-    good = entry_good d t met y.rows y.lines k.variable n long few k.entry_is_lem
+    good = entry_good d t met y.rows y.lines k.variable n long few k.entry_is
 
     pub small_here : SmallRow c
     small_here = rw k.columns_are (small_row y.lines k.variable good.good)
@@ -67,7 +67,7 @@ module _ (d : List ℕ) (t : Reading) (met : ℕ → Bool) (y : Tally) (long : l
 
     pub turn_here : (r : Turn) (z : Tally) → z ≡ tally_with y c last → r ≡ followed d c.ident z n → r ≡ turn_after d y here
     unfolding turn_after
-    turn_here r z i j = j ∙ rw (i, k.columns_are, k.last_is, k.entry_is_lem)
+    turn_here r z i j = j ∙ rw (i, k.columns_are, k.last_is, k.entry_is)
 
     pub row_here : (room end : List ℤ) → end ≡ pasted room (row_size * y.rows) (row_cells c) → RowStored y here room end
     row_here room end i = record {
@@ -76,7 +76,7 @@ module _ (d : List ℕ) (t : Reading) (met : ℕ → Bool) (y : Tally) (long : l
     }
       where
         same : (v : Variable) (m : ℕ) → here ≡ entry.Is v m → k.variable ≡ v
-        same v m e = let q : entry.Is k.variable n ≡ entry.Is v m = sym k.entry_is_lem ∙ e in cc
+        same v m e = let q : entry.Is k.variable n ≡ entry.Is v m = sym k.entry_is ∙ e in cc
 
 -- a refusal
 refused_is : (e : Entry) (before : ℕ) (f : Fault) (s : Stood) → s ≡ stood_of before e → s ≡ stood.Not f → e ≡ entry.Not f

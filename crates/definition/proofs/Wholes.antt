@@ -1,11 +1,10 @@
 -- A definition as a whole, by what the code is told of its parts.
 use mathlib.Core.Path.{◌≡◌, refl, sym, ap, ◌∙◌}
-use mathlib.Core.Bool.{Bool, true, false, cond}
-use mathlib.Core.List.{List, [], ◌∷◌, ◌++◌}
-use Prim.Native.Nat.{ℕ, ◌+◌, ◌*◌, ◌≤◌, ◌<◌}
+use mathlib.Core.Bool.{Bool}
+use mathlib.Core.List.{List, []}
+use Prim.Native.Nat.{ℕ, ◌*◌, ◌≤◌}
 use native.Mathlib.Omega.{arith}
 use borrow.Author.Tests.{le-ltb}
-use lib.Dec.{ltb}
 use lib.IntN.{ℤ}
 use lib.ListN.{length, take}
 use lib.Seq.{take_at}
@@ -14,10 +13,8 @@ use Rattle.layout.specs.rule.Layout.{mark, row_size, line_size, line_base, most_
 use Rattle.tokens.specs.declared.Fault.{Fault}
 use Rattle.tokens.specs.declared.Reading.{Reading}
 use Rattle.tokens.specs.declared.Reading.TheVariants.{At, Refused}
-use Rattle.heading.specs.declared.Front.{Front}
 use Rattle.heading.specs.Heading.{front_on}
-use Rattle.measures.specs.Survey.{Variable, lines_all, highest_in, rows_from, all_lines, table_of}
-use Rattle.measures.specs.Good.{Good}
+use Rattle.measures.specs.Survey.{Variable, lines_all, rows_from, all_lines, table_of}
 use Rattle.measures.proofs.Snoc.{rows_length, lines_length, table_length}
 use Rattle.built.specs.Nth.{few_rows, few_lines}
 use Rattle.laying.specs.declared.Tally.{Tally}
@@ -34,7 +31,7 @@ use Rattle.laying.specs.rule.Begins.{begins_table}
 use Rattle.laying.specs.Code.{cells_in, filled_over}
 use Rattle.definition.proofs.Bridge.{held_in}
 use Rattle.definition.proofs.Settles.{count_is, lines_is, rows_fit, lines_fit, cells_are, says_fit, leaves_fit}
-use Rattle.definition.proofs.Goods.{AllGood, variables_good}
+use Rattle.definition.proofs.Goods.{variables_good}
 use Rattle.definition.proofs.Lows.{highest_low}
 
 none : {A : Type 0} → ◌≡◌ {A = ℕ} 0 1 → A

@@ -1,6 +1,6 @@
 -- THE CODE'S BOOKS of a definition as a whole, which the contracts inside this crate name: the readers that the crates below promise, one
 -- after the other. proofs/Bridge shows that they say what rule/Definition says, which alone the public call cites.
-use Rattle.std.specs.Prelude.{Bool, true, false, cond, List, [], ◌∷◌, ◌++◌, ℕ, zero, suc, ◌+◌, ◌-◌, ◌*◌, ltb, ℤ, length}
+use Rattle.std.specs.Prelude.{Bool, cond, List, [], ◌∷◌, ◌++◌, ℕ, zero, suc, ◌-◌, ltb, ℤ, length}
 use Rattle.cells.specs.rule.Cell.{pasted}
 use Rattle.signs.specs.declared.Sign.{Sign}
 use Rattle.scan.specs.rule.Text.{text}

@@ -1,5 +1,5 @@
 -- What the code keeps of the variables: counts, and their rows and lines in rooms of its own.
-use Rattle.std.specs.Prelude.{◌≡◌, Bool, cond, List, ℕ, ◌+◌, ◌-◌, ◌*◌, ◌≤◌, ◌<◌, ltb, ℤ, length, take}
+use Rattle.std.specs.Prelude.{◌≡◌, Bool, cond, List, ℕ, ◌+◌, ◌*◌, ◌≤◌, ◌<◌, ltb, ℤ, length, take}
 use Rattle.cells.specs.rule.Cell.{cell, count_of, pasted}
 use Rattle.signs.specs.declared.Sign.{Sign}
 use Rattle.scan.specs.rule.Text.{text}
@@ -8,9 +8,8 @@ use Rattle.marks.specs.rule.Spelling.{decode_of}
 use Rattle.layout.specs.rule.Layout.{row_size, line_size, line_base, most_rows, most_lines}
 use Rattle.rows.specs.rule.Cells.{row_cells}
 use Rattle.rows.specs.Cells.{name_column}
-use Rattle.tokens.specs.declared.Fault.{Fault}
 use Rattle.tokens.specs.declared.Reading.{Reading}
-use Rattle.tokens.specs.declared.Reading.TheVariants.{At, Refused}
+use Rattle.tokens.specs.declared.Reading.TheVariants.{At}
 use Rattle.tokens.specs.declared.Choice.{Choice}
 use Rattle.tokens.specs.declared.Choice.TheVariants.{Taken, Left}
 use Rattle.tokens.specs.Token.{choice_of}

@@ -1,24 +1,22 @@
 -- The columns of a variable that was read: its kind, its numbers within the limits of the kind, and so all that measuring asks for.
-use mathlib.Core.Path.{◌≡◌, refl, sym, ap, ◌∙◌}
-use mathlib.Core.Logic.{◌⊎◌, ⊎_elim}
+use mathlib.Core.Path.{◌≡◌, refl, ap, ◌∙◌}
+use mathlib.Core.Logic.{⊎_elim}
 use mathlib.Core.Bool.{Bool, true, false, cond, not, ◌&&◌, ◌||◌}
 use mathlib.Core.List.{List}
 use Prim.Native.Nat.{ℕ, ◌+◌, ◌-◌, ◌*◌, ◌≤◌, ◌<◌}
 use native.Mathlib.Omega.{arith}
-use borrow.Author.Tests.{eqb-true, eqb-false}
+use borrow.Author.Tests.{eqb-true}
 use lib.Dec.{eqb}
 use lib.IntN.{ℤ, pos}
 use lib.ListN.{length}
 use lib.Signed.{le_z}
 use Rattle.below.specs.Below.{all_of, and_true}
 use Rattle.cells.specs.rule.Cell.{cell, pasted}
-use Rattle.layout.specs.rule.Layout.{line_size}
 use Rattle.layout.specs.rule.Row.{kind_of, row_of, spread_of}
 use Rattle.layout.specs.Row.{kind_cases}
 use Rattle.layout.specs.declared.Columns.{Columns}
 use Rattle.layout.specs.declared.Kind.{Kind}
 use Rattle.layout.specs.declared.Kind.TheVariants.{Single, Multiple, Quantity, Character, Logical}
-use Rattle.layout.specs.declared.Spread.TheVariants.{Bits, Fields}
 use Rattle.widths.specs.rule.Width.{fits_kind, lowest, highest, decimals_of}
 use Rattle.widths.specs.Width.{FewDecimals, size_within, size_fits}
 use Rattle.sound.specs.rule.Sound.{range_good, values_fit}
@@ -29,7 +27,7 @@ use Rattle.values.proofs.Rooms.{room_number, length_pasted, cells_length}
 use Rattle.variables.specs.declared.Head.{Head}
 use Rattle.variables.specs.Rest.{Telling}
 use Rattle.measures.specs.Width.{flag_of, plain_columns}
-use Rattle.measures.specs.Width.{number_in, Ready, Measurable}
+use Rattle.measures.specs.Width.{number_in, Measurable}
 use Rattle.measures.specs.Survey.{counted_in}
 use Rattle.entries.specs.Entry.{GoodHead}
 use Rattle.entries.specs.Good.{GoodTelling}

@@ -1,19 +1,16 @@
 -- What is known of the statements of a variable that were read: its ident, type, position and texts lie within their limits.
-use mathlib.Core.Path.{◌≡◌, refl, sym, ap, ◌∙◌}
-use mathlib.Core.Bool.{Bool, true, false, cond, ◌||◌}
+use mathlib.Core.Path.{◌≡◌, refl, sym, ◌∙◌}
+use mathlib.Core.Bool.{Bool, true, false, cond}
 use mathlib.Core.List.{List}
-use Prim.Native.Nat.{ℕ, ◌+◌, ◌-◌, ◌≤◌, ◌<◌}
+use Prim.Native.Nat.{ℕ, ◌≤◌, ◌<◌}
 use native.Mathlib.Omega.{arith}
-use borrow.Author.Tests.{eqb-true, eqb-false, ltb-true, ltb-false, leb-true, leb-false}
-use lib.Dec.{eqb, ltb, leb}
+use borrow.Author.Tests.{eqb-false, ltb-false}
+use lib.Dec.{eqb, ltb}
 use lib.ListN.{length}
 use Rattle.scan.specs.rule.Text.{text}
-use Rattle.scan.specs.rule.Number.{is_digit}
 use Rattle.scan.specs.Number.{capped, digits_from}
-use Rattle.scan.specs.declared.Digits.{Digits}
-use Rattle.scan.proofs.Runs.{low, digits_held}
+use Rattle.scan.proofs.Runs.{digits_held}
 use Rattle.scan.proofs.Orders.{run_value}
-use Rattle.tokens.specs.declared.Fault.{Fault}
 use Rattle.tokens.specs.declared.Reading.{Reading}
 use Rattle.tokens.specs.declared.Reading.TheVariants.{At, Refused}
 use Rattle.tokens.specs.declared.Choice.{Choice}
@@ -32,12 +29,10 @@ use Rattle.statements.specs.declared.Position.{Position}
 use Rattle.statements.specs.declared.Stated.{Stated}
 use Rattle.statements.specs.declared.Stated.TheVariants as stated
 use Rattle.statements.specs.Note.{statement_on, text_on}
-use Rattle.tokens.specs.declared.Quoted.{Quoted}
 use Rattle.tokens.specs.declared.Phrase.{Phrase}
 use Rattle.tokens.specs.declared.Phrase.TheVariants as phrase
 use Rattle.tokens.proofs.Aheads.{quoted_within}
 use Rattle.variables.specs.declared.Head.{Head}
-use Rattle.variables.specs.declared.Headed.{Headed}
 use Rattle.variables.specs.declared.Headed.TheVariants as headed
 use Rattle.variables.specs.Head.{join_titles, join_head, head_on}
 use Rattle.statements.specs.Position.{true_of, below_of, judge_position, both_of, position_rest, position_on}

@@ -1,23 +1,20 @@
 -- What stands behind the position of a variable is good, by type.
-use mathlib.Core.Path.{◌≡◌, refl, sym, ap, ◌∙◌}
-use mathlib.Core.Logic.{◌⊎◌, inl, inr, ⊎_elim}
+use mathlib.Core.Path.{◌≡◌, refl}
+use mathlib.Core.Logic.{◌⊎◌, inl, inr}
 use mathlib.Core.Bool.{Bool, true, false, cond}
-use mathlib.Core.List.{List, [], ◌∷◌}
-use Prim.Native.Nat.{ℕ, ◌+◌, ◌-◌, ◌*◌, ◌≤◌, ◌<◌}
+use mathlib.Core.List.{List, []}
+use Prim.Native.Nat.{ℕ, ◌≤◌}
 use native.Mathlib.Omega.{arith}
 use borrow.Author.Tests.{eqb-true, eqb-false}
 use lib.Dec.{eqb}
 use lib.ListN.{length}
-use Rattle.tokens.specs.declared.Fault.{Fault}
 use Rattle.tokens.specs.declared.Reading.{Reading}
 use Rattle.tokens.specs.declared.Reading.TheVariants.{At, Refused}
 use Rattle.tokens.specs.declared.Choice.{Choice}
 use Rattle.tokens.specs.declared.Choice.TheVariants.{Taken, Left}
-use Rattle.tokens.specs.declared.Figures.{Figures}
 use Rattle.tokens.specs.declared.Number.{Number}
 use Rattle.tokens.specs.declared.Number.TheVariants as number
 use Rattle.tokens.specs.Token.{choice_of}
-use Rattle.statements.specs.declared.Subfields.{Subfields}
 use Rattle.statements.specs.declared.Spreading.{Spreading}
 use Rattle.statements.specs.declared.Spreading.TheVariants as spreading
 use Rattle.statements.specs.rule.Words.{SPREAD}
@@ -36,7 +33,7 @@ use Rattle.variables.specs.Rest.{rest_of}
 use Rattle.variables.specs.Rest as told
 use Rattle.entries.specs.Good.{GoodTelling}
 use Rattle.entries.proofs.Heads.{none}
-use Rattle.entries.proofs.Spreads.{GoodSpread, spread_good, size_good}
+use Rattle.entries.proofs.Spreads.{spread_good, size_good}
 
 -- nothing said is good
 empty_block_lem : (q : Bool) → GoodBlock q empty_block

@@ -1,7 +1,9 @@
 -- What the code keeps: folds, what was gathered, a value taken.
-use Rattle.std.specs.Prelude.{◌≡◌, ◌⊎◌, Bool, ◌&&◌, ℕ, zero, suc, ◌+◌, ◌-◌, ◌*◌, ◌/◌, ◌^◌, ◌≤◌, ◌<◌, min, eqb, ltb, ℤ, pos, negsuc, length, take, get_or, set}
+use Rattle.std.specs.Prelude.{◌≡◌, ◌⊎◌, Bool, ◌&&◌, ℕ, zero, suc, ◌+◌, ◌-◌, ◌*◌, ◌/◌, ◌^◌, ◌≤◌, ◌<◌, min, eqb, ltb, ℤ, pos, negsuc, length}
+use Rattle.std.specs.Prelude.{take, get_or, set}
 use Rattle.std.proofs.Math.Path.{refl, sym, ap}
-use Rattle.std.proofs.Common.{◌∙◌, inl, inr, ⊎_elim, add-one, length-append, length-drop, drop-cons, take-suc-set, take-suc, get_or-drop, get_or-take, length-take-le, take_all}
+use Rattle.std.proofs.Common.{◌∙◌, inl, inr, ⊎_elim, add-one, length-append, length-drop, drop-cons, take-suc-set, take-suc, get_or-drop}
+use Rattle.std.proofs.Common.{get_or-take, length-take-le, take_all}
 use Rattle.std.proofs.Math.Bool.{true, false, cond}
 use mathlib.Core.List.{List, [], ◌∷◌, ◌++◌, append-nil, append_assoc}
 use native.Mathlib.Omega.{arith}
@@ -126,7 +128,8 @@ unfolding number_guess
 number_none k [] h = refl
 number_none k (b ∷ f) h = absurd (omega arith)
 
-pub number_down : (k : ℕ) (s : List ℕ) → (length s ≡ 0 → ⊥) → get_or s 0 0 ≡ 45 → number_of true (size_guess k (drop 1 s)) ≡ number_guess k s
+pub number_down : (k : ℕ) (s : List ℕ) → (length s ≡ 0 → ⊥) → get_or s 0 0 ≡ 45 → number_of true (size_guess k (drop 1 s))
+    ≡ number_guess k s
 unfolding number_guess
 number_down k [] n e = absurd (n refl)
 number_down k (b ∷ s) n e = rw (eq-eqb b 45 e)
@@ -317,7 +320,8 @@ module _ (k : ℕ) where
   tail_none [] h = refl
   tail_none (b ∷ s) h = absurd (omega arith)
 
-  pub tail_point : (s : List ℕ) → (length s ≡ 0 → ⊥) → get_or s 0 0 ≡ 46 → (k ≡ 0 → ⊥) → length s ≡ k + 1 → all_zeros (drop 1 s) ≡ tail_good k s
+  pub tail_point : (s : List ℕ) → (length s ≡ 0 → ⊥) → get_or s 0 0 ≡ 46 → (k ≡ 0 → ⊥) → length s ≡ k + 1 → all_zeros (drop 1 s)
+      ≡ tail_good k s
   unfolding tail_good
   tail_point [] n e z h = absurd (n refl)
   tail_point (b ∷ s) n e z h = rw (eq-eqb b 46 e, eq-eqb (length s) k (omega arith), ne_eqb k 0 z)
@@ -594,7 +598,8 @@ module _ (r : Row) (f : List ℕ) (some : length f ≡ 0 → ⊥) (kind : r.kind
   pub truth_is : {b : Bool} → b ≡ eqb (get_or f 0 0) 49 → truth b ≡ guess_of r.kind f
   truth_is e = sym (truth_guessed ∙ ap truth (sym (e ∙ truth_first f some)))
 
-  pub truth_left_is : {b : Bool} {u : List ℕ} {q : Bool} → b ≡ eqb (get_or f 0 0) 49 → u ≡ cond b 49 48 ∷ [] → q ≡ left_of 0 u f → LeftOf r f q
+  pub truth_left_is : {b : Bool} {u : List ℕ} {q : Bool} → b ≡ eqb (get_or f 0 0) 49 → u ≡ cond b 49 48 ∷ [] → q ≡ left_of 0 u f
+      → LeftOf r f q
   unfolding export_value decimals_of
   truth_left_is {b} {u} {q} e w l =
       ap (λ (x : Value). left_of (decimals_of r.kind) (export_value (decimals_of r.kind) x) f) (sym (truth_is e))

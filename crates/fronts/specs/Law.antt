@@ -4,6 +4,7 @@ use Rattle.std.proofs.Common.{◌∙◌}
 use Prim.Native.Nat.{ℕ, zero, suc, ◌+◌, ◌-◌, ◌≤◌, ◌<◌}
 use native.Mathlib.Omega.{arith}
 use borrow.Author.Tests.{eq-eqb, ne_eqb, eqb-true, eqb-false}
+use Rattle.below.specs.Below.{holds_not}
 use Rattle.statements.specs.rule.Words.{DATE, TIME, ORIGIN, USER, STANDARD}
 use Rattle.steps.specs.declared.Found.{Found}
 use Rattle.steps.specs.Step.{statement_found}
@@ -32,7 +33,32 @@ module _ (d : List ℕ) where
   pub five_next : (n : ℕ) (i : Item) → i ≡ item_at d n → i.which ≡ 5 → i.next ≡ n
   five_next n i a u = rw a (five n (rw a at u))
 
+  pub heading_over : (f n : ℕ) → (item_found f d n 5).there ≡ true → (item_at d (item_found f d n 5).next).which ≡ 5
+  unfolding item_found
+  heading_over zero n t = holds_not t refl
+  heading_over (suc f) n t = by (eqb (item_at d n).which 5) refl (heading_over f (item_past d (item_at d n))) t where
+    by : (q : Bool) → eqb (item_at d n).which 5 ≡ q
+        → ((item_found f d (item_past d (item_at d n)) 5).there ≡ true
+        → (item_at d (item_found f d (item_past d (item_at d n)) 5).next).which ≡ 5)
+        → (let r = cond q (found true (item_at d n).next) (cond q (found false n) (item_found f d (item_past d (item_at d n)) 5)) in
+        r.there ≡ true → (item_at d r.next).which ≡ 5)
+    by true e ih t = let w = eqb-true (item_at d n).which 5 e in rw (five n w) w
+    by false e ih t = ih t
+
+  -- what a search for the others is told
+  pub stopped : (start k : ℕ) (r : Found) → k < 5 → r ≡ item_found 6 d start 5 → r.there ≡ true
+      → (k < 5) × ((item_at d r.next).which ≡ 5)
+  stopped start k r h e t =
+      let u : (item_found 6 d start 5).there ≡ true = rw e at t in
+      (h, rw e (heading_over 6 start u))
+
 module _ (d : List ℕ) (j n k : ℕ) where
+  pub items_stop : j < 6 → k < 5 → (item_at d n).which ≡ 5 → item_found (6 - j) d n k ≡ found false n
+  unfolding item_found
+  items_stop h g u =
+      let q : 6 - j ≡ suc (6 - (j + 1)) = omega arith in
+      rw (q, ne_eqb (item_at d n).which k (λ e. omega (arith, e, u)), eq-eqb (item_at d n).which 5 u)
+
   pub items_out : 6 ≤ j → item_found (6 - j) d n k ≡ found false n
   unfolding item_found
   items_out h = let q : 6 - j ≡ 0 = omega arith in rw q

@@ -23,7 +23,7 @@ use Rattle.survey.specs.rule.Survey.{Amount, KeptText, Block}
 use Rattle.survey.specs.rule.Survey as says
 use Rattle.reading.specs.rule.Result.{Result, Is, Not, Reader, bind, turn, repeat}
 use Rattle.reading.specs.rule.Least.{named}
-use Rattle.reading.specs.rule.Token.{on_word, either, amount, string}
+use Rattle.reading.specs.rule.Token.{on_word, either, amount}
 use Rattle.reading.specs.rule.Statement.{notes}
 use Rattle.reading.specs.rule.Values.{line_charges, listing, with_line, end_values, line, listed}
 use Rattle.bridge.specs.Lowest.{never, clear, Judged, fine, faulty, judged_view}

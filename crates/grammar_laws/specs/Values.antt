@@ -13,7 +13,7 @@ use Rattle.survey.specs.rule.Survey as says
 use Rattle.reading.specs.rule.Result.{Result, Is, Not, Reader, bind}
 use Rattle.reading.specs.rule.Least.{named, judged}
 use Rattle.reading.specs.rule.Token.{here, optional, amount, value}
-use Rattle.reading.specs.rule.Statement.{notes, statement}
+use Rattle.reading.specs.rule.Statement.{notes}
 use Rattle.reading.specs.rule.Values.{range_charges, unlisted, range_from, end_values, lines, range, range_or, values}
 use Rattle.grammar.specs.Token.{Gap, Here, NoWord, Keyword, Value, Notes, Statement, End, Optional, Whether}
 use Rattle.grammar.specs.Token as token

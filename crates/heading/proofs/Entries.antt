@@ -5,18 +5,16 @@ use mathlib.Core.List.{List, [], ◌∷◌}
 use Prim.Native.Nat.{ℕ, ◌≤◌, ◌<◌}
 use native.Mathlib.Omega.{arith}
 use lib.Dec.{eqb}
-use Rattle.scan.specs.rule.Loop.{Next, Again, Done, loop_of}
+use Rattle.scan.specs.rule.Loop.{Again}
 use Rattle.scan.proofs.Loops.{loop_again, loop_done}
-use Rattle.tokens.specs.declared.Fault.{Fault}
 use Rattle.tokens.specs.declared.Reading.{Reading}
 use Rattle.tokens.specs.declared.Reading.TheVariants.{At, Refused}
 use Rattle.tokens.specs.declared.Choice.{Choice}
 use Rattle.tokens.specs.declared.Choice.TheVariants.{Taken, Left}
-use Rattle.tokens.specs.declared.Quoted.{Quoted}
-use Rattle.tokens.specs.Gap.{left, gap_on}
+use Rattle.tokens.specs.Gap.{left}
 use Rattle.tokens.specs.Token.{choice_of, word_on, string_on, past_string}
 use Rattle.tokens.proofs.Aheads.{taken_less, string_left, word_left}
-use Rattle.statements.specs.rule.Words.{DATE, TIME, ORIGIN, USER, STANDARD, NAMES}
+use Rattle.statements.specs.rule.Words.{NAMES}
 use Rattle.statements.specs.Note.{notes_on}
 use Rattle.statements.proofs.Notes.{notes_left}
 use Rattle.heading.specs.declared.Heading.{Heading}

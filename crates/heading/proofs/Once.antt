@@ -1,13 +1,13 @@
 -- DATE, TIME, ORIGIN, USER, STANDARD NAMES, each at most once: the code knows a text that was given by the place behind it, and that place
 -- is 0 exactly where the statement was not given. So a statement is read where it was not given before, and is 2 at its word where it was.
-use mathlib.Core.Path.{◌≡◌, refl, ◌∙◌, sym}
+use mathlib.Core.Path.{◌≡◌, refl}
 use mathlib.Core.Bool.{Bool, true, false, cond, not, ◌||◌}
-use mathlib.Core.List.{List, [], ◌∷◌}
-use Prim.Native.Nat.{ℕ, zero, suc, ◌≤◌, ◌<◌}
+use mathlib.Core.List.{List}
+use Prim.Native.Nat.{ℕ, zero, suc, ◌≤◌}
 use native.Mathlib.Omega.{arith}
 use lib.Dec.{eqb}
 use borrow.Author.Tests.{ne_eqb}
-use Rattle.scan.specs.rule.Loop.{Next, Again, Done, loop_of}
+use Rattle.scan.specs.rule.Loop.{Again, loop_of}
 use Rattle.tokens.specs.declared.Fault.{Fault}
 use Rattle.tokens.specs.declared.Reading.{Reading}
 use Rattle.tokens.specs.declared.Reading.TheVariants.{At, Refused}
@@ -18,7 +18,7 @@ use Rattle.tokens.specs.declared.Choice.{Choice}
 use Rattle.tokens.specs.declared.Choice.TheVariants.{Taken, Left}
 use Rattle.tokens.specs.rule.Gap.{fault}
 use Rattle.tokens.specs.Gap.{gap_on, left}
-use Rattle.tokens.specs.Token.{choice_of, phrase_on, string_on, past_string, word_on}
+use Rattle.tokens.specs.Token.{choice_of, string_on, past_string, word_on}
 use Rattle.tokens.proofs.Aheads.{string_next}
 use Rattle.statements.specs.rule.Words.{DATE, TIME, ORIGIN, USER, STANDARD, NAMES}
 use Rattle.statements.specs.Note.{notes_on, notes_here}

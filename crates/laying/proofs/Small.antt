@@ -2,7 +2,7 @@
 use mathlib.Core.Path.{◌≡◌, refl, sym, ap, ◌∙◌}
 use mathlib.Core.Logic.{◌⊎◌, inl, inr, ⊎_elim}
 use mathlib.Core.Bool.{Bool, true, false, cond, ◌&&◌, ◌||◌, beq}
-use Prim.Native.Nat.{ℕ, ◌+◌, ◌*◌, ◌≤◌}
+use Prim.Native.Nat.{◌+◌, ◌*◌, ◌≤◌}
 use native.Mathlib.Nat.{mul-le-mul_left, mul-le-mul_right, mul-one, one-mul}
 use native.Mathlib.Omega.{arith}
 use borrow.Author.Tests.{eqb-true, eqb-false, eq-eqb, leb-true}
@@ -13,9 +13,9 @@ use Rattle.layout.specs.rule.Row.{kind_of, row_of, spread_of}
 use Rattle.layout.specs.Row.{kind_cases}
 use Rattle.layout.specs.declared.Columns.{Columns}
 use Rattle.layout.specs.declared.Kind.{Kind}
-use Rattle.layout.specs.declared.Kind.TheVariants.{Single, Multiple, Quantity, Character, Logical}
+use Rattle.layout.specs.declared.Kind.TheVariants.{Multiple}
 use Rattle.layout.specs.declared.Spread.TheVariants.{Bits, Fields}
-use Rattle.sound.specs.rule.Sound.{ident_good, position_good, subfields_good, texts_good, counts_good, places_good, room_good}
+use Rattle.sound.specs.rule.Sound.{ident_good, position_good, subfields_good, counts_good, places_good, room_good}
 use Rattle.rows.specs.Cells.{SmallRow}
 
 module _ (c : Columns) where

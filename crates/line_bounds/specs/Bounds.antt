@@ -4,7 +4,7 @@
 -- Assumes nothing.
 use Rattle.std.specs.Prelude.{◌≡◌, Bool, true, false, cond, List, [], ◌∷◌, ◌++◌, eqb, ltb, ℤ, pos, length}
 use Rattle.std.proofs.Math.Path.{refl}
-use Rattle.std.proofs.Common.{sym, ap, ◌∙◌, div-one, le-mul_of_pos_right, add-one}
+use Rattle.std.proofs.Common.{◌∙◌, div-one, le-mul_of_pos_right, add-one}
 use Prim.Native.Nat.{ℕ, zero, suc, ◌+◌, ◌-◌, ◌*◌, ◌/◌, ◌^◌, ◌≤◌, ◌<◌}
 use Rattle.std.proofs.Math.Nat.{suc-mul, zero-mul}
 use native.Mathlib.Omega.{arith}
@@ -22,14 +22,14 @@ use Rattle.widths.specs.rule.Width.{lowest, highest, decimals_of}
 use Rattle.places.specs.rule.Places.{pick}
 use Rattle.fields.specs.rule.Legal.{legal}
 use Rattle.fields.specs.rule.Number.{padded, all_spaces}
-use Rattle.fields.specs.rule.Field.{Value, missing, number, members, text, truth, Field, holds, illegal, all_bits, set_bits, bits_field}
+use Rattle.fields.specs.rule.Field.{missing, number, members, text, truth, Field, holds, illegal, all_bits, set_bits, bits_field}
 use Rattle.fields.specs.rule.Field.{set_fits, text_fits}
 use Rattle.fields.specs.rule.Row.{defined, categories, fits_by, fits, other_type, reading_of, field_by, places_by}
 use Rattle.fields.specs.Facts.{RowFacts, KindFacts}
 use Rattle.fieldlaws.specs.NumberLaws.{length_padded}
 use Rattle.fieldlaws.specs.BackLaws.{fit_legal, fit_set}
 use Rattle.fieldlaws.specs.RisingLaws.{Rising, none, skip, keep, rising_of}
-use Rattle.fieldlaws.specs.TextLaws.{Fitting, fitting}
+use Rattle.fieldlaws.specs.TextLaws.{fitting}
 use Rattle.fieldlaws.specs.Corrections.{read_fits}
 use Rattle.sound.specs.rule.Sound.{well_formed}
 use Rattle.sound.specs.rule.Rows.{rows_of, length_of}
@@ -37,7 +37,7 @@ use Rattle.sound.specs.Rows.{row_facts}
 use Rattle.records.specs.rule.Value.{reading_at}
 use Rattle.lines.specs.rule.Text.{numeral}
 use Rattle.cuts.specs.rule.Records.{Records, over, unended, record_and}
-use Rattle.commas.specs.rule.Csv.{holds_special, doubled_byte, doubled, field_bytes, line_bytes, csv_bytes, each}
+use Rattle.commas.specs.rule.Csv.{holds_special, doubled_byte, doubled, field_bytes, line_bytes, csv_bytes}
 use Rattle.commas.specs.Csv.{field_plain, comma_before, line_left, left_line}
 use Rattle.value_fields.specs.rule.Values.{amount_text, export_number, codes_behind, set_text, export_value, export_field, row_field}
 use Rattle.value_fields.specs.Plain.{number_plain, set_plain, truth_plain}

@@ -1,8 +1,8 @@
 -- What is spelt as the paper has it is skipped to its end, and decoded to what it says.
 use mathlib.Core.Path.{◌≡◌, refl, ◌∙◌, sym, ap}
-use mathlib.Core.Bool.{Bool, true, false, cond}
-use mathlib.Core.List.{List, [], ◌∷◌, ◌++◌}
-use Prim.Native.Nat.{ℕ, ◌+◌}
+use mathlib.Core.Bool.{true, false}
+use mathlib.Core.List.{List, [], ◌++◌}
+use Prim.Native.Nat.{ℕ}
 use native.Mathlib.Omega.{arith}
 use lib.Dec.{eqb}
 use borrow.Author.Tests.{ne_eqb}
@@ -11,7 +11,7 @@ use Rattle.signs.specs.declared.Sign.{Sign}
 use Rattle.scan.specs.rule.Text.{Text, stop, sign}
 use Rattle.scan.specs.rule.Number.{is_digit}
 use Rattle.marks.specs.declared.Inside.{Inside}
-use Rattle.marks.specs.declared.Inside.TheVariants.{Plain, Opened, Shut, Ell, Pair, Low}
+use Rattle.marks.specs.declared.Inside.TheVariants.{Plain, Opened, Pair, Low}
 use Rattle.marks.specs.declared.Move.TheVariants.{Go}
 use Rattle.marks.specs.declared.Skip.TheVariants.{Past}
 use Rattle.marks.specs.rule.Marks.{is_hex, inside_of, string_of}

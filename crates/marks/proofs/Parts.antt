@@ -1,7 +1,7 @@
 -- What a string says, one sign at a time, is what it says as a whole.
-use mathlib.Core.Path.{◌≡◌, refl, ◌∙◌, sym, ap}
+use mathlib.Core.Path.{◌≡◌, refl, ◌∙◌, sym}
 use mathlib.Core.Bool.{Bool, true, false, cond, ◌&&◌}
-use mathlib.Core.List.{List, [], ◌∷◌, ◌++◌}
+use mathlib.Core.List.{List, [], ◌∷◌}
 use Prim.Native.Nat.{ℕ, ◌+◌, ◌≤◌, ◌<◌}
 use native.Mathlib.Omega.{arith}
 use lib.Dec.{ltb, leb, eqb}
@@ -19,11 +19,9 @@ use Rattle.marks.specs.declared.Move.{Move}
 use Rattle.marks.specs.declared.Move.TheVariants.{Go, Closed, Wrong}
 use Rattle.marks.specs.declared.Part.{Part}
 use Rattle.marks.specs.declared.Part.TheVariants.{Said, Over}
-use Rattle.marks.specs.declared.Given.{Given}
-use Rattle.marks.specs.declared.Given.TheVariants.{One, Nothing}
 use Rattle.marks.specs.rule.Marks.{is_hex, inside_of}
 use Rattle.marks.specs.rule.Spelling.{hex_pair, gives_of, gone, decode_of}
-use Rattle.marks.specs.Spelling.{given_list, ready, idle, said, parted, part_from}
+use Rattle.marks.specs.Spelling.{ready, idle, parted, part_from}
 
 no : {A : Type 0} {s : Inside} → Closed ≡ Go s → A
 no e = let z : ◌≡◌ {A = ℕ} 0 1 = cc in absurd (omega arith)

@@ -1,7 +1,6 @@
 -- What follows from rule/Marks.antt, and what the code keeps.
-use Rattle.std.specs.Prelude.{ℕ, ◌+◌, cond, ◌||◌, ltb, eqb}
-use Rattle.ascii.specs.rule.Class.{class_of, within}
-use Rattle.scan.specs.rule.Text.{Text, text}
+use Rattle.std.specs.Prelude.{ℕ, ◌+◌, cond, ltb, eqb}
+use Rattle.scan.specs.rule.Text.{Text}
 use Rattle.marks.specs.declared.Inside.TheVariants.{Plain}
 use Rattle.marks.specs.declared.Skip.{Skip}
 use Rattle.marks.specs.declared.Skip.TheVariants.{Past, Unclosed, Bad}

@@ -18,7 +18,7 @@ use Rattle.matrix.specs.rule.Entry.{flags_of, value_bytes}
 use Rattle.matrix.specs.Put.{put_entries}
 use Rattle.matrix.specs.Entry.{length_flags, length_values, entries_none, entries_then}
 use Rattle.columns.specs.rule.Columns.{Column, row_columns, columns_from, entries_of}
-use Rattle.columns.specs.Columns.{entries_append, length_entries, columns_on, columns_none, left_count}
+use Rattle.columns.specs.Columns.{entries_append, length_entries, columns_on, left_count}
 use Rattle.columns.specs.Room.{Room}
 use Rattle.columns.specs.Reach.{Readable}
 use Rattle.matrices.specs.rule.Matrix.{matrix_entries}
@@ -95,7 +95,8 @@ module _ (t : List ℤ) (v step : ℕ) where
       let m = suc-mul (length rs) step in
       let p : f + step + length xs ≡ f + length xs + step = omega arith in
       let q : w + 8 * step + 8 * length xs ≡ w + 8 * length xs + 8 * step = omega arith in
-      let one : put_entries o f w (entries_of t v r (xs ++ ys)) ≡ put_entries (put_entries o f w ex) (f + length xs) (w + 8 * length xs) ey =
+      let one : put_entries o f w (entries_of t v r (xs ++ ys))
+      ≡ put_entries (put_entries o f w ex) (f + length xs) (w + 8 * length xs) ey =
       ap (λ (es : List Entry). put_entries o f w es) (entries_append t v r xs ys)
       ∙ sym (entries_then o f w ex ey (omega arith))
       ∙ ap (λ (n : ℕ). put_entries (put_entries o f w ex) (f + n) (w + 8 * n) ey) nx in

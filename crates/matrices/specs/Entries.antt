@@ -1,21 +1,19 @@
 -- The entries of all records, record by record: the k-th of each record is a column's.
 -- Assumes nothing.
-use Rattle.std.specs.Prelude.{◌≡◌, ℤ, drop}
+use Rattle.std.specs.Prelude.{◌≡◌, ℤ}
 use Rattle.std.proofs.Math.Path.{refl, ap}
-use Rattle.std.proofs.Common.{sym, ◌∙◌, add-one, length-append, drop-cons}
+use Rattle.std.proofs.Common.{◌∙◌}
 use mathlib.Core.List.{List, [], ◌∷◌, ◌++◌}
-use Prim.Native.Nat.{ℕ, zero, suc, ◌+◌, ◌-◌, ◌*◌, ◌≤◌, ◌<◌}
+use Prim.Native.Nat.{ℕ, zero, suc, ◌+◌, ◌*◌, ◌≤◌, ◌<◌}
 use Rattle.std.proofs.Math.Nat.{suc-mul}
 use native.Mathlib.Omega.{arith}
 use Rattle.std.proofs.Math.ListN.{length, get_or, get_or-append}
 use Rattle.std.proofs.Math.Seq.{get_or-append-add}
-use Rattle.matrix.specs.declared.Entry.{Entry}
 use Rattle.matrix.specs.declared.Entry.TheVariants.{Absent}
-use Rattle.matrix.specs.Stride.{picked, InStride}
+use Rattle.matrix.specs.Stride.{InStride}
 use Rattle.columns.specs.rule.Columns.{Column, of_row, entry_of, entries_of}
 use Rattle.columns.specs.Columns.{length_entries}
-use Rattle.matrices.specs.rule.Matrix.{matrix_entries, column_entries}
-use Rattle.matrices.specs.Records.{length_all}
+use Rattle.matrices.specs.rule.Matrix.{matrix_entries}
 
 -- the k-th column, and the n-th record
 abbrev pub column_at : List Column → ℕ → Column

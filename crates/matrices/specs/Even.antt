@@ -1,6 +1,6 @@
 -- The records of a sound file are all as long as its first: each starts and ends where its number says, and nobody need search for it.
 -- Assumes nothing.
-use Rattle.std.specs.Prelude.{◌≡◌, refl, Bool, true, false, cond, List, [], ◌∷◌, ◌++◌, eqb, leb, ℤ, get_or, take, drop}
+use Rattle.std.specs.Prelude.{◌≡◌, refl, Bool, true, false, cond, List, [], ◌∷◌, ◌++◌, eqb, leb, ℤ, take, drop}
 use Rattle.std.proofs.Common.{sym, ◌∙◌, subst, append_assoc, eqb-true, ne_eqb, length-take, length-drop}
 use Rattle.std.proofs.Math.Path.{ap}
 use Prim.Native.Nat.{ℕ, zero, suc, ◌+◌, ◌-◌, ◌*◌, ◌≤◌, ◌<◌}
@@ -11,15 +11,15 @@ use Rattle.std.proofs.Math.ListN.{length, length-append}
 use Rattle.std.proofs.Math.Seq.{take_at, drop-append-add}
 use Rattle.below.specs.Below.{holds_not}
 use Rattle.cuts.specs.declared.Terminator.{Terminator}
-use Rattle.cuts.specs.declared.Next.{Next}
 use Rattle.cuts.specs.declared.Next.TheVariants.{Ended, Unended, Nothing}
 use Rattle.cuts.specs.rule.Cut.{next_from, terminator_of}
 use Rattle.cuts.specs.rule.Records.{Records, over, unended, record_and, records_from, records_of, terminator_bytes, laid, length_of_first}
 use Rattle.cuts.specs.Records.{part, laid_again, next_ended, next_unended, next_nothing, over_past}
 use Rattle.sound.specs.rule.Sound.{well_formed}
 use Rattle.sound.specs.rule.Rows.{rows_of, length_of}
-use Rattle.records.specs.rule.Verdict.{Verdict, refused, rows_verdict}
-use Rattle.files.specs.rule.File.{FileVerdict, sound_with, bad_table, record_verdict, go_on, first_length, records_verdict, file_verdict, is_sound}
+use Rattle.records.specs.rule.Verdict.{refused, rows_verdict}
+use Rattle.files.specs.rule.File.{sound_with, bad_table, record_verdict, first_length, records_verdict, file_verdict}
+use Rattle.files.specs.rule.File.{is_sound}
 use Rattle.matrices.specs.rule.Matrix.{ended_of}
 use Rattle.matrices.specs.Records.{AllLong, went_on}
 use Rattle.matrices.specs.Entries.{record_at}
@@ -67,7 +67,8 @@ file_even t d m = go (well_formed t)
         let w = went_on (record_verdict t (length r) r) 0 m (records_verdict t 1 (length r) rs) e in
         (refl, records_even t rs 1 (length r) m (omega arith) w.1)
 
-    go : (b : Bool) → cond b (records_verdict t 0 0 (records_of d)) bad_table ≡ sound_with m → AllOf (length_of_first (records_of d)) (records_of d)
+    go : (b : Bool) → cond b (records_verdict t 0 0 (records_of d)) bad_table ≡ sound_with m
+        → AllOf (length_of_first (records_of d)) (records_of d)
     go true e = all (records_of d) e
     go false e = let z : ◌≡◌ {A = ℕ} 0 1 = cc in absurd (omega arith)
 
@@ -161,7 +162,8 @@ module _ (d : List ℕ) {w : Terminator} (is : w ≡ terminator_of d) where
   unfolding records_of
   same_records = ap (λ (x : Terminator). records_from x d) is
 
-  pub first_ended : w.size ≤ 2 → AllOf (length_of_first (records_of d)) (records_of d) → {a e n : ℕ} → next_from w 0 (drop 0 d) ≡ Ended a e n
+  pub first_ended : w.size ≤ 2 → AllOf (length_of_first (records_of d)) (records_of d) → {a e n : ℕ} → next_from w 0 (drop 0 d)
+      ≡ Ended a e n
       → Even d e n
   unfolding length_of_first
   first_ended few all {a} {e} {n} q =

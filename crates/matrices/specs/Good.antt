@@ -1,7 +1,7 @@
 -- Every entry of a tested table's columns is one that is converted exactly.
 -- Assumes nothing.
-use Rattle.std.specs.Prelude.{◌≡◌, refl, Bool, true, false, cond, List, [], ◌∷◌, ◌++◌, ℤ, pos, length}
-use Rattle.std.proofs.Common.{sym, ap, ◌∙◌, arith}
+use Rattle.std.specs.Prelude.{Bool, true, false, cond, List, [], ◌∷◌, ◌++◌, ℤ, pos, length}
+use Rattle.std.proofs.Common.{sym, arith}
 use Rattle.std.proofs.Math.Path.{subst}
 use Prim.Native.Nat.{ℕ, zero, suc, ◌+◌, ◌^◌, ◌≤◌, ◌<◌}
 use Rattle.layout.specs.declared.Header.{Header}
@@ -16,7 +16,7 @@ use Rattle.matrix.specs.declared.Entry.{Entry}
 use Rattle.matrix.specs.declared.Entry.TheVariants.{Scaled}
 use Rattle.matrix.specs.Entry.{EntryGood}
 use Rattle.matrix.specs.Stride.{AllGood}
-use Rattle.columns.specs.rule.Columns.{Column, of_row, of_category, of_categories, columns_by, row_columns, columns_from, number_entry}
+use Rattle.columns.specs.rule.Columns.{of_categories, columns_by, row_columns, columns_from, number_entry}
 use Rattle.widths.specs.rule.Width.{decimals_of}
 use Rattle.columns.specs.rule.Columns.{member_entry}
 use Rattle.columns.specs.rule.Columns.{entry_of, entries_of}

@@ -14,8 +14,9 @@ use Rattle.sound.specs.rule.Rows.{rows_of, length_of}
 use Rattle.records.specs.declared.Found.{Found}
 use Rattle.records.specs.declared.Found.TheVariants.{At, Nothing}
 use Rattle.records.specs.rule.First.{first_from, bad_row, row_fault}
-use Rattle.records.specs.rule.Verdict.{sound, refused, row_verdict, byte_verdict, rows_verdict}
-use Rattle.files.specs.rule.File.{FileVerdict, sound_with, bad_table, record_verdict, go_on, first_length, records_verdict, file_verdict, is_sound}
+use Rattle.records.specs.rule.Verdict.{refused, row_verdict, byte_verdict, rows_verdict}
+use Rattle.files.specs.rule.File.{sound_with, bad_table, record_verdict, first_length, records_verdict, file_verdict}
+use Rattle.files.specs.rule.File.{is_sound}
 use Rattle.matrices.specs.rule.Matrix.{ended_of}
 use Rattle.matrices.specs.Records.{went_on}
 use Rattle.matrices.specs.Entries.{record_at}
@@ -64,7 +65,8 @@ module _ (t : List ℤ) (r : List ℕ) where
       go true false g = holds_not g refl
       go false q g = holds_not g refl
 
-records_legal : (t : List ℤ) (rs : Records) (n first m : ℕ) → records_verdict t n first rs ≡ sound_with m → AllLegal t (rows_of t) (ended_of rs)
+records_legal : (t : List ℤ) (rs : Records) (n first m : ℕ) → records_verdict t n first rs ≡ sound_with m
+    → AllLegal t (rows_of t) (ended_of rs)
 unfolding records_verdict AllLegal ended_of
 records_legal t over n first m e = tt
 records_legal t (unended r) n first m e = tt
@@ -77,6 +79,7 @@ pub file_legal : (t : List ℤ) (d : List ℕ) (m : ℕ) → file_verdict t d �
 unfolding file_verdict
 file_legal t d m = go (well_formed t)
   where
-    go : (b : Bool) → cond b (records_verdict t 0 0 (records_of d)) bad_table ≡ sound_with m → AllLegal t (rows_of t) (ended_of (records_of d))
+    go : (b : Bool) → cond b (records_verdict t 0 0 (records_of d)) bad_table ≡ sound_with m
+        → AllLegal t (rows_of t) (ended_of (records_of d))
     go true e = records_legal t (records_of d) 0 0 m e
     go false e = let z : ◌≡◌ {A = ℕ} 0 1 = cc in absurd (omega arith)

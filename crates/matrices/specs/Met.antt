@@ -1,19 +1,19 @@
 -- The columns of a row after all records: what stands in them, and what is known of them where all sets stood before the row's first gap.
 -- Assumes nothing.
-use Rattle.std.specs.Prelude.{◌≡◌, Bool, List, [], ◌∷◌, ◌++◌, ◌⊎◌, ℕ, zero, suc, ◌+◌, ◌-◌, ◌*◌, ◌≤◌, ◌<◌, eqb, ltb, ℤ, pos, length, get_or, drop, Float}
+use Rattle.std.specs.Prelude.{◌≡◌, Bool, List, [], ◌∷◌, ℕ, suc, ◌+◌, ◌≤◌, ◌<◌, ltb, ℤ, pos, length, get_or}
+use Rattle.std.specs.Prelude.{drop, Float}
 use Rattle.std.proofs.Math.Path.{refl, ap}
-use Rattle.std.proofs.Common.{sym, ◌∙◌, subst, inl, inr, add-zero, suc-mul, add-one, arith, lt-ltb, le-ltb, drop_of_length-le, drop-cons}
+use Rattle.std.proofs.Common.{sym, ◌∙◌, subst, inl, inr, add-zero, add-one, arith, lt-ltb, le-ltb, drop_of_length-le, drop-cons}
 use Rattle.std.proofs.Math.Bool.{true, false, cond}
 use Rattle.std.proofs.Math.Logic.{⊎_elim}
 use Rattle.std.proofs.Math.ListN.{get_or-eq_default}
-use Rattle.std.specs.Float.{binary64}
 use Rattle.std.specs.Float.Ieee.{of_bits, div, of_int}
 use Rattle.below.specs.Below.{lt_or_le}
 use Rattle.quotient.specs.rule.Value.{value_of}
 use Rattle.summary.specs.rule.Summary.{nought}
 use Rattle.sets.specs.Marks.{flag, Marks}
 use Rattle.matrix.specs.declared.Entry.{Entry}
-use Rattle.matrix.specs.declared.Entry.TheVariants.{Absent, Scaled}
+use Rattle.matrix.specs.declared.Entry.TheVariants.{Absent}
 use Rattle.matrix.specs.rule.Entry.{present_of}
 use Rattle.matrix.specs.Ones.{unit}
 use Rattle.matrix.specs.Told.{EachBit, ones_of, some_of, ones_nought, ones_unit}

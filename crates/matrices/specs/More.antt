@@ -1,7 +1,7 @@
 -- The summaries of some records, read from where they stand and extended by the records behind them, are those of all.
 -- Assumes nothing.
-use Rattle.std.specs.Prelude.{◌≡◌, refl, not, T, ℤ, get_or, take, drop, Float}
-use Rattle.std.proofs.Common.{sym, ◌∙◌, add-zero, take-append-drop, drop_of_length-le, length-append, drop-cons, drop-drop}
+use Rattle.std.specs.Prelude.{◌≡◌, refl, not, T, ℤ, take, drop, Float}
+use Rattle.std.proofs.Common.{sym, ◌∙◌, add-zero, drop_of_length-le, length-append, drop-cons, drop-drop}
 use Rattle.std.proofs.Math.Path.{ap, subst}
 use mathlib.Core.List.{List, [], ◌∷◌, ◌++◌, append_assoc}
 use Prim.Native.Nat.{ℕ, zero, suc, ◌+◌, ◌-◌, ◌*◌, ◌≤◌, ◌<◌}
@@ -9,7 +9,7 @@ use Rattle.std.proofs.Math.Numerals.{add-one}
 use native.Mathlib.Omega.{arith}
 use Rattle.std.proofs.Math.ListN.{length}
 use Rattle.std.specs.Float.{binary64}
-use Rattle.std.specs.Float.Ieee.{is_nan, nan_bits, of_bits, fits}
+use Rattle.std.specs.Float.Ieee.{is_nan, nan_bits, fits}
 use Rattle.std.specs.Float.Ieee.Bits.{nan_bits_is}
 use Rattle.places.specs.rule.Places.{put, run}
 use Rattle.places.specs.Laws.{length_put, apart, pick_run}
@@ -18,9 +18,9 @@ use Rattle.files.specs.rule.Tested.{Tested}
 use Rattle.quotient.specs.rule.Value.{value_of}
 use Rattle.little.specs.rule.Bytes.{put_at, little_number}
 use Rattle.little.specs.Bytes.{number_at}
-use Rattle.little.specs.Runs.{put_next, put_back, apart_runs, length_put_at}
+use Rattle.little.specs.Runs.{put_next, apart_runs, length_put_at}
 use Rattle.summary.specs.declared.Summary.{Summary}
-use Rattle.summary.specs.rule.Summary.{nought, none_summed, extend_of, extended_by, summary_of}
+use Rattle.summary.specs.rule.Summary.{none_summed, extend_of, extended_by, summary_of}
 use Rattle.summary.specs.Laws.{extend_keeps, count_on}
 use Rattle.matrix.specs.declared.Entry.{Entry}
 use Rattle.matrix.specs.declared.Entry.TheVariants.{Absent, Scaled}
@@ -29,7 +29,7 @@ use Rattle.matrix.specs.rule.Bytes.{summary_bytes}
 use Rattle.matrix.specs.Bytes.{length_summary}
 use Rattle.matrix.specs.Back.{summary_at, summary_back}
 use Rattle.matrix.specs.Put.{put_entries}
-use Rattle.matrix.specs.Entry.{EntryGood, entry_real, entry_fits, length_entries, entries_none, entries_then}
+use Rattle.matrix.specs.Entry.{EntryGood, entry_real, entry_fits, entries_none, entries_then}
 use Rattle.matrix.specs.Column.{ColumnThere, column_in}
 use Rattle.matrix.specs.Over.{same_over}
 use Rattle.matrix.specs.Stride.{AllGood, good_at}

@@ -1,13 +1,14 @@
 -- The records of a sound file: each is long enough, and they are as many as its verdict says.
 -- Assumes nothing.
-use Rattle.std.specs.Prelude.{◌≡◌, refl, Bool, true, false, cond, List, [], ◌∷◌, ◌++◌, ℕ, suc, ◌+◌, ◌*◌, ◌≤◌, eqb, leb, ℤ, length}
-use Rattle.std.proofs.Common.{sym, ap, ◌∙◌, suc-mul, arith, eqb-true, leb-true, length-append}
+use Rattle.std.specs.Prelude.{◌≡◌, refl, Bool, true, false, cond, List, [], ◌∷◌, ℕ, ◌+◌, ◌*◌, ◌≤◌, eqb, leb, ℤ, length}
+use Rattle.std.proofs.Common.{suc-mul, arith, leb-true, length-append}
 use Rattle.below.specs.Below.{holds_not}
 use Rattle.cuts.specs.rule.Records.{Records, over, unended, record_and, records_of}
 use Rattle.sound.specs.rule.Sound.{well_formed}
 use Rattle.sound.specs.rule.Rows.{rows_of, length_of}
 use Rattle.records.specs.rule.Verdict.{Verdict, sound, refused, low_byte, bad_field, rows_verdict}
-use Rattle.files.specs.rule.File.{FileVerdict, sound_with, bad_table, fault_in, record_verdict, go_on, first_length, records_verdict, file_verdict}
+use Rattle.files.specs.rule.File.{FileVerdict, sound_with, bad_table, fault_in, record_verdict, go_on, first_length, records_verdict}
+use Rattle.files.specs.rule.File.{file_verdict}
 use Rattle.files.specs.rule.File.{is_sound}
 use Rattle.files.specs.File.{sound_so_far}
 use Rattle.columns.specs.rule.Columns.{Column, entries_of}

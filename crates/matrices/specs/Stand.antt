@@ -2,7 +2,8 @@
 -- Assumes nothing.
 use Rattle.std.specs.Prelude.{◌≡◌, Bool, not, T, eqb, ℤ, get_or, take, drop}
 use Rattle.std.proofs.Math.Path.{refl, sym, ap}
-use Rattle.std.proofs.Common.{◌∙◌, subst, suc-mul, add-one, length-append, drop_of_length-le, take-append-drop, drop-cons, drop-drop, take_at}
+use Rattle.std.proofs.Common.{◌∙◌, subst, suc-mul, add-one, length-append, drop_of_length-le, take-append-drop, drop-cons, drop-drop}
+use Rattle.std.proofs.Common.{take_at}
 use Rattle.std.proofs.Math.Bool.{true, false, cond}
 use mathlib.Core.List.{List, [], ◌∷◌, ◌++◌, append_assoc}
 use Prim.Native.Nat.{ℕ, zero, suc, ◌+◌, ◌-◌, ◌*◌, ◌≤◌, ◌<◌}
@@ -135,7 +136,8 @@ module _ (g : List ℕ → List Entry) (count step : ℕ) (long : (r : List ℕ)
       )
       (go (get_or (g r) j Absent))
     where
-      go : (e : Entry) → cond (eqb (presence_of e) 1) (float_of e ∷ values_at g j rs) (values_at g j rs) ≡ present_of (e ∷ entries_at g j rs)
+      go : (e : Entry) → cond (eqb (presence_of e) 1) (float_of e ∷ values_at g j rs) (values_at g j rs)
+          ≡ present_of (e ∷ entries_at g j rs)
       go Absent = refl
       go (Scaled z p) = refl
 
@@ -211,9 +213,11 @@ column_values t v cs g h (r ∷ rs) j l =
 
 -- THE SUMMARIES of columns that stand
 module _ (t : List ℤ) (v : ℕ) (cs : List Column) (rs : List (List ℕ)) (out : List ℕ) (step f w : ℕ)
-    (stand : (k : ℕ) → k < length cs → column_in out step (f + k) (w + 8 * k) (length rs) ≡ present_of (column_entries t v (column_at cs k) rs))
+    (stand : (k : ℕ) → k < length cs → column_in out step (f + k) (w + 8 * k) (length rs)
+    ≡ present_of (column_entries t v (column_at cs k) rs))
   where
-    summaries_from : (n k : ℕ) → n + k ≡ length cs → summaries_in out step (f + k) (w + 8 * k) (length rs) n ≡ summaries_of t v rs (drop k cs)
+    summaries_from : (n k : ℕ) → n + k ≡ length cs → summaries_in out step (f + k) (w + 8 * k) (length rs) n
+        ≡ summaries_of t v rs (drop k cs)
     unfolding summaries_in summaries_of
     summaries_from zero k e = let h : length cs ≤ k = omega arith in rw (drop_of_length-le cs h)
     summaries_from (suc n) k e =
@@ -230,7 +234,8 @@ module _ (t : List ℤ) (v : ℕ) (cs : List Column) (rs : List (List ℕ)) (out
         ∙ ap (λ (i : ℕ). summaries_in out step (f + 0) i (length rs) (length cs)) (sym y)
         ∙ summaries_from (length cs) 0 (omega arith)
 
-pub row_summaries : (t : List ℤ) (v : ℕ) (cs : List Column) (g : List ℕ → List Entry) (step : ℕ) → ((r : List ℕ) → entries_of t v r cs ≡ g r)
+pub row_summaries : (t : List ℤ) (v : ℕ) (cs : List Column) (g : List ℕ → List Entry) (step : ℕ)
+    → ((r : List ℕ) → entries_of t v r cs ≡ g r)
     → ((r : List ℕ) → length (g r) ≡ length cs) → length cs ≤ step → (rs : List (List ℕ)) (o : List ℕ) (f w : ℕ)
     → f + length rs * step ≤ w → EachRoom f w (length o) step (length cs) (length rs)
     → summaries_in (put_each g step o f w rs) step f w (length rs) (length cs) ≡ summaries_of t v rs cs
@@ -273,7 +278,8 @@ module _ (t : List ℤ) (v step : ℕ) where
     -- one row's columns and their summaries more
     slots_step : (i k f w : ℕ) (o : List ℕ) {o' whole : List ℕ} → i < v → k + length (columns_from t v i (v - i)) ≡ step
         → f + length rs * step ≤ w → 24 + 24 * step ≤ f
-        → o' ≡ put_at (put_columns t v step (row_columns t v i) o (f + k) (w + 8 * k) rs) (24 + 24 * k) (summaries_of t v rs (row_columns t v i))
+        → o' ≡ put_at (put_columns t v step (row_columns t v i) o (f + k) (w + 8 * k) rs) (24 + 24 * k)
+        (summaries_of t v rs (row_columns t v i))
         → put_at (put_columns t v step (columns_from t v i (v - i)) o (f + k) (w + 8 * k) rs) (24 + 24 * k)
         (summaries_of t v rs (columns_from t v i (v - i))) ≡ whole
         → {m : ℕ} → m ≡ length (row_columns t v i)
@@ -300,7 +306,8 @@ module _ (t : List ℤ) (v step : ℕ) where
         ∙ q
 
     slots_done : (i a f w : ℕ) {o whole : List ℕ} → v ≤ i
-        → put_at (put_columns t v step (columns_from t v i (v - i)) o f w rs) a (summaries_of t v rs (columns_from t v i (v - i))) ≡ whole → o
+        → put_at (put_columns t v step (columns_from t v i (v - i)) o f w rs) a (summaries_of t v rs (columns_from t v i (v - i))) ≡ whole
+        → o
         ≡ whole
     unfolding summaries_of
     slots_done i a f w {o} h q =
@@ -323,7 +330,8 @@ module _ (t : List ℤ) (v step : ℕ) where
     unfolding slots_of
     told_step true i k f w o h e b c p q em = slots_step i k f w o h e b c p q em
     told_step false i k f w o {o'} {whole} h e b c p q {m} em =
-        put_nothing (put_columns t v step (columns_from t v (i + 1) (v - (i + 1))) o' (f + (k + m)) (w + 8 * (k + m)) rs) (24 + 24 * (k + m))
+        put_nothing (put_columns t v step (columns_from t v (i + 1) (v - (i + 1))) o' (f + (k + m)) (w + 8 * (k + m)) rs)
+        (24 + 24 * (k + m))
         ∙ row_step t v step rs i k f w o h e b
         (p ∙ put_nothing (put_columns t v step (row_columns t v i) o (f + k) (w + 8 * k) rs) (24 + 24 * k))
         (sym (put_nothing (put_columns t v step (columns_from t v i (v - i)) o (f + k) (w + 8 * k) rs) (24 + 24 * k)) ∙ q) em
@@ -340,7 +348,8 @@ module _ (t : List ℤ) (v step : ℕ) where
 
 -- a column's summary among all
 summary_among : (t : List ℤ) (v : ℕ) (rs : List (List ℕ)) (cs : List Column) (k : ℕ) (rest : List ℕ) → k < length cs
-    → take 24 (drop (24 * k) (summaries_of t v rs cs ++ rest)) ≡ summary_bytes (summary_of (present_of (column_entries t v (column_at cs k) rs)))
+    → take 24 (drop (24 * k) (summaries_of t v rs cs ++ rest))
+    ≡ summary_bytes (summary_of (present_of (column_entries t v (column_at cs k) rs)))
 unfolding summaries_of
 summary_among t v rs [] k rest h = absurd (omega arith)
 summary_among t v rs (c ∷ cs) zero rest h =

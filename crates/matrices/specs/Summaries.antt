@@ -10,7 +10,7 @@ use native.Mathlib.Omega.{arith}
 use Rattle.std.proofs.Math.ListN.{drop, length-append}
 use Rattle.std.proofs.Math.Seq.{drop-drop}
 use Rattle.std.specs.Float.{binary64}
-use Rattle.std.specs.Float.Ieee.{is_nan, nan_bits, of_bits}
+use Rattle.std.specs.Float.Ieee.{is_nan, of_bits}
 use Rattle.std.specs.Float.Ieee.Bits.{nan_bits_is}
 use Rattle.places.specs.rule.Places.{put, run}
 use Rattle.little.specs.rule.Bytes.{put_at, little_number}

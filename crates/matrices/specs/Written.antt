@@ -1,35 +1,30 @@
 -- The parts of a matrix put one behind the other are the matrix; what stands behind the summaries are the entries of the records.
 -- Assumes nothing.
-use Rattle.std.specs.Prelude.{◌≡◌, Bool, true, cond, List, [], ◌∷◌, ◌++◌, ℕ, zero, suc, ◌+◌, ◌-◌, ◌*◌, ◌/◌, ◌≤◌, ◌<◌, eqb, ltb, ℤ, length, get_or, drop}
+use Rattle.std.specs.Prelude.{◌≡◌, Bool, true, List, ◌++◌, ℕ, ◌-◌, ◌*◌, ◌/◌, ◌≤◌, ◌<◌, ltb, ℤ, length}
 use Rattle.std.proofs.Math.Path.{refl, ap}
-use Rattle.std.proofs.Common.{sym, ◌∙◌, subst, add-zero, div-lt_iff_lt-mul, le-div_iff_mul-le, mul_left_comm, add-one, arith, length-append, drop_of_length-le, drop-cons}
+use Rattle.std.proofs.Common.{sym, ◌∙◌, div-lt_iff_lt-mul, le-div_iff_mul-le, mul_left_comm, arith}
 use Rattle.std.proofs.Math.Bool.{false}
-use Rattle.std.proofs.Math.Nat.{sub-zero}
 use borrow.Author.Tests.{lt-ltb, le-ltb, ltb-true, ltb-false, eq-eqb, ne_eqb}
 use Rattle.below.specs.Below.{holds_not}
 use Rattle.cuts.specs.rule.Records.{records_of}
 use Rattle.layout.specs.declared.Header.{Header}
-use Rattle.layout.specs.rule.Row.{row_at}
-use Rattle.sound.specs.rule.Sound.{well_formed}
-use Rattle.sound.specs.rule.Rows.{rows_of, length_of}
+use Rattle.sound.specs.rule.Rows.{rows_of}
 use Rattle.files.specs.rule.File.{FileVerdict, sound_with, bad_table, fault_in, file_verdict}
 use Rattle.files.specs.File.{sound_so_far}
 use Rattle.files.specs.rule.Tested.{Tested}
-use Rattle.files.specs.Tested.{tested_rows, tested_length}
+use Rattle.files.specs.Tested.{tested_rows}
 use Rattle.little.specs.rule.Bytes.{put_at}
-use Rattle.little.specs.Runs.{put_next, put_either, length_put_at}
-use Rattle.summary.specs.rule.Summary.{summary_of}
-use Rattle.matrix.specs.declared.Entry.{Entry}
-use Rattle.matrix.specs.rule.Entry.{flags_of, value_bytes, present_of}
+use Rattle.little.specs.Runs.{put_next, put_either}
+use Rattle.matrix.specs.rule.Entry.{flags_of, value_bytes}
 use Rattle.matrix.specs.Put.{put_entries}
-use Rattle.matrix.specs.rule.Bytes.{presence_at, values_at, total_of, header_bytes, summary_bytes}
-use Rattle.matrix.specs.Entry.{EntryGood, length_flags, length_values}
-use Rattle.matrix.specs.Bytes.{length_header, length_summary}
-use Rattle.columns.specs.rule.Columns.{Column, of_row, columns_from}
-use Rattle.matrices.specs.rule.Matrix.{ended_of, table_columns, matrix_entries, column_entries, summaries_of, matrix_of}
+use Rattle.matrix.specs.rule.Bytes.{presence_at, values_at, total_of, header_bytes}
+use Rattle.matrix.specs.Entry.{length_flags}
+use Rattle.matrix.specs.Bytes.{length_header}
+use Rattle.columns.specs.rule.Columns.{columns_from}
+use Rattle.matrices.specs.rule.Matrix.{ended_of, table_columns, matrix_entries, summaries_of, matrix_of}
 use Rattle.matrices.specs.rule.Matrix.{MatrixVerdict, refused_as, refused, written, size_verdict, verdict_after, matrix_verdict}
 use Rattle.matrices.specs.rule.Matrix.{matrix_after, MatrixWritten}
-use Rattle.matrices.specs.Records.{AllLong, length_all, file_sound}
+use Rattle.matrices.specs.Records.{length_all, file_sound}
 use Rattle.matrices.specs.Stand.{length_summaries}
 
 -- a file that was judged sound, with so many records
@@ -38,7 +33,8 @@ SoundFile t d n = file_verdict t d ≡ sound_with n
 
 -- ---- header, entries, summaries: one behind the other they are the matrix
 pub whole_put : (t : List ℤ) (rs : List (List ℕ)) (out : List ℕ) (n c : ℕ) → n ≡ length rs → c ≡ length (table_columns t)
-    → put_at (put_entries (put_at out 0 (header_bytes n c)) (presence_at c) (values_at n c) (matrix_entries t (rows_of t) (table_columns t) rs)) 24
+    → put_at (put_entries (put_at out 0 (header_bytes n c)) (presence_at c) (values_at n c)
+    (matrix_entries t (rows_of t) (table_columns t) rs)) 24
     (summaries_of t (rows_of t) rs (table_columns t))
     ≡ put_at out 0 (matrix_of t rs)
 unfolding matrix_of
@@ -146,7 +142,8 @@ module _ (t : List ℤ) (d out : List ℕ) where
     unfolding size_verdict matrix_after
     short_room {c} e z l s = as_sized (rw (← e, ne_eqb c 0 z, l, lt-ltb (length out) (total_of n c) s)) refl
 
-    pub all_written : {c : ℕ} {out' : List ℕ} → c ≡ length (table_columns t) → (c ≡ 0 → ⊥) → ltb 16777216 (total_of n c) ≡ false → total_of n c
+    pub all_written : {c : ℕ} {out' : List ℕ} → c ≡ length (table_columns t) → (c ≡ 0 → ⊥) → ltb 16777216 (total_of n c) ≡ false
+        → total_of n c
         ≤ length out
         → out' ≡ put_at out 0 (matrix_of t (ended_of (records_of d))) → MatrixWritten t d out out' (written (total_of n c) n c)
     unfolding size_verdict matrix_after

@@ -331,7 +331,8 @@ fn put_marked(
     requires steps { Steps d.now s.first s.step p.from p.count
         × EachReadable t.now rows row (records_in d.now s.first s.step p.from p.count) }
     requires each_good { EachGood (λ x. entries_by row.kind t.now rows row x) (records_in d.now s.first s.step p.from p.count) }
-    requires columns_bound { (p.count * columns ≤ 16777216) × (columns ≤ 16777216) × (values ≤ 268435456) × (flags + p.count * columns ≤ values)
+    requires columns_bound { (p.count * columns ≤ 16777216) × (columns ≤ 16777216) × (values ≤ 268435456)
+        × (flags + p.count * columns ≤ values)
         × (at + 24 * count_by row.kind t.now rows row ≤ length out.old) × (count_by row.kind t.now rows row ≤ columns)
         × (at + 24 * count_by row.kind t.now rows row ≤ flags)
         × EachRoom flags values (length out.old) columns (count_by row.kind t.now rows row) p.count }
@@ -375,7 +376,8 @@ fn put_columns(
     requires ready { Ready powers.now t.now h (length list.old) (length allowed.old) (length present.old) }
     requires i_lt_rows { (i < h.rows) × Steps d.now s.first s.step p.from p.count
         × EachSound t.now h (records_in d.now s.first s.step p.from p.count) }
-    requires columns_bound { (p.count * columns ≤ 16777216) × (columns ≤ 16777216) × (values ≤ 268435456) × (flags + p.count * columns ≤ values)
+    requires columns_bound { (p.count * columns ≤ 16777216) × (columns ≤ 16777216) × (values ≤ 268435456)
+        × (flags + p.count * columns ≤ values)
         × (at + 24 * length (row_columns t.now h.rows i) ≤ length out.old) × (length (row_columns t.now h.rows i) ≤ columns)
         × (at + 24 * length (row_columns t.now h.rows i) ≤ flags)
         × EachRoom flags values (length out.old) columns (length (row_columns t.now h.rows i)) p.count }

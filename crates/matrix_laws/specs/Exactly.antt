@@ -6,7 +6,8 @@ use Rattle.std.proofs.Common.{sym, ◌∙◌, subst, arith, eqb-true, ltb-true, 
 use Rattle.std.proofs.lemmas.Bool.{eqb-false}
 use Rattle.files.specs.rule.File.{FileVerdict, sound_with, bad_table, fault_in, file_verdict}
 use Rattle.matrix.specs.rule.Bytes.{total_of}
-use Rattle.matrices.specs.rule.Matrix.{table_columns, MatrixVerdict, refused_as, refused, written, size_verdict, verdict_after, matrix_verdict}
+use Rattle.matrices.specs.rule.Matrix.{table_columns, MatrixVerdict, refused_as, refused, written, size_verdict, verdict_after}
+use Rattle.matrices.specs.rule.Matrix.{matrix_verdict}
 use Rattle.matrix_laws.specs.rule.Exactly.{Refusal, SizeOutcome, no_column, too_large, short_room, all_written}
 
 pub size_named : (n c room : ℕ) → SizeOutcome n c room (size_verdict n c room)
@@ -59,7 +60,8 @@ module _ (t : List ℤ) (d : List ℕ) (room : ℕ) where
       go : (w : FileVerdict) → file_verdict t d ≡ w → verdict_after t room w ≡ refused_as v → Refusal v × (file_verdict t d ≡ v)
       go (sound_with n) q r = absurd (not_sized n (length (table_columns t)) v r)
       go bad_table q r = let own : refused_as bad_table ≡ refused_as v = r in let same : bad_table ≡ v = cc in rw (← same) (tt, q)
-      go (fault_in n x) q r = let own : refused_as (fault_in n x) ≡ refused_as v = r in let same : fault_in n x ≡ v = cc in rw (← same) (tt, q)
+      go (fault_in n x) q r = let own : refused_as (fault_in n x) ≡ refused_as v = r in let same : fault_in n x ≡ v = cc in
+          rw (← same) (tt, q)
 
   pub own_only : (v : FileVerdict) → Refusal v → file_verdict t d ≡ v → matrix_verdict t d room ≡ refused_as v
   unfolding matrix_verdict verdict_after Refusal

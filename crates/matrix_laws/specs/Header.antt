@@ -1,6 +1,6 @@
 -- THE HEADER is read back from the output: six numbers of 32 bits, each as it was counted.
 -- Assumes nothing.
-use Rattle.std.specs.Prelude.{◌≡◌, List, [], ◌∷◌, ◌++◌, ℕ, zero, suc, ◌+◌, ◌*◌, ◌^◌, ◌≤◌, ◌<◌, ℤ, length, take, drop}
+use Rattle.std.specs.Prelude.{◌≡◌, List, ◌++◌, ℕ, ◌*◌, ◌≤◌, ◌<◌, ℤ, length, drop}
 use Rattle.std.proofs.Math.Path.{refl}
 use Rattle.std.proofs.Common.{sym, ap, ◌∙◌, subst, append_assoc, mul-le-mul_left, arith, take-append-drop}
 use Rattle.sound.specs.rule.Rows.{rows_of}
@@ -10,7 +10,7 @@ use Rattle.little.specs.Runs.{put_back}
 use Rattle.matrix.specs.rule.Entry.{flags_of, value_bytes}
 use Rattle.matrix.specs.rule.Bytes.{presence_at, values_at, total_of, header_bytes}
 use Rattle.matrices.specs.rule.Matrix.{table_columns, matrix_entries, summaries_of, matrix_of}
-use Rattle.matrix_laws.specs.rule.Header.{at32, Headed}
+use Rattle.matrix_laws.specs.rule.Header.{Headed}
 use Rattle.matrix_laws.specs.Matrix.{matrix_length}
 
 -- a number of 32 bits from its four bytes

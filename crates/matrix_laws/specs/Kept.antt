@@ -2,7 +2,7 @@
 -- Assumes nothing.
 use Rattle.std.proofs.Math.Path.{◌≡◌, refl, ap}
 use Rattle.std.proofs.Common.{sym, ◌∙◌, arith}
-use Rattle.std.specs.Prelude.{List, ℕ, ◌≤◌, ℤ, drop}
+use Rattle.std.specs.Prelude.{List, ℕ, ℤ, drop}
 use Rattle.std.proofs.Math.ListN.{length}
 use Rattle.cuts.specs.rule.Records.{records_of}
 use Rattle.files.specs.rule.File.{FileVerdict, sound_with, bad_table, fault_in, file_verdict}

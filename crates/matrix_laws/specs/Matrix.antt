@@ -1,18 +1,15 @@
 -- ONE OUTCOME, the layout, and where the presence byte and the value of each record and column stand.
 -- Assumes nothing.
-use Rattle.std.specs.Prelude.{◌≡◌, refl, Bool, true, false, cond, List, [], ◌∷◌, ◌++◌, ℕ, zero, suc, ◌+◌, ◌-◌, ◌*◌, ◌≤◌, ◌<◌, eqb, ltb, ℤ, pos, length, get_or, take, drop}
-use Rattle.std.proofs.Common.{sym, ap, ◌∙◌, subst, append_assoc, suc-mul, mul-le-mul_right, arith, eqb-true, ltb-true, ltb-false, length-append, take-append-drop, get_or-drop, drop-drop, take_at}
-use Rattle.std.proofs.lemmas.Bool.{eqb-false}
-use Rattle.std.proofs.Math.Seq.{drop-append-add}
+use Rattle.std.specs.Prelude.{◌≡◌, refl, List, [], ◌∷◌, ◌++◌, ℕ, suc, ◌+◌, ◌*◌, ◌≤◌, ◌<◌, ℤ}
+use Rattle.std.specs.Prelude.{pos, length, get_or, take, drop}
+use Rattle.std.proofs.Common.{sym, ap, ◌∙◌, suc-mul, mul-le-mul_right, arith}
+use Rattle.std.proofs.Common.{length-append, get_or-drop, drop-drop}
 use Rattle.std.specs.Float.{binary64}
 use Rattle.std.specs.Float.Ieee.{to_bits}
-use Rattle.cuts.specs.rule.Records.{records_of}
 use Rattle.sound.specs.rule.Rows.{rows_of}
-use Rattle.records.specs.rule.Verdict.{Verdict}
-use Rattle.files.specs.rule.File.{FileVerdict, sound_with, bad_table, fault_in, file_verdict}
 use Rattle.fields.specs.rule.Field.{missing, members, holds, is_member}
 use Rattle.little.specs.rule.Bytes.{little_bytes, put_at}
-use Rattle.little.specs.Runs.{length_put_at, put_back}
+use Rattle.little.specs.Runs.{length_put_at}
 use Rattle.summary.specs.rule.Summary.{summary_of}
 use Rattle.matrix.specs.declared.Entry.{Entry}
 use Rattle.matrix.specs.declared.Entry.TheVariants.{Absent, Scaled}
@@ -20,13 +17,12 @@ use Rattle.matrix.specs.rule.Entry.{presence_of, float_of, flags_of, value_bytes
 use Rattle.matrix.specs.Put.{put_entries}
 use Rattle.matrix.specs.rule.Bytes.{presence_at, values_at, total_of, header_bytes, summary_bytes}
 use Rattle.matrix.specs.Entry.{length_flags, length_values, length_entries}
-use Rattle.matrix.specs.Bytes.{length_header, length_summary}
+use Rattle.matrix.specs.Bytes.{length_header}
 use Rattle.matrix.specs.Stride.{presence_there, bytes_there}
 use Rattle.columns.specs.rule.Columns.{Column, entry_of, member_entry, number_entry}
-use Rattle.matrices.specs.rule.Matrix.{ended_of, table_columns, matrix_entries, column_entries, summaries_of, matrix_of, MatrixVerdict, refused_as}
-use Rattle.matrices.specs.rule.Matrix.{refused, written}
-use Rattle.matrices.specs.rule.Matrix.{size_verdict, verdict_after, matrix_verdict, matrix_after, MatrixWritten}
-use Rattle.matrices.specs.Records.{length_all, file_sound}
+use Rattle.matrices.specs.rule.Matrix.{table_columns, matrix_entries, column_entries, summaries_of, matrix_of, MatrixVerdict}
+use Rattle.matrices.specs.rule.Matrix.{MatrixWritten}
+use Rattle.matrices.specs.Records.{length_all}
 use Rattle.matrices.specs.Entries.{column_at, record_at, all_at_lem}
 use Rattle.matrices.specs.Summaries.{same_put}
 use Rattle.matrices.specs.Stand.{length_summaries, summary_at_lem}

@@ -2,9 +2,8 @@
 -- Assumes nothing.
 use Rattle.std.proofs.Math.Path.{◌≡◌, refl, sym, subst}
 use Rattle.std.proofs.Common.{ap, ◌∙◌, inl, inr, arith}
-use Rattle.std.specs.Prelude.{false, ◌⊎◌, ℕ, zero, suc, ◌+◌, ◌*◌, ◌<◌, ℤ, length, get_or, Float}
+use Rattle.std.specs.Prelude.{ℕ, suc, ◌+◌, ◌*◌, ◌<◌, ℤ, length, get_or, Float}
 use mathlib.Core.List.{List, [], ◌∷◌, ◌++◌}
-use Rattle.std.specs.Float.Ieee.{lt}
 use Rattle.cuts.specs.rule.Records.{records_of}
 use Rattle.sound.specs.rule.Rows.{rows_of}
 use Rattle.layout.specs.rule.Layout.{header_of}
@@ -13,7 +12,7 @@ use Rattle.files.specs.rule.Tested.{Tested}
 use Rattle.quotient.specs.rule.Value.{value_of}
 use Rattle.quotient.specs.Limits as limits
 use Rattle.summary.specs.declared.Summary.{Summary}
-use Rattle.summary.specs.rule.Summary.{none_summed, summary_of}
+use Rattle.summary.specs.rule.Summary.{summary_of}
 use Rattle.summary.specs.Laws.{values_of, Among, Each, Says, summary_says, summary_none}
 use Rattle.matrix.specs.declared.Entry.{Entry}
 use Rattle.matrix.specs.declared.Entry.TheVariants.{Absent, Scaled}
@@ -34,6 +33,7 @@ value_present : (p : ℕ) (n : ℤ) (ns : List ℤ) → Among n ns → Present (
 unfolding Present values_of
 value_present p n (m ∷ ns) (inl e) = inl (ap (λ (z : ℤ). value_of z p) e)
 value_present p n (m ∷ ns) (inr w) = inr (value_present p n ns w)
+value_present p n [] x' = elim x' [ ]
 
 -- a present value is that of one of the numbers
 record Number (p : ℕ) (ns : List ℤ) (x : Float) : Type 0 where

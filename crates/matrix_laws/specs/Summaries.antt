@@ -1,19 +1,15 @@
 -- EACH SUMMARY says its column: how many values are present, a smallest and a largest of them, and zeros where there is none.
 -- Assumes nothing.
-use Rattle.std.specs.Prelude.{◌≡◌, refl, Bool, true, false, cond, List, [], ◌∷◌, ℕ, ◌^◌, ℤ, pos, length, Float}
-use Rattle.std.proofs.Common.{sym, ap, ◌∙◌}
+use Rattle.std.specs.Prelude.{◌≡◌, refl, List, [], ◌∷◌, ℕ, ◌^◌, ℤ}
 use Rattle.layout.specs.rule.Row.{row_at}
-use Rattle.fields.specs.rule.Field.{missing, number, members, text, truth, Field, holds, illegal, is_member}
+use Rattle.fields.specs.rule.Field.{missing, number, members, text, truth, Field, holds, illegal}
 use Rattle.fields.specs.rule.Row.{reading_of}
-use Rattle.quotient.specs.rule.Value.{value_of}
 use Rattle.quotient.specs.Limits as limits
-use Rattle.summary.specs.declared.Summary.{Summary}
 use Rattle.summary.specs.rule.Summary.{none_summed, summary_of}
 use Rattle.summary.specs.Laws.{values_of, Each, Says, summary_says, summary_none}
 use Rattle.matrix.specs.declared.Entry.{Entry}
 use Rattle.matrix.specs.declared.Entry.TheVariants.{Absent, Scaled}
 use Rattle.matrix.specs.rule.Entry.{present_of}
-use Rattle.matrix.specs.Entry.{EntryGood}
 use Rattle.columns.specs.rule.Columns.{Column, of_row, of_category, number_entry, member_entry, entry_of}
 use Rattle.widths.specs.rule.Width.{decimals_of}
 use Rattle.matrices.specs.rule.Matrix.{column_entries}

@@ -1,8 +1,8 @@
 -- What is known of a variable before it is measured gives what the measuring asks for; and its result is the definition's.
-use mathlib.Core.Path.{◌≡◌, refl, sym, ap, ◌∙◌}
-use mathlib.Core.Bool.{Bool, true, false, cond}
+use mathlib.Core.Path.{◌≡◌, refl, ◌∙◌}
+use mathlib.Core.Bool.{true, false}
 use mathlib.Core.List.{List}
-use Prim.Native.Nat.{ℕ, ◌≤◌, max}
+use Prim.Native.Nat.{ℕ, ◌≤◌}
 use native.Mathlib.Omega.{arith}
 use lib.IntN.{ℤ}
 use Rattle.below.specs.Below.{all_at_lem, max_least}
@@ -13,15 +13,14 @@ use Rattle.layout.specs.declared.Kind.{Kind}
 use Rattle.layout.specs.declared.Kind.TheVariants.{Single, Multiple, Quantity, Character, Logical}
 use Rattle.widths.specs.rule.Width.{need, fits_kind}
 use Rattle.widths.specs.Width.{FewDecimals, Valued}
-use Rattle.sound.specs.rule.Sound.{range_good, values_fit, range_width, room_good}
-use Rattle.sound.specs.Block.{Placed, Subfielded, need_few, range_few}
+use Rattle.sound.specs.rule.Sound.{range_good, values_fit, room_good}
+use Rattle.sound.specs.Block.{Placed, need_few, range_few}
 use Rattle.tokens.specs.rule.Gap.{fault}
 use Rattle.variables.specs.declared.Head.{Head}
 use Rattle.variables.specs.declared.Rest.{Rest}
-use Rattle.measures.specs.declared.Measured.{Measured}
 use Rattle.measures.specs.declared.Measured.TheVariants.{Is, Not}
 use Rattle.measures.specs.Width.{plain_columns, widened, lines_width, widest_of, width_of, full_columns}
-use Rattle.measures.specs.Width.{number_in, Ready, Measurable, measured}
+use Rattle.measures.specs.Width.{number_in, Measurable, measured}
 
 -- ---- the width
 lines_few : (k : Kind) (f : ℕ → ℤ) (n : ℕ) → FewDecimals k → values_fit k f n ≡ true → lines_width k f n ≤ 9999

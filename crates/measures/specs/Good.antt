@@ -1,6 +1,6 @@
 -- What a variable that was read is known to satisfy: the clauses of a well-formed table that speak of one row, held by its columns and
 -- its lines before they stand in a table. And variables one after the other, no ident twice, within the limits.
-use Rattle.std.specs.Prelude.{◌≡◌, Bool, true, false, List, [], ◌∷◌, ◌++◌, ℕ, ◌+◌, ◌*◌, ◌≤◌, ◌<◌, length}
+use Rattle.std.specs.Prelude.{◌≡◌, true, false, List, [], ◌∷◌, ◌++◌, ℕ, ◌+◌, ◌*◌, ◌≤◌, ◌<◌, length}
 use Rattle.below.specs.rule.Below.{all_below}
 use Rattle.strides.specs.rule.Stride.{all_differ}
 use Rattle.layout.specs.rule.Layout.{most_rows, most_lines, line_size, line_at}

@@ -1,10 +1,11 @@
 -- A FILE WHOSE LINE ENDS, LENGTHS AND BYTES ARE SOUND is judged with no 30, 31, 22, 23; so is every mended file.
-use Rattle.std.specs.Prelude.{◌≡◌, refl, Bool, true, false, cond, List, [], ◌∷◌, ℕ, zero, suc, ◌+◌, ◌≤◌, ◌<◌, ◌↔◌, ◌⊎◌, eqb, leb, ltb, ℤ, length, get_or}
+use Rattle.std.specs.Prelude.{◌≡◌, refl, Bool, true, false, cond, List, [], ◌∷◌, ℕ, zero, suc, ◌+◌, ◌≤◌, ◌<◌, ◌↔◌, ◌⊎◌, eqb, leb, ℤ}
+use Rattle.std.specs.Prelude.{length}
 use Rattle.std.proofs.Common.{sym, ap, ◌∙◌, arith, inl, inr, ⊎_elim, eq-eqb, ne_eqb, le-leb, le-ltb, eqb-true, leb-true, ltb-false}
 use Rattle.std.proofs.lemmas.Bool.{eqb-false}
 use Rattle.below.specs.Below.{holds_not}
 use Rattle.lows.specs.rule.Lows.{low_at}
-use Rattle.cuts.specs.rule.Records.{Records, over, record_and, records_of, length_of_first}
+use Rattle.cuts.specs.rule.Records.{Records, record_and, records_of, length_of_first}
 use Rattle.sound.specs.rule.Sound.{well_formed}
 use Rattle.sound.specs.rule.Rows.{length_of, rows_of}
 use Rattle.faults.specs.declared.Fault.{Fault}

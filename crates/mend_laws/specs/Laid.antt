@@ -1,19 +1,20 @@
 -- A FILE OF WHOLE RECORDS: plain ones of one length, each ended by one of the four terminators. Its pieces are its records, and nothing
 -- of it is listed.
-use Rattle.std.specs.Prelude.{◌≡◌, refl, Bool, true, false, cond, ◌&&◌, List, [], ◌∷◌, ◌++◌, ◌⊎◌, ℕ, zero, suc, ◌+◌, ◌-◌, ◌≤◌, ◌<◌, eqb, ltb, ℤ, length, drop}
-use Rattle.std.proofs.Common.{sym, ap, ◌∙◌, append_assoc, inl, inr, ⊎_elim, arith, eq-eqb, ne_eqb, lt-ltb, le-ltb, ltb-false}
+use Rattle.std.specs.Prelude.{◌≡◌, refl, Bool, true, false, cond, List, [], ◌∷◌, ◌++◌, ℕ, zero, suc, ◌+◌, ◌≤◌, ◌<◌, eqb}
+use Rattle.std.specs.Prelude.{ltb, ℤ, length, drop}
+use Rattle.std.proofs.Common.{sym, ap, ◌∙◌, append_assoc, arith, eq-eqb, ne_eqb, le-ltb, ltb-false}
 use Rattle.cuts.specs.declared.Terminator.{Terminator}
-use Rattle.cuts.specs.rule.Cut.{one_byte, two_bytes, no_ending, begins_with, terminator_at, terminator_of, whole_at, begins_at}
-use Rattle.cuts.specs.rule.Records.{Records, over, record_and, at_end, cut, records_of, terminator_bytes, laid}
-use Rattle.file_laws.specs.rule.Only.{NoneInside, Clean, none_left, next}
+use Rattle.cuts.specs.rule.Cut.{one_byte, two_bytes, no_ending, begins_with, terminator_at, terminator_of, begins_at}
+use Rattle.cuts.specs.rule.Records.{over, at_end, cut, records_of, terminator_bytes, laid}
+use Rattle.file_laws.specs.rule.Only.{Clean, none_left, next}
 use Rattle.file_laws.specs.rule.Files.{records_before}
 use Rattle.file_laws.specs.Only.{cut_only}
 use Rattle.sound.specs.rule.Rows.{length_of}
 use Rattle.pieces.specs.rule.Pieces.{boundary_at, Piece, piece, first_piece, pieces_behind, onto, cut_from, pieces_of}
 use Rattle.pieces.specs.Pieces.{low_count}
-use Rattle.mends.specs.rule.Mend.{ending_of, width_of, same_boundary, MendEntry, mend_entries, width_of_records, list_in}
+use Rattle.mends.specs.rule.Mend.{ending_of, width_of, same_boundary, mend_entries, width_of_records, list_in}
 use Rattle.mends.specs.Sizes.{Sized, others_in, short_in, length_entries}
-use Rattle.mends.specs.Mend.{ending_none, ending_some}
+use Rattle.mends.specs.Mend.{ending_some}
 use Rattle.mend_laws.specs.rule.Mended.{NoneLow, nothing, plain}
 
 -- ---- CR LF, LF CR, CR, LF
@@ -187,7 +188,8 @@ larger_at v w n l h = rw l (larger_is v w h)
 width_all : (e : Terminator) {w : ℕ} {rs : List (List ℕ)} → AllWhole w rs → width_of w (with_end e rs) ≡ w
 unfolding with_end width_of
 width_all e no_records = refl
-width_all e {w} (whole {r} {rs} l p a) = ap (λ (x : ℕ). width_of x (with_end e rs)) (larger_at w w (length r) l (omega arith)) ∙ width_all e a
+width_all e {w} (whole {r} {rs} l p a) = ap (λ (x : ℕ). width_of x (with_end e rs)) (larger_at w w (length r) l (omega arith))
+    ∙ width_all e a
 
 pub width_of_laid : (e : Terminator) {w : ℕ} {r : List ℕ} {rs : List (List ℕ)} → AllWhole w (r ∷ rs) → (v : ℕ) → v ≤ w
     → width_of v (with_end e (r ∷ rs)) ≡ w

@@ -1,12 +1,13 @@
 -- THE LIST IS IN INPUT ORDER AND COMPLETE: place and kind rise, and an entry stands in it exactly when it is due.
-use Rattle.std.specs.Prelude.{◌≡◌, refl, Bool, true, false, cond, List, [], ◌∷◌, ◌++◌, ℕ, zero, suc, ◌+◌, ◌-◌, ◌*◌, ◌≤◌, ◌<◌, eqb, ltb, ℤ, length, get_or}
-use Rattle.std.proofs.Common.{sym, ap, ◌∙◌, arith, eqb-true, eq-eqb, ne_eqb, ltb-true, ltb-false, lt-ltb, le-ltb}
+use Rattle.std.specs.Prelude.{◌≡◌, refl, Bool, true, false, cond, List, [], ◌∷◌, ◌++◌, ℕ, zero, suc, ◌+◌, ◌-◌, ◌*◌, ◌≤◌, ◌<◌, eqb, ltb, ℤ}
+use Rattle.std.specs.Prelude.{length, get_or}
+use Rattle.std.proofs.Common.{sym, ap, ◌∙◌, arith, eqb-true, eq-eqb, ne_eqb, ltb-true, lt-ltb}
 use Rattle.std.proofs.lemmas.Bool.{eqb-false}
 use Rattle.below.specs.Below.{holds_not}
 use Rattle.cuts.specs.declared.Terminator.{Terminator}
-use Rattle.sound.specs.rule.Rows.{length_of}
 use Rattle.pieces.specs.rule.Pieces.{boundary_at, Piece, piece, first_piece, pieces_behind, onto, cut_from, pieces_of}
-use Rattle.mends.specs.rule.Mend.{ending_of, is_empty, MendEntry, mend_entry, listed_if, byte_entries, same_boundary, piece_entries, mend_entries}
+use Rattle.mends.specs.rule.Mend.{ending_of, is_empty, MendEntry, mend_entry, listed_if, byte_entries, same_boundary, piece_entries}
+use Rattle.mends.specs.rule.Mend.{mend_entries}
 use Rattle.mends.specs.rule.Mend.{width_of_records}
 use Rattle.mends.specs.rule.Mend.{list_in}
 use Rattle.mends.specs.Whole.{same_is}
@@ -163,7 +164,8 @@ entries_listed w e (of_this {n} {at} {p} {ps} d) =
     in_left (mend_entries w e (n + 1) (at + length p.bytes + p.boundary.size) ps) (piece_listed w e n at p d)
 entries_listed w e (of_later {n} {at} {p} {ps} d) = in_right (piece_entries w e n at p) (entries_listed w e d)
 
-pub due_listed : (t : List ℤ) (d : List ℕ) {x : MendEntry} → DueIn (width_of_records t d) (ending_of d) 1 0 (pieces_of d) x → In x (list_in t d)
+pub due_listed : (t : List ℤ) (d : List ℕ) {x : MendEntry} → DueIn (width_of_records t d) (ending_of d) 1 0 (pieces_of d) x
+    → In x (list_in t d)
 unfolding list_in
 due_listed t d h = entries_listed (width_of_records t d) (ending_of d) h
 
@@ -175,6 +177,7 @@ data Each (P : MendEntry → Type 0) : List MendEntry → Type 0 where
 in_each : {P : MendEntry → Type 0} {x : MendEntry} {l : List MendEntry} → Each P l → In x l → P x
 in_each (each_one p a) first = p
 in_each (each_one p a) (later i) = in_each a i
+in_each {P = P} each_none i = elim i [ ]
 
 each_append : {P : MendEntry → Type 0} {a b : List MendEntry} → Each P a → Each P b → Each P (a ++ b)
 each_append each_none c = c
@@ -253,6 +256,7 @@ entries_due w e n at (p ∷ ps) =
     each_append (each_map (this_due w e n at p ps) (piece_due w e n at p))
     (each_map (later_due w e n at p ps) (entries_due w e (n + 1) (at + length p.bytes + p.boundary.size) ps))
 
-pub listed_due : (t : List ℤ) (d : List ℕ) {x : MendEntry} → In x (list_in t d) → DueIn (width_of_records t d) (ending_of d) 1 0 (pieces_of d) x
+pub listed_due : (t : List ℤ) (d : List ℕ) {x : MendEntry} → In x (list_in t d)
+    → DueIn (width_of_records t d) (ending_of d) 1 0 (pieces_of d) x
 unfolding list_in
 listed_due t d i = in_each (entries_due (width_of_records t d) (ending_of d) 1 0 (pieces_of d)) i

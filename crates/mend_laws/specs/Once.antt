@@ -1,6 +1,8 @@
 -- ONE OUTCOME, each refusal exactly when; what lies beyond is kept; each kept byte of 32 or more stands at its place in its record.
-use Rattle.std.specs.Prelude.{◌≡◌, refl, Bool, true, false, cond, ◌||◌, List, [], ◌∷◌, ◌++◌, map, ℕ, zero, suc, ◌+◌, ◌-◌, ◌*◌, ◌≤◌, ◌<◌, ltb, ℤ, length, drop, take, get_or}
-use Rattle.std.proofs.Common.{sym, ap, ◌∙◌, append_assoc, zero-mul, add-mul, one-mul, arith, inl, inr, le-ltb, lt-ltb, ltb-true, ltb-false, eqb-true, length-append, take_at, get_or-drop, get_or-take}
+use Rattle.std.specs.Prelude.{◌≡◌, refl, Bool, true, false, cond, ◌||◌, List, [], ◌∷◌, ◌++◌, map, ℕ, zero, suc, ◌+◌, ◌-◌, ◌*◌, ◌≤◌, ◌<◌}
+use Rattle.std.specs.Prelude.{ltb, ℤ, length, drop, take, get_or}
+use Rattle.std.proofs.Common.{sym, ap, ◌∙◌, append_assoc, zero-mul, add-mul, one-mul, arith, inl, inr, le-ltb, lt-ltb, ltb-true, ltb-false}
+use Rattle.std.proofs.Common.{eqb-true, length-append, take_at, get_or-drop, get_or-take}
 use Rattle.std.proofs.Math.ListN.{get_or-append}
 use Rattle.std.proofs.Math.Seq.{drop-append_seam, drop-append-add}
 use Rattle.cuts.specs.declared.Terminator.{Terminator}
@@ -10,7 +12,8 @@ use Rattle.sound.specs.rule.Sound.{well_formed}
 use Rattle.sound.specs.rule.Rows.{length_of}
 use Rattle.pieces.specs.rule.Pieces.{Piece, cut_from, pieces_of}
 use Rattle.mends.specs.declared.Mended.{Mended}
-use Rattle.mends.specs.rule.Mend.{ending_of, plain_byte, width_of, is_empty, width_of_records, bytes_in, list_in, entry_numbers, MendAnswer, done}
+use Rattle.mends.specs.rule.Mend.{ending_of, plain_byte, width_of, is_empty, width_of_records, bytes_in, list_in, entry_numbers, MendAnswer}
+use Rattle.mends.specs.rule.Mend.{done}
 use Rattle.mends.specs.rule.Mend.{refused, mend_said}
 use Rattle.mends.specs.rule.Mend.{mended_as, kept_or_new, Mends}
 use Rattle.mends.specs.Sizes.{Sized, length_ending, length_plain, width_rest}
@@ -38,7 +41,8 @@ unfolding mended_as
 mend_named t d room cells =
     go (well_formed t) refl (ltb room (length (bytes_in t d))) refl (ltb cells (3 * length (list_in t d))) refl
   where
-    go : (g : Bool) → well_formed t ≡ g → (p : Bool) → ltb room (length (bytes_in t d)) ≡ p → (q : Bool) → ltb cells (3 * length (list_in t d))
+    go : (g : Bool) → well_formed t ≡ g → (p : Bool) → ltb room (length (bytes_in t d)) ≡ p → (q : Bool)
+        → ltb cells (3 * length (list_in t d))
         ≡ q
         → MendOutcome t d room cells
         (cond g (cond (p || q) (refused 70) (done (length (bytes_in t d)) (length (list_in t d)))) (refused 20))
@@ -173,7 +177,8 @@ module _ (t : List ℤ) (d : List ℕ) (k j : ℕ) where
   abbrev pub place_at : ℕ
   place_at = k * (width_of_records t d + (ending_of d).size) + j
 
-  pub byte_stands : k < length (kept_of (pieces_of d)) → j < length kept_at → get_or (bytes_in t d) place_at 0 ≡ plain_byte (get_or kept_at j 0)
+  pub byte_stands : k < length (kept_of (pieces_of d)) → j < length kept_at → get_or (bytes_in t d) place_at 0
+      ≡ plain_byte (get_or kept_at j 0)
   byte_stands h l =
       let n = kept_within t d k h in
       let at : ℕ = k * (width_of_records t d + (ending_of d).size) in

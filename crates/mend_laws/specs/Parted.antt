@@ -1,11 +1,12 @@
 -- What follows from rule/Parted.antt: the pieces that a file is cut into are those, both ways.
-use Rattle.std.specs.Prelude.{◌≡◌, refl, ◌↔◌, Bool, true, false, cond, List, [], ◌∷◌, ◌++◌, ℕ, zero, suc, ◌-◌, ◌≤◌, eqb}
-use Rattle.std.proofs.Common.{sym, ap, subst, ◌∙◌, append_assoc, arith, eqb-true, ne_eqb}
+use Rattle.std.specs.Prelude.{◌≡◌, refl, ◌↔◌, Bool, true, false, cond, List, [], ◌∷◌, ◌++◌, ℕ, zero, suc, ◌-◌, eqb}
+use Rattle.std.proofs.Common.{sym, ap, subst, ◌∙◌, append_assoc, eqb-true, ne_eqb}
 use Rattle.below.specs.Below.{holds_not}
 use Rattle.cuts.specs.declared.Terminator.{Terminator}
 use Rattle.cuts.specs.rule.Cut.{one_byte, two_bytes, no_ending, begins_with, terminator_at}
 use Rattle.cuts.specs.rule.Records.{terminator_bytes}
-use Rattle.pieces.specs.rule.Pieces.{boundary_at, Piece, piece, first_piece, pieces_behind, onto, cut_from, pieces_of, boundary_bytes, laid_pieces}
+use Rattle.pieces.specs.rule.Pieces.{boundary_at, Piece, piece, first_piece, pieces_behind, onto, cut_from, pieces_of, boundary_bytes}
+use Rattle.pieces.specs.rule.Pieces.{laid_pieces}
 use Rattle.pieces.specs.Laid.{pieces_laid}
 use Rattle.mend_laws.specs.rule.Mended.{Unbroken, no_bytes, other_byte}
 use Rattle.mend_laws.specs.rule.Parted.{LineEnd, cr, lf, Parted, nothing, unended, pair, alone}
@@ -91,10 +92,12 @@ parted_cut nothing = refl
 parted_cut (unended {b} {r} u) = ap (cut_from 0) (laid_last (b ∷ r)) ∙ cut_last u
 parted_cut (pair {a} {b} {r} {ps} e u p) =
     ap (cut_from 0) (append_assoc r (a ∷ b ∷ []) (laid_pieces ps))
-    ∙ cut_front (a ∷ b ∷ laid_pieces ps) u (cut_pair e (laid_pieces ps) ∙ ap (λ (x : List Piece). piece [] (two_bytes a b) ∷ x) (parted_cut p))
+    ∙ cut_front (a ∷ b ∷ laid_pieces ps) u (cut_pair e (laid_pieces ps)
+    ∙ ap (λ (x : List Piece). piece [] (two_bytes a b) ∷ x) (parted_cut p))
 parted_cut (alone {a} {b} {r} {ps} e u h p) =
     ap (cut_from 0) (append_assoc r (a ∷ []) (laid_pieces ps))
-    ∙ cut_front (a ∷ laid_pieces ps) u (cut_alone e (laid_pieces ps) h ∙ ap (λ (x : List Piece). piece [] (one_byte a b) ∷ x) (parted_cut p))
+    ∙ cut_front (a ∷ laid_pieces ps) u (cut_alone e (laid_pieces ps) h
+    ∙ ap (λ (x : List Piece). piece [] (one_byte a b) ∷ x) (parted_cut p))
 
 -- THE PIECES OF A FILE ARE ps EXACTLY WHEN these are so parted and, with their boundaries laid end to end, make it
 pub pieces_exactly : (d : List ℕ) (ps : List Piece) → (pieces_of d ≡ ps) ↔ ((laid_pieces ps ≡ d) × Parted ps)

@@ -1,10 +1,9 @@
 -- NO PIECE HOLDS CR OR LF.
 use Rattle.std.specs.Prelude.{◌≡◌, refl, Bool, true, false, cond, List, [], ◌∷◌, ℕ, zero, suc, ◌-◌, ◌≤◌, eqb}
 use Rattle.std.proofs.Common.{arith, eq-eqb, eqb-true}
-use Rattle.below.specs.Below.{holds_not}
 use Rattle.cuts.specs.rule.Cut.{one_byte, two_bytes, no_ending, begins_with, terminator_at}
 use Rattle.pieces.specs.rule.Pieces.{boundary_at, Piece, piece, first_piece, pieces_behind, onto, cut_from, pieces_of}
-use Rattle.mend_laws.specs.rule.Mended.{Unbroken, no_bytes, other_byte, AllUnbroken, no_pieces, one_piece}
+use Rattle.mend_laws.specs.rule.Mended.{no_bytes, other_byte, AllUnbroken, no_pieces, one_piece}
 
 unbroken_onto : (b : ℕ) {ps : List Piece} → (b ≡ 13 → ⊥) → (b ≡ 10 → ⊥) → AllUnbroken ps → AllUnbroken (onto b ps)
 unfolding onto first_piece pieces_behind

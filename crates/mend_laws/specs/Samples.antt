@@ -1,5 +1,5 @@
 -- THE READINGS' OWN CASES, computed in the definitions, where L is 3. 97 to 100 are a to d; 10 is LF, 13 CR, 9 a tab.
-use Rattle.std.specs.Prelude.{◌≡◌, refl, cond, ◌&&◌, List, [], ◌∷◌, ◌++◌, map, ℕ, ◌+◌, ◌-◌, eqb, ltb, length}
+use Rattle.std.specs.Prelude.{◌≡◌, refl, List, [], ◌∷◌, ℕ}
 use Rattle.cuts.specs.rule.Cut.{begins_with, terminator_at, terminator_of}
 use Rattle.cuts.specs.rule.Records.{terminator_bytes}
 use Rattle.fields.specs.rule.Field.{spaces}
@@ -24,7 +24,8 @@ pub record Cases : Type 0 where
   -- "pairs first": LF CR LF is LF CR, then LF with an empty record between
   pub pairs_first : Mends (97 ∷ 98 ∷ 99 ∷ 10 ∷ 13 ∷ 10 ∷ []) (97 ∷ 98 ∷ 99 ∷ 10 ∷ 13 ∷ []) (mend_entry 1 2 5 ∷ [])
   -- LF LF is two boundaries
-  pub twice_lf : Mends (97 ∷ 98 ∷ 99 ∷ 10 ∷ 10 ∷ 97 ∷ 98 ∷ 99 ∷ 10 ∷ []) (97 ∷ 98 ∷ 99 ∷ 10 ∷ 97 ∷ 98 ∷ 99 ∷ 10 ∷ []) (mend_entry 1 2 4 ∷ [])
+  pub twice_lf : Mends (97 ∷ 98 ∷ 99 ∷ 10 ∷ 10 ∷ 97 ∷ 98 ∷ 99 ∷ 10 ∷ []) (97 ∷ 98 ∷ 99 ∷ 10 ∷ 97 ∷ 98 ∷ 99 ∷ 10 ∷ [])
+      (mend_entry 1 2 4 ∷ [])
   -- the first terminator, also where it ends a dropped record
   pub first_of_dropped : Mends (13 ∷ 97 ∷ 98 ∷ 99 ∷ 10 ∷ []) (97 ∷ 98 ∷ 99 ∷ 13 ∷ []) (mend_entry 1 1 0 ∷ mend_entry 4 2 4 ∷ [])
   -- CR LF if there is none

@@ -1,21 +1,22 @@
 -- THE MENDED FILE IS SOUND in its line ends, lengths and bytes; a file is so exactly when it comes out as it went in, exactly when the
 -- list is empty; MENDING TWICE IS MENDING ONCE.
-use Rattle.std.specs.Prelude.{◌≡◌, refl, Bool, true, false, cond, List, [], ◌∷◌, ◌++◌, map, ℕ, zero, suc, ◌+◌, ◌-◌, ◌≤◌, ltb, ℤ, length}
+use Rattle.std.specs.Prelude.{◌≡◌, refl, Bool, true, false, cond, List, [], ◌∷◌, ◌++◌, map, ℕ, zero, suc, ◌-◌, ◌≤◌, ltb, ℤ, length}
 use Rattle.std.proofs.Common.{sym, ap, ◌∙◌, append_assoc, arith, ltb-false, length-append}
 use Rattle.cuts.specs.declared.Terminator.{Terminator}
 use Rattle.cuts.specs.rule.Cut.{terminator_of}
-use Rattle.cuts.specs.rule.Records.{Records, over, unended, record_and, records_of, terminator_bytes, laid, length_of_first}
+use Rattle.cuts.specs.rule.Records.{Records, over, unended, record_and, terminator_bytes, laid, length_of_first}
 use Rattle.cuts.specs.Records.{laid_again}
 use Rattle.file_laws.specs.rule.Only.{Clean, next}
 use Rattle.file_laws.specs.rule.Files.{records_before}
 use Rattle.file_laws.specs.Only.{no_terminator_inside}
 use Rattle.fields.specs.rule.Field.{spaces}
 use Rattle.sound.specs.rule.Sound.{well_formed}
-use Rattle.sound.specs.rule.Rows.{length_of, rows_of}
+use Rattle.sound.specs.rule.Rows.{length_of}
 use Rattle.sound.specs.Rows.{parts, row_facts}
 use Rattle.pieces.specs.rule.Pieces.{Piece, cut_from, pieces_of}
 use Rattle.pieces.specs.Laid.{pieces_laid}
-use Rattle.mends.specs.rule.Mend.{ending_of, plain_byte, width_of, is_empty, mended_record, mended_of, mend_entries, width_of_records, bytes_in}
+use Rattle.mends.specs.rule.Mend.{ending_of, plain_byte, width_of, is_empty, mended_record, mended_of, mend_entries, width_of_records}
+use Rattle.mends.specs.rule.Mend.{bytes_in}
 use Rattle.mends.specs.rule.Mend.{list_in}
 use Rattle.mends.specs.Sizes.{width_rest, width_above, length_entries, length_plain, length_spaces}
 use Rattle.mends.specs.Whole.{unlisted}

@@ -1,5 +1,6 @@
 -- What follows from rule/Names.antt, and what the code keeps.
-use Rattle.std.specs.Prelude.{◌≡◌, refl, Bool, true, ◌||◌, false, cond, List, [], ◌∷◌, ◌++◌, map, ℕ, suc, ◌+◌, ◌-◌, ◌<◌, ◌≤◌, leb, length, take, ℤ}
+use Rattle.std.specs.Prelude.{◌≡◌, refl, Bool, true, ◌||◌, false, cond, List, [], ◌∷◌, ◌++◌, map, ℕ, suc, ◌+◌, ◌-◌, ◌<◌, ◌≤◌, leb, length}
+use Rattle.std.specs.Prelude.{take, ℤ}
 use Rattle.std.proofs.Common.{sym, ap, ◌∙◌, arith, le-leb, leb-true, leb-false, take_all}
 use Rattle.std.proofs.lemmas.Bool.{lt-leb}
 use Rattle.std.proofs.Math.Seq.{take-length}

@@ -1,6 +1,6 @@
 -- No two names agree when case is set aside: the first row whose name is ill-formed or agrees with that of an earlier row. Rows stand in
 -- the order of the file, so that it has the earliest place.
-use Rattle.std.specs.Prelude.{◌≡◌, refl, ℕ, zero, suc, ◌+◌, ◌≤◌, ◌<◌, Bool, true, false, cond, ◌||◌, List, eqb, get_or}
+use Rattle.std.specs.Prelude.{ℕ, zero, suc, ◌+◌, Bool, cond, ◌||◌, List, eqb, get_or}
 use Rattle.below.specs.rule.Below.{any_below}
 
 unfoldable pub wrong_at : List ℕ → ℕ → Bool

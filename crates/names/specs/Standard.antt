@@ -1,6 +1,5 @@
 -- What follows from rule/Standard.antt, and what the code keeps.
-use Rattle.std.specs.Prelude.{◌≡◌, refl, true, false, [], ◌∷◌, ltb}
-use Rattle.signs.specs.declared.Sign.{Sign}
+use Rattle.std.specs.Prelude.{◌≡◌, refl, true, false, [], ◌∷◌}
 use Rattle.signs.specs.declared.Sign.TheVariants.{Byte, Break}
 use Rattle.ascii.specs.rule.Class.{class_of, upper_of}
 use Rattle.scan.specs.rule.Number.{is_digit}

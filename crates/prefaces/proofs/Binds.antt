@@ -13,7 +13,6 @@ use Rattle.survey.specs.rule.Survey.{KeptText}
 use Rattle.tokens.specs.declared.Phrase.{Phrase}
 use Rattle.tokens.specs.declared.Phrase.TheVariants as phrase
 use Rattle.tokens.specs.declared.Reading.{Reading}
-use Rattle.tokens.specs.declared.Reading.TheVariants.{At}
 use Rattle.reading.specs.rule.Result.{Result, Is, Not, Reader, give, bind}
 use Rattle.reading.specs.rule.Token.{passed}
 use Rattle.xml_reading.specs.rule.Word.{SSS, SURVEY, RECORD}
@@ -119,7 +118,8 @@ module _ (bad : Bool) (d : List ℕ) where
     by (Is p n) = on (manner bad d latin p n)
     by (Not f) = refl
 
-  pub closing_is : (at : ℕ) → sheet_closed bad d at ≡ bind (end_of bad d SURVEY at) (λ u n. bind (end_of bad d SSS n) (λ u. cleared_of bad d))
+  pub closing_is : (at : ℕ) → sheet_closed bad d at
+      ≡ bind (end_of bad d SURVEY at) (λ u n. bind (end_of bad d SSS n) (λ u. cleared_of bad d))
   unfolding sheet_closed end_of cleared_of
   closing_is at = sym (bind_bind (rule.within_element bad d SURVEY at) (rule.over bad d) last)
       ∙ on (bind (rule.within_element bad d SURVEY at) (rule.over bad d)) where

@@ -32,7 +32,6 @@ use Rattle.prologs.proofs.Whole as headed
 use Rattle.prologs.proofs.Exactly.{told, doctype_within}
 use Rattle.prologs.proofs.Steps.{gap_within}
 use Rattle.tokens.specs.rule.Gap.{fault}
-use Rattle.survey.specs.rule.Survey.{KeptText}
 use Rattle.reading.specs.rule.Result.{Is, Not, bind}
 use Rattle.reading.specs.rule.Least.{Charge, ◌when◌, named, Finding, clean, first, least, found, judged}
 use Rattle.xml_reading.specs.rule.Open.{unknown_at}

@@ -93,7 +93,7 @@ module _ (w : ℕ) (s : List ℕ) where
         some = ltb-true 0 (length s) (and_left (ltb 0 (length s)) behind e);
         fits_width = leb-true (length s) w (and_left (leb (length s) w) (all_plain s && ltb 32 last) f);
         plain = plain_so s (and_left (all_plain s) (ltb 32 last) g);
-        no-space = λ q. omega arith;
+        no_space = λ q. omega arith;
       }
 
   so_text : TextFit w s → text_fits w s ≡ true

@@ -1,6 +1,6 @@
 -- The lent table once a definition is read, over THE RULE: it begins with the table of the survey, and "Numbers beyond 6 + 18V + 4E are
 -- kept".
-use Rattle.std.specs.Prelude.{◌≡◌, List, ◌++◌, ◌+◌, ℤ, length, take, drop}
+use Rattle.std.specs.Prelude.{◌≡◌, List, ◌++◌, ℤ, length, take, drop}
 use Rattle.std.proofs.Common.{zero-add}
 use Rattle.std.proofs.Math.Seq.{take-append_seam, drop-append_seam}
 use Rattle.cells.specs.rule.Cell.{pasted}

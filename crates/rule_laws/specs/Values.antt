@@ -12,7 +12,7 @@ use Rattle.tokens.specs.declared.Amount.TheVariants as amounted
 use Rattle.tokens.specs.rule.Gap.{fault}
 use Rattle.tokens.specs.Token.{value_at, of_value, value_here}
 use Rattle.survey.specs.rule.Survey.{Amount}
-use Rattle.reading.specs.rule.Result.{Result, Is, Not}
+use Rattle.reading.specs.rule.Result.{Result, Is}
 use Rattle.reading.specs.rule.Token.{amount}
 use Rattle.token_laws.specs.Values.{Form, value_exactly}
 use Rattle.bridge.specs.Lowest.{never}

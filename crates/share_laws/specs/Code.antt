@@ -1,7 +1,7 @@
 -- "A block in which every number is written with no digit before the point gets point code 2": 2 exactly when each number of the block is
 -- so written, 0 exactly when none has a point.
-use Rattle.std.specs.Prelude.{◌≡◌, refl, Bool, true, false, cond, ◌&&◌, ◌||◌, List, [], ◌∷◌, ℕ, eqb}
-use Rattle.std.proofs.Common.{sym, ap, ◌∙◌, arith}
+use Rattle.std.specs.Prelude.{◌≡◌, refl, Bool, true, false, cond, ◌||◌, List, [], ◌∷◌, ℕ, eqb}
+use Rattle.std.proofs.Common.{arith}
 use Rattle.below.specs.Below.{and_left, and_right, and_true, holds_not}
 use Rattle.survey.specs.rule.Survey.{Amount}
 use Rattle.survey.specs.rule.Width.{some_of, each_of, bare, point_in}

@@ -1,5 +1,5 @@
 -- "7 is met less often": for one text the width by point code 1 is never smaller than by code 2.
-use Rattle.std.specs.Prelude.{List, [], ◌∷◌, ℕ, ◌≤◌, max}
+use Rattle.std.specs.Prelude.{List, [], ◌∷◌, ℕ, ◌≤◌}
 use Rattle.std.proofs.Common.{arith}
 use Rattle.layout.specs.declared.Kind.TheVariants.{Quantity}
 use Rattle.widths.specs.rule.Width.{need}

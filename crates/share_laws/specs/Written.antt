@@ -1,15 +1,14 @@
 -- "Written with no digit before the point": an optional minus, a point, digits. What the reader calls bare is just so written.
-use Rattle.std.specs.Prelude.{◌≡◌, refl, Bool, cond, ◌&&◌, ℕ, suc, ◌+◌, ◌<◌, eqb, ltb}
+use Rattle.std.specs.Prelude.{◌≡◌, refl, Bool, cond, ℕ, ◌<◌, eqb}
 use Rattle.std.proofs.Math.Path.{sym, ap}
 use Rattle.std.proofs.Common.{◌∙◌, arith}
 use Rattle.std.proofs.Math.Bool.{true, false}
 use mathlib.Core.List.{List, [], ◌∷◌, ◌++◌, append-nil}
-use borrow.Author.Tests.{eqb-true, eq-eqb, ne_eqb, ltb-true, lt-ltb}
+use borrow.Author.Tests.{eqb-true, ltb-true, lt-ltb}
 use Rattle.std.proofs.Math.ListN.{length}
-use Rattle.below.specs.Below.{and_left, and_right, and_true, holds_not}
+use Rattle.below.specs.Below.{and_left, and_right, holds_not}
 use Rattle.ascii.specs.rule.Class.{class_of}
 use Rattle.scan.specs.rule.Number.{is_digit}
-use Rattle.survey.specs.rule.Survey.{Amount}
 use Rattle.survey.specs.rule.Width.{bare}
 use Rattle.reading.specs.rule.Token.{leading, after_point, begins, without, amount_read}
 

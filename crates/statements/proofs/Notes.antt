@@ -12,7 +12,7 @@ use Rattle.scan.specs.declared.Word.TheVariants.{Not}
 use Rattle.scan.specs.rule.Word.{word_at}
 use Rattle.scan.proofs.Texts.{text_kept, kept_byte}
 use Rattle.scan.proofs.Words.{upper_miss, word_missed, word_next, word_not}
-use Rattle.scan.specs.rule.Loop.{Next, Again, Done, loop_of}
+use Rattle.scan.specs.rule.Loop.{Again}
 use Rattle.scan.proofs.Loops.{loop_again, loop_done}
 use Rattle.tokens.specs.declared.Fault.{Fault}
 use Rattle.tokens.specs.declared.Reading.{Reading}

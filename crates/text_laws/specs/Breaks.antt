@@ -1,11 +1,11 @@
 -- A break stands in a decoded text exactly where {NL} stands in the string, and nowhere else.
-use Rattle.std.specs.Prelude.{◌≡◌, refl, ◌↔◌, ◌⊎◌, Bool, true, false, List, [], ◌∷◌, ◌++◌, ℕ, zero, suc, ◌+◌, ◌<◌, length}
-use Rattle.std.proofs.Common.{◌∙◌, sym, ap, inl, inr, ⊎_elim, arith, zero-add}
+use Rattle.std.specs.Prelude.{◌≡◌, refl, ◌↔◌, ◌⊎◌, Bool, true, false, List, [], ◌∷◌, ◌++◌, ℕ, zero, suc, ◌+◌, length}
+use Rattle.std.proofs.Common.{◌∙◌, sym, inl, inr, ⊎_elim, arith, zero-add}
 use Rattle.ascii.specs.rule.Class.{class_of, upper_of}
 use Rattle.signs.specs.declared.Sign.{Sign}
 use Rattle.signs.specs.declared.Sign.TheVariants.{Byte, Break}
 use Rattle.signs.specs.rule.Sign.{sign_number}
-use Rattle.scan.specs.rule.Text.{Text, stop, sign, kept, text}
+use Rattle.scan.specs.rule.Text.{Text, sign, kept, text}
 use Rattle.scan.specs.rule.Number.{is_digit}
 use Rattle.marks.specs.declared.Inside.TheVariants.{Plain}
 use Rattle.marks.specs.declared.Skip.TheVariants.{Past}
@@ -14,7 +14,7 @@ use Rattle.marks.specs.rule.Spelling.{gives_of, decode_of}
 use Rattle.marks.specs.Spelling.{Pairs, last, more, Piece, plain, quote, brace, line, bytes, Spelt, closed, piece}
 use Rattle.marks.proofs.Complete.{skip_piece, string_decoded, string_complete}
 use Rattle.marks.proofs.Spellings.{string_exactly}
-use Rattle.texts.specs.rule.Decode.{cut_off, inside_text, signs_at, numbers_of, decoded_as, DecodeOutcome, signs, refused, decode_fitting}
+use Rattle.texts.specs.rule.Decode.{cut_off, inside_text, signs_at, decoded_as, signs, refused, decode_fitting}
 use Rattle.text_laws.specs.Cut.{none, inside_exactly}
 
 -- ---- by computation, over bytes

@@ -1,14 +1,12 @@
 -- A string of a definition, cut off before its closing quote: what the call decodes is what the string says.
-use Rattle.std.specs.Prelude.{◌≡◌, refl, ◌↔◌, Bool, true, false, cond, ◌&&◌, List, [], ◌∷◌, ◌++◌, ℕ, zero, suc, ◌+◌, ◌-◌, ◌≤◌, ◌<◌, eqb}
+use Rattle.std.specs.Prelude.{◌≡◌, refl, ◌↔◌, Bool, true, false, cond, ◌&&◌, List, [], ◌∷◌, ◌++◌, ℕ, suc, ◌+◌, ◌-◌, ◌≤◌, ◌<◌, eqb}
 use Rattle.std.specs.Prelude.{leb, length, take, drop}
 use Rattle.std.proofs.Common.{◌∙◌, sym, ap, arith, length-drop, length-take-le, take-add, drop_at, eq-eqb, le-leb, eqb-true, leb-true}
-use Rattle.std.proofs.Math.Nat.{suc_inj}
 use Rattle.std.proofs.lemmas.List.{drop-append-le}
 use Rattle.std.proofs.Math.Seq.{take-append_seam}
-use Rattle.below.specs.Below.{and_left, and_right, and_true}
+use Rattle.below.specs.Below.{and_left, and_right}
 use Rattle.ascii.specs.rule.Class.{class_of}
-use Rattle.signs.specs.declared.Sign.{Sign}
-use Rattle.scan.specs.rule.Text.{Text, stop, sign, kept, text}
+use Rattle.scan.specs.rule.Text.{sign, kept, text}
 use Rattle.marks.specs.declared.Inside.{Inside}
 use Rattle.marks.specs.declared.Inside.TheVariants.{Plain, Opened, Shut, Ell, Pair, Low}
 use Rattle.marks.specs.declared.Move.{Move}
@@ -16,7 +14,7 @@ use Rattle.marks.specs.declared.Move.TheVariants.{Go, Closed, Wrong}
 use Rattle.marks.specs.declared.Skip.{Skip}
 use Rattle.marks.specs.declared.Skip.TheVariants.{Past, Unclosed, Bad}
 use Rattle.marks.specs.rule.Marks.{is_hex, inside_of, moved, string_of}
-use Rattle.marks.specs.rule.Spelling.{gives_of, gone, decode_of}
+use Rattle.marks.specs.rule.Spelling.{gives_of, decode_of}
 use Rattle.marks.specs.Spelling.{Spelt}
 use Rattle.marks.proofs.Complete.{string_complete}
 use Rattle.marks.proofs.Spellings.{string_exactly}

@@ -1,5 +1,5 @@
 -- What the call answers: one outcome, and for a text of a table that was read from the definition that text's decoding, never 3.
-use Rattle.std.specs.Prelude.{◌≡◌, refl, Bool, true, false, cond, List, [], ◌∷◌, ◌++◌, ℕ, ◌+◌, eqb, ℤ, length}
+use Rattle.std.specs.Prelude.{◌≡◌, refl, true, cond, List, ℕ, ◌+◌, eqb, ℤ, length}
 use Rattle.std.proofs.Common.{◌∙◌, sym}
 use Rattle.std.proofs.Math.Path.{ap}
 use Rattle.scan.specs.rule.Text.{text}
@@ -24,9 +24,8 @@ use Rattle.definition.proofs.Bridge.{Sames, SameOutcome, outcome_same}
 use Rattle.definition.proofs.Bridge as bridge
 use Rattle.texts.specs.declared.Decoded.{Decoded}
 use Rattle.texts.specs.declared.Decoded.TheVariants as decoded
-use Rattle.texts.specs.rule.Decode.{inside_text, signs_at, numbers_of, DecodeOutcome, signs, refused, decode_said, decode_fitting}
+use Rattle.texts.specs.rule.Decode.{inside_text, signs_at, DecodeOutcome, signs, refused, decode_said, decode_fitting}
 use Rattle.texts.specs.rule.Decode.{decoded_as}
-use Rattle.texts.specs.rule.Decode.{signs_after}
 use Rattle.texts.specs.rule.Decode.{TextDecoded}
 use Rattle.text_laws.specs.Cut.{none, Says, string_says}
 use Rattle.text_laws.specs.Stand.{Each, nil, more, LineStands, VariableStands, built_stands}

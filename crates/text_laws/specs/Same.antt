@@ -1,16 +1,16 @@
 -- No refusal of any definition changed when {NL} became a break. Before, it was byte 10: the outcome with every break of a name put as byte
 -- 10 is the outcome. For neither is a letter or digit.
-use Rattle.std.specs.Prelude.{◌≡◌, refl, Bool, true, false, cond, not, ◌&&◌, ◌||◌, List, [], ◌∷◌, ℕ, zero, suc, ◌+◌, ◌≤◌, ◌<◌, eqb, ltb}
-use Rattle.std.specs.Prelude.{leb, length, get_or}
+use Rattle.std.specs.Prelude.{◌≡◌, refl, Bool, true, false, cond, not, ◌&&◌, ◌||◌, List, [], ◌∷◌, ℕ, zero, suc, ◌+◌, ◌≤◌, ◌<◌, ltb}
+use Rattle.std.specs.Prelude.{leb, length}
 use Rattle.std.proofs.Common.{◌∙◌, sym, ap, ⊎_elim, arith, eq-or-lt_of_le, ne_eqb, le-ltb, lt-ltb}
 use Rattle.std.proofs.Math.Bool.{and-false}
 use Rattle.below.specs.rule.Below.{any_below}
-use Rattle.below.specs.Below.{holds_not, and_left, and_right, either_true}
+use Rattle.below.specs.Below.{and_left, and_right}
 use Rattle.ascii.specs.rule.Class.{class_of, upper_of, within}
 use Rattle.signs.specs.declared.Sign.{Sign}
 use Rattle.signs.specs.declared.Sign.TheVariants.{Byte, Break}
 use Rattle.scan.specs.rule.Number.{is_digit}
-use Rattle.names.specs.rule.Standard.{is_letter, letters_or_digits, begins_with_letter, well_named, same_capital, agree}
+use Rattle.names.specs.rule.Standard.{is_letter, letters_or_digits, begins_with_letter, well_named, agree}
 use Rattle.names.specs.rule.Standard.{name_at, name_wrong, name_fault_from}
 use Rattle.names.specs.rule.Standard.{name_fault}
 use Rattle.names.proofs.Capitals.{letter_upper, digit_upper}

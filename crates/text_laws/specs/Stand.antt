@@ -1,14 +1,14 @@
 -- Every text of a definition that was read, as the code's books have it, stands in the definition: from its place on it is a string, whose
 -- closing quote stands just behind its length. Names, labels, and the texts of lines. specs/Decoded brings it to the rule.
-use Rattle.std.specs.Prelude.{◌≡◌, ◌⊎◌, Bool, eqb, ltb, get_or}
+use Rattle.std.specs.Prelude.{◌≡◌, Bool, eqb, ltb}
 use Rattle.std.proofs.Math.Path.{refl, ap}
-use Rattle.std.proofs.Common.{◌∙◌, sym, inl, inr, ⊎_elim, eqb-true}
+use Rattle.std.proofs.Common.{◌∙◌, sym}
 use Rattle.std.proofs.Math.Bool.{true, false, cond}
 use mathlib.Core.List.{List, [], ◌∷◌, ◌++◌}
-use Prim.Native.Nat.{ℕ, zero, suc, ◌+◌, ◌-◌, ◌≤◌, ◌<◌}
+use Prim.Native.Nat.{ℕ, zero, suc, ◌+◌, ◌-◌}
 use native.Mathlib.Omega.{arith}
 use Rattle.std.proofs.Math.ListN.{length}
-use Rattle.scan.specs.rule.Text.{Text, stop, sign, text}
+use Rattle.scan.specs.rule.Text.{Text, text}
 use Rattle.scan.specs.rule.Loop.{Next, Again, Done, on_next, loop_of}
 use Rattle.scan.proofs.Texts.{From, at_stop, at_sign, from_text}
 use Rattle.marks.specs.declared.Inside.TheVariants.{Plain}

@@ -3,7 +3,7 @@
 use Rattle.std.specs.Prelude.{◌≡◌, List, [], ◌∷◌, ◌++◌, ℤ}
 use Rattle.std.proofs.Math.Path.{refl, ap}
 use Rattle.std.proofs.Common.{◌∙◌, sym, subst, append-nil}
-use Prim.Native.Nat.{ℕ, zero, suc, ◌+◌, ◌*◌, ◌-◌, ◌≤◌, ◌<◌}
+use Prim.Native.Nat.{ℕ, zero, suc, ◌+◌, ◌*◌, ◌<◌}
 use native.Mathlib.Omega.{arith}
 use Rattle.std.proofs.Math.ListN.{length}
 use Rattle.cells.specs.rule.Cell.{count_of}
@@ -19,7 +19,7 @@ use Rattle.values.specs.Line.{line_cells, cells_of}
 use Rattle.values.proofs.Rooms.{cells_length}
 use Rattle.sound.specs.rule.Sound.{columns_of}
 use Rattle.survey.specs.rule.Survey.{KeptText}
-use Rattle.measures.specs.Survey.{Variable, lines_in, columns_in, counted_in, lines_all, table_of}
+use Rattle.measures.specs.Survey.{Variable, lines_in, columns_in, counted_in, lines_all}
 use Rattle.measures.specs.Width.{plain_columns, widened, full_columns}
 use Rattle.measures.specs.Good.{Good}
 use Rattle.built.specs.Standing.{Stands, line_there}

@@ -1,18 +1,18 @@
 -- A stretch measured byte by byte measures what the rule says: its signs where a quote behind it closes it, else it is no text.
 use mathlib.Core.Path.{◌≡◌, refl, ◌∙◌, sym, ap}
-use mathlib.Core.Bool.{Bool, true, false, cond, ◌&&◌, ◌||◌}
+use mathlib.Core.Bool.{Bool, true, false, cond, ◌||◌}
 use mathlib.Core.List.{List, [], ◌∷◌, ◌++◌}
-use Prim.Native.Nat.{ℕ, zero, suc, ◌+◌, ◌-◌, ◌≤◌, ◌<◌}
+use Prim.Native.Nat.{ℕ, suc, ◌+◌, ◌≤◌, ◌<◌}
 use native.Mathlib.Omega.{arith}
 use native.Mathlib.Nat.{zero-add}
-use lib.Dec.{eqb, ltb, leb}
+use lib.Dec.{eqb, ltb}
 use lib.IntN.{ℤ, pos}
 use lib.ListN.{length, take, drop, get_or, set, length-append, length-drop}
 use lib.Seq.{sets, sets-eq, drop-append-le, length-take-le}
 use borrow.Author.Tests.{eq-eqb, ne_eqb, le-leb, lt-ltb, ltb-true, ltb-false}
 use Rattle.ascii.specs.rule.Class.{class_of, upper_of}
 use Rattle.signs.specs.declared.Sign.{Sign}
-use Rattle.signs.specs.declared.Sign.TheVariants.{Byte, Break}
+use Rattle.signs.specs.declared.Sign.TheVariants.{Byte}
 use Rattle.signs.specs.rule.Sign.{sign_number}
 use Rattle.scan.specs.rule.Text.{Text, stop, sign, kept, text}
 use Rattle.scan.specs.rule.Number.{is_digit}

@@ -1,14 +1,14 @@
 -- Brace forms of one sign whose bytes stand side by side, and hex pairs: told at once.
 use mathlib.Core.Path.{◌≡◌, refl, ◌∙◌, sym, ap}
-use mathlib.Core.Bool.{Bool, true, false, cond, ◌||◌}
-use mathlib.Core.List.{List, [], ◌∷◌, ◌++◌}
-use Prim.Native.Nat.{ℕ, ◌+◌, ◌-◌, ◌≤◌, ◌<◌}
+use mathlib.Core.Bool.{Bool, true, false, ◌||◌}
+use mathlib.Core.List.{List, ◌∷◌}
+use Prim.Native.Nat.{ℕ, ◌+◌, ◌≤◌, ◌<◌}
 use native.Mathlib.Omega.{arith}
-use lib.Dec.{eqb, ltb, leb}
+use lib.Dec.{eqb}
 use lib.ListN.{length, get_or}
 use borrow.Author.Tests.{eqb-true, eq-eqb, ne_eqb, lt-ltb}
 use Rattle.below.specs.Below.{lt_or_le}
-use mathlib.Core.Logic.{◌⊎◌, inl, inr, ⊎_elim}
+use mathlib.Core.Logic.{inl, inr, ⊎_elim}
 use Rattle.ascii.specs.rule.Class.{class_of, upper_of}
 use Rattle.signs.specs.declared.Sign.{Sign}
 use Rattle.signs.specs.declared.Sign.TheVariants.{Byte, Break}
@@ -17,13 +17,12 @@ use Rattle.scan.specs.rule.Number.{is_digit}
 use Rattle.scan.proofs.Texts.{text_kept, kept_byte}
 use Rattle.scan.proofs.Orders.{digit_bounds}
 use Rattle.marks.specs.declared.Inside.{Inside}
-use Rattle.marks.specs.declared.Inside.TheVariants.{Plain, Opened, Shut, Ell, Pair, Low}
-use Rattle.marks.specs.declared.Move.TheVariants.{Go, Closed, Wrong}
+use Rattle.marks.specs.declared.Inside.TheVariants.{Plain, Pair, Low}
 use Rattle.marks.specs.rule.Marks.{is_hex, inside_of}
-use Rattle.marks.specs.rule.Spelling.{hex_of, hex_pair, gives_of, gone, decode_of}
+use Rattle.marks.specs.rule.Spelling.{hex_pair, gives_of, decode_of}
 use Rattle.marks.proofs.Complete.{before}
 use Rattle.marks.proofs.Parts.{hex_letter}
-use Rattle.texts.specs.Measured.{is_mark, completes, measured, measure_from, Says, form_sign, Form, FormEnd}
+use Rattle.texts.specs.Measured.{is_mark, completes, measure_from, Says, form_sign, Form, FormEnd}
 
 -- what `Says` has, of a hex pair at n behind whose first digit the reader stands, in a form that opened at o
 record PairSays (d : List ℕ) (o n : ℕ) (x : Sign) (m : ℕ) (t : Inside) : Type 0 where

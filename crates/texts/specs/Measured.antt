@@ -1,5 +1,5 @@
 -- What the code keeps of a stretch while it is measured: where its reader stands, and how many signs it has said so far.
-use Rattle.std.specs.Prelude.{◌≡◌, ◌⊎◌, Bool, true, false, cond, ◌||◌, List, [], ◌∷◌, ℕ, ◌+◌, ◌≤◌, ◌<◌, eqb, ℤ, length, get_or}
+use Rattle.std.specs.Prelude.{◌≡◌, ◌⊎◌, Bool, true, false, cond, ◌||◌, List, ◌∷◌, ℕ, ◌+◌, ◌≤◌, ◌<◌, eqb, ℤ, length, get_or}
 use Rattle.std.proofs.lemmas.List.Edits.{sets}
 use Rattle.scan.specs.rule.Text.{Text, stop, sign, text}
 use Rattle.marks.specs.declared.Inside.{Inside}

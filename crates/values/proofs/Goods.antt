@@ -1,7 +1,7 @@
 -- VALUES that were read are good: the limits of their type, their range and their lines, as specs/Good says it.
 use mathlib.Core.Path.{◌≡◌, refl, ◌∙◌, sym, ap}
 use mathlib.Core.Logic.{◌⊎◌, inl, inr, ⊎_elim}
-use mathlib.Core.Bool.{Bool, true, false, cond, not, ◌&&◌, ◌||◌}
+use mathlib.Core.Bool.{Bool, true, false, cond, not, ◌&&◌}
 use mathlib.Core.List.{List, [], ◌∷◌, ◌++◌}
 use Prim.Native.Nat.{ℕ, zero, suc, ◌+◌, ◌-◌, ◌^◌, ◌≤◌, ◌<◌}
 use native.Mathlib.Nat.{eq-or-lt_of_le}
@@ -44,15 +44,13 @@ use Rattle.values.specs.declared.Ranged.{Ranged}
 use Rattle.values.specs.declared.Ranged.TheVariants as ranged
 use Rattle.values.specs.declared.Verdict.{Verdict}
 use Rattle.values.specs.declared.Verdict.TheVariants.{Good, Bad}
-use Rattle.values.specs.declared.Turn.{Turn}
-use Rattle.values.specs.declared.Turn.TheVariants as turn
 use Rattle.values.specs.Value.{form_of, large_of, true_of, scaled_of, point_of, points_of}
 use Rattle.values.specs.Range.{limit_range, reversed_of, judge_range, settled, ranged_of, with_or, range_rest}
-use Rattle.values.specs.Line.{Given, Is, Not, line_rest, number_on, number_at, repeated_in, line_fault, judge_line, grown_point, grown_by}
+use Rattle.values.specs.Line.{Given, Is, Not, line_rest, number_on, number_at, repeated_in, judge_line, grown_point, grown_by}
 use Rattle.values.specs.Line.{end_of}
 use Rattle.values.specs.Line.{end_or, more_of, Listing, state_of, after, judged_step, read_step, line_step, lines_from}
 use Rattle.values.specs.Block.{empty_block, closed_by, range_then, to_or, values_on}
-use Rattle.values.specs.Good.{least, most, Limited, Near, GoodBlock, GoodLine, EachGood, none, more, GoodLines, GoodValues}
+use Rattle.values.specs.Good.{Limited, Near, GoodBlock, GoodLine, EachGood, none, more, GoodLines, GoodValues}
 use Rattle.values.proofs.Facts.{or_none, or_neither, sound_value}
 use Rattle.values.proofs.Shares.{value_near, value_some, code_low, code_bare, code_none, code_some, codes_low, codes_same}
 use Rattle.values.proofs.Shares.{codes_some, codes_first}

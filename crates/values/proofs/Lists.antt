@@ -3,15 +3,15 @@
 use mathlib.Core.Path.{◌≡◌, refl, ◌∙◌, sym, ap}
 use mathlib.Core.Bool.{Bool, true, false, cond}
 use mathlib.Core.List.{List, [], ◌∷◌, ◌++◌}
-use Prim.Native.Nat.{ℕ, suc, ◌+◌, ◌*◌, ◌-◌, ◌≤◌, ◌<◌}
+use Prim.Native.Nat.{ℕ, ◌+◌, ◌*◌, ◌-◌, ◌≤◌, ◌<◌}
 use native.Mathlib.Omega.{arith}
 use lib.Dec.{leb, eqb}
 use lib.IntN.{ℤ}
 use lib.ListN.{length, set, length-set}
 use borrow.Author.Tests.{leb-false, eqb-true}
-use Rattle.cells.specs.rule.Cell.{cell, pasted}
+use Rattle.cells.specs.rule.Cell.{pasted}
 use Rattle.cells.specs.Cell.{paste_more, paste_none}
-use Rattle.scan.specs.rule.Loop.{Next, Again, Done}
+use Rattle.scan.specs.rule.Loop.{Again, Done}
 use Rattle.scan.proofs.Loops.{loop_again, loop_done}
 use Rattle.tokens.specs.declared.Fault.{Fault}
 use Rattle.tokens.specs.declared.Reading.{Reading}
@@ -38,7 +38,6 @@ use Rattle.values.specs.declared.Verdict.{Verdict}
 use Rattle.values.specs.declared.Verdict.TheVariants.{Good, Bad}
 use Rattle.values.specs.declared.Turn.{Turn}
 use Rattle.values.specs.declared.Turn.TheVariants as turn
-use Rattle.values.specs.declared.Listed.{Listed}
 use Rattle.values.specs.declared.Listed.TheVariants as listed
 use Rattle.values.specs.Line.{Given, Is, Not, said_of, special_or, line_rest, number_on, number_at, repeated_in, line_fault}
 use Rattle.values.specs.Line.{judge_line, grown_by, line_cells, cells_of, more_of, Listing, state_of, after, judged_step, read_step}

@@ -4,8 +4,8 @@ use mathlib.Core.List.{List, [], ◌∷◌, ◌++◌, append_assoc}
 use Prim.Native.Nat.{ℕ, zero, suc, ◌+◌, ◌*◌, ◌-◌, ◌≤◌, ◌<◌}
 use native.Mathlib.Omega.{arith}
 use lib.IntN.{ℤ, pos}
-use lib.ListN.{length, take, drop, get_or, length-append, length-take, length-drop, get_or-append}
-use lib.Seq.{length-take-le, drop-append_seam, get_or-append-add, get_or_at}
+use lib.ListN.{length, take, drop, length-append, length-take, length-drop, get_or-append}
+use lib.Seq.{length-take-le, get_or-append-add, get_or_at}
 use Rattle.cells.specs.rule.Cell.{cell, pasted}
 use Rattle.values.specs.declared.Said.{Said}
 use Rattle.values.specs.Line.{number_on, numbers, number_at, line_cells, cells_of}

@@ -1,30 +1,26 @@
 -- What a variable tells, and what the code gives back of it.
-use mathlib.Core.Path.{◌≡◌, refl, ◌∙◌, sym, ap}
+use mathlib.Core.Path.{◌≡◌, refl, ◌∙◌, ap}
 use mathlib.Core.List.{List, []}
 use Prim.Native.Nat.{ℕ, ◌+◌, ◌*◌}
 use native.Mathlib.Omega.{arith}
 use lib.IntN.{ℤ}
-use lib.ListN.{length}
 use Rattle.cells.specs.rule.Cell.{pasted}
 use Rattle.cells.specs.Cell.{paste_none}
 use Rattle.tokens.specs.declared.Fault.{Fault}
 use Rattle.tokens.specs.declared.Reading.{Reading}
 use Rattle.tokens.specs.declared.Reading.TheVariants.{At, Refused}
-use Rattle.tokens.specs.declared.Figures.{Figures}
 use Rattle.tokens.specs.declared.Number.{Number}
 use Rattle.tokens.specs.declared.Number.TheVariants as number
 use Rattle.values.specs.declared.Block.{Block}
 use Rattle.values.specs.declared.Said.{Said}
-use Rattle.values.specs.declared.Listed.{Listed}
 use Rattle.values.specs.declared.Listed.TheVariants as listed
 use Rattle.values.specs.Line.{Given, cells_of}
 use Rattle.values.specs.Line.{listed_of}
 use Rattle.values.specs.Line as given
 use Rattle.values.specs.Block.{empty_block}
 use Rattle.variables.specs.declared.Rest.{Rest}
-use Rattle.variables.specs.declared.Rested.{Rested}
 use Rattle.variables.specs.declared.Rested.TheVariants as rested
-use Rattle.variables.specs.Rest.{Telling, Told, Is, Not, join_values, join_size, join_nothing}
+use Rattle.variables.specs.Rest.{Told, Is, Not, join_values, join_size, join_nothing}
 use Rattle.variables.specs.Rest.{rested_of, Stored}
 
 pub never : {A : Type 0} → ◌≡◌ {A = ℕ} 0 1 → A

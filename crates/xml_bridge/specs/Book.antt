@@ -1,8 +1,8 @@
 -- A VARIABLE OF THE RULE IN THE CODE'S BOOKS: the structs of the 1.1 road that the numbers of a variable fill, by whatever road it was
 -- read. Places that only a reader goes by are 0 here. `columns_same` and `Holds-same`: its row, and whether its position holds its width.
-use Rattle.std.specs.Prelude.{◌≡◌, Bool, true, false, cond, eqb, ℤ, length}
+use Rattle.std.specs.Prelude.{◌≡◌, Bool, true, false, cond, eqb, length}
 use Rattle.std.proofs.Math.Path.{refl}
-use Rattle.std.proofs.Common.{◌∙◌, ap}
+use Rattle.std.proofs.Common.{◌∙◌}
 use mathlib.Core.List.{List, [], ◌∷◌, ◌++◌, map}
 use Rattle.std.proofs.Math.Option.{Option, none, some, get_or}
 use Prim.Native.Nat.{ℕ, zero, suc, ◌+◌, ◌-◌, max}
@@ -25,11 +25,11 @@ use Rattle.variables.specs.Rest.{Telling}
 use Rattle.measures.specs.Width.{flag_of, plain_columns, lines_width, widest_of, width_of, widened, full_columns}
 use Rattle.measures.specs.Survey.{counted_in, columns_in}
 use Rattle.measures.specs.Survey as book
-use Rattle.survey.specs.rule.Survey.{Amount, KeptText, Range, Line, Block, Spread, Content, single, multiple, quantity, character, logical}
+use Rattle.survey.specs.rule.Survey.{Amount, KeptText, Range, Line, Block, Content, single, multiple, quantity, character, logical}
 use Rattle.survey.specs.rule.Survey.{Figure, Variable}
 use Rattle.survey.specs.rule.Width.{flag, some_of, range_ends, amounts, decimals_in, point_in, parts_of, block_in, finish_in, room_in}
 use Rattle.survey.specs.rule.Width.{subwidth_of, kind_in, widest_amount, width_in}
-use Rattle.survey.specs.rule.Table.{ranged, from_of, to_of, type_of, spread_in, variable_columns, lines_of, line_cells, cells_of}
+use Rattle.survey.specs.rule.Table.{ranged, from_of, to_of, type_of, spread_in, variable_columns, line_cells, cells_of}
 
 -- ---- values, lines, blocks
 abbrev pub value_as : Amount → Value
@@ -131,7 +131,8 @@ max_first zero f = omega arith
 max_first (suc n) f = rw (max_first n f) (omega arith)
 
 module _ (k : Kind) where
-  lines_widest : (l : List Line) → max_below (length (saids l)) (λ i. need k (number_at (saids l) i)) ≡ widest_amount k (map (λ x. x.value) l)
+  lines_widest : (l : List Line) → max_below (length (saids l)) (λ i. need k (number_at (saids l) i))
+      ≡ widest_amount k (map (λ x. x.value) l)
   unfolding saids number_at numbers widest_amount max_below scaled_of
   lines_widest [] = refl
   lines_widest (x ∷ l) = max_first (length (saids l)) (λ i. need k (number_at (saids (x ∷ l)) i)) ∙ rw (lines_widest l)
@@ -162,7 +163,8 @@ module _ (i j before : ℕ) where
       → columns_in before (book_with i j (parts_of (spread_in t)) (subwidth_of ((get_or q p).value + 1 - p.value) (spread_in t))
       (record { ident = n; name = name; label = label; start = p; finish = q; content = t }))
       ≡ variable_columns before (record { ident = n; name = name; label = label; start = p; finish = q; content = t })
-  unfolding columns_in full_columns widened plain_columns counted_in variable_columns width_of width_in kind_in kind_of row_of widest_of lines_width
+  unfolding columns_in full_columns widened plain_columns counted_in variable_columns width_of width_in kind_in kind_of row_of widest_of
+      lines_width
       range_width amounts some_of saids
   content_columns n name label p q (single b) =
       rw (lines_left b.lines) (rw (block_widest kind.Single b, flags b.range, saids_count b.lines))

@@ -1,7 +1,7 @@
 -- A BLOCK WHOSE CHARGES ARE ALL CLEAR IS GOOD, as crate values says it of the blocks of 1.1: its numbers are within the limits of its type,
 -- with
 -- one count of decimals; its range is in order, its lines say different numbers. `fine_values` gives what measuring and the table ask for.
-use Rattle.std.specs.Prelude.{◌≡◌, ◌⊎◌, Bool, cond, not, ◌&&◌, ◌||◌, eqb, ltb, ℤ, negsuc}
+use Rattle.std.specs.Prelude.{◌≡◌, ◌⊎◌, Bool, cond, ◌&&◌, ◌||◌, eqb, ltb, ℤ, negsuc}
 use Rattle.std.proofs.Math.Path.{refl}
 use Rattle.std.proofs.Common.{◌∙◌, sym, ap, eq-or-lt_of_le, pow-suc, mul-one, mul_comm, mul_assoc, mul-le-mul_right, le_trans}
 use Rattle.std.proofs.Math.Logic.{inl, inr, ⊎_elim}
@@ -16,9 +16,8 @@ use Rattle.std.proofs.Math.ListN.{length, length-append}
 use Rattle.std.specs.Int.Signed.{le_z, lt_z}
 use borrow.Author.Tests.{ltb-true, ltb-false, eqb-true, le-leb, not-false}
 use Rattle.below.specs.Below.{holds_not, and_left, and_right}
-use Rattle.cells.specs.rule.Cell.{number_of, signed_of, eq_z}
+use Rattle.cells.specs.rule.Cell.{signed_of, eq_z}
 use Rattle.scan.specs.rule.Number.{is_digit, decimal_of}
-use Rattle.scan.specs.Number.{capped}
 use Rattle.scan.proofs.Orders.{digit_bounds}
 use Rattle.values.specs.declared.Said.{Said}
 use Rattle.values.specs.Value.{form_of, large_of, scaled_of, point_of}
@@ -29,7 +28,7 @@ use Rattle.values.proofs.Goods.{Genuine, Fit, fits, value_limited}
 use Rattle.values.proofs.Shares.{size_number}
 use Rattle.values.proofs.Facts.{or_none, or_neither}
 use Rattle.values.proofs.Rooms.{count_more, number_before, number_last}
-use Rattle.survey.specs.rule.Survey.{Amount, KeptText, Range, Line, Block}
+use Rattle.survey.specs.rule.Survey.{Amount, Range, Line, Block}
 use Rattle.survey.specs.rule.Width.{some_of, each_of, range_ends, amounts, scaled, decimals_in, bare, point_in}
 use Rattle.survey.specs.rule.Table.{from_of, to_of}
 use Rattle.reading.specs.rule.Token.{leading, after_point, begins, without, amount_read}
@@ -335,16 +334,16 @@ module _ (quantity : Bool) where
     unfolding amounts scaled_of
     fine_block = record {
       few_decimals = few_decimals (amounts b) f.each;
-      point-code = code_most (amounts b);
+      point_code = code_most (amounts b);
       pointed = pointed_in (amounts b) f.each;
       shared = shared_in (amounts b) f.each;
       category = λ q. category_in (amounts b) q f.each;
       unranged = unranged_by b.range;
       ordered = ordered_by b.range f.ordered;
-      from-limited = λ e. (ends_by b.range e f.each).0;
-      to-limited = λ e. (ends_by b.range e f.each).1;
-      from-near = λ e p. (near_by b.range e (near_all p)).0;
-      to-near = λ e p. (near_by b.range e (near_all p)).1;
+      from_limited = λ e. (ends_by b.range e f.each).0;
+      to_limited = λ e. (ends_by b.range e f.each).1;
+      from_near = λ e p. (near_by b.range e (near_all p)).0;
+      to_near = λ e p. (near_by b.range e (near_all p)).1;
     }
       where
         unranged_by : (o : Option Range) → is_ranged o ≡ false → (from_of o ≡ pos 0) × (to_of o ≡ pos 0)

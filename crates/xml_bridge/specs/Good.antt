@@ -1,25 +1,24 @@
 -- A VARIABLE OF THE RULE IS GOOD, as crate measures says it of one in the books: its row holds every clause of a well-formed table that
 -- speaks
 -- of one row. And variables one after the other in the rule's words and in the books.
-use Rattle.std.specs.Prelude.{◌≡◌, refl, ◌⊎◌, Bool, true, false, ◌||◌, List, [], ◌∷◌, ◌++◌, map, ℕ, ◌+◌, ◌≤◌, ◌<◌, eqb, length}
-use Rattle.std.proofs.Common.{◌∙◌, sym, ap, inr, arith}
+use Rattle.std.specs.Prelude.{◌≡◌, refl, ◌⊎◌, Bool, true, false, List, [], ◌∷◌, ◌++◌, map, ℕ, ◌≤◌, eqb, length}
+use Rattle.std.proofs.Common.{◌∙◌, inr, arith}
 use Rattle.std.proofs.Math.Logic.{inl}
-use Rattle.std.proofs.Math.Option.{Option, none, some}
+use Rattle.std.proofs.Math.Option.{Option}
 use Rattle.values.specs.Good.{GoodBlock, GoodLines, GoodValues}
-use Rattle.values.specs.Good as good
 use Rattle.measures.specs.Survey.{holds_in}
 use Rattle.measures.specs.Survey as book
 use Rattle.measures.specs.Good.{GoodVariable}
 use Rattle.entries.specs.Entry.{GoodHead}
 use Rattle.entries.specs.Good.{GoodTelling}
-use Rattle.entries.proofs.Goods.{TextsShort, variable_good}
-use Rattle.survey.specs.rule.Survey.{Figure, KeptText, Block, Spread, Content, single, multiple, quantity, character, logical, Variable}
+use Rattle.entries.proofs.Goods.{variable_good}
+use Rattle.survey.specs.rule.Survey.{Figure, Block, Spread, Content, single, multiple, quantity, character, logical, Variable}
 use Rattle.survey.specs.rule.Width.{some_of, amounts, parts_of, finish_in, room_in, subwidth_of, no_block}
-use Rattle.survey.specs.rule.Table.{type_of, spread_in, variable_columns, lines_of, cells_of, lines_all, highest_in, all_lines, holds}
+use Rattle.survey.specs.rule.Table.{type_of, spread_in, lines_of, lines_all, highest_in, all_lines, holds}
 use Rattle.bridge.specs.Contents.{Parts, bits, fields}
-use Rattle.xml_bridge.specs.Book.{block_as, saids, saids_count, saids_cells, head_with, telling_with, book_with, book_of}
+use Rattle.xml_bridge.specs.Book.{block_as, saids, saids_count, saids_cells, head_with, telling_with, book_of}
 use Rattle.xml_bridge.specs.Settle.{Told, as_single, as_multiple, as_quantity, as_character, as_logical, holds_with, told_exact}
-use Rattle.xml_bridge.specs.Fine.{Fine, fine_block, fine_none}
+use Rattle.xml_bridge.specs.Fine.{fine_block, fine_none}
 
 none_of : {A : Type 0} → ◌≡◌ {A = ℕ} 0 1 → A
 none_of e = absurd (omega arith)
@@ -113,8 +112,8 @@ type_some logical = (omega arith, omega arith)
 module _ (before c w : ℕ) (v : Variable) (few : before ≤ 4096) (f : FineVariable before c w v) where
   pub head_good : (i j : ℕ) → GoodHead (head_with i j v)
   head_good i j = record {
-    kind-some = (type_some v.content).0;
-    kind-few = (type_some v.content).1;
+    kind_some = (type_some v.content).0;
+    kind_few = (type_some v.content).1;
     from_one = f.from_one;
     ordered = f.ordered;
     low = f.low;

@@ -1,8 +1,8 @@
 -- A VARIABLE IS MEASURED AS THE RULE HAS IT: what the code's settling answers for the structs that a variable's numbers fill is what `held`
 -- says of the variable, also where a spread has numbers beyond their cap.
-use Rattle.std.specs.Prelude.{◌≡◌, Bool, cond, List, [], ◌∷◌, ℕ, ◌+◌, ◌-◌, ◌*◌, ◌≤◌, ◌<◌, ℤ, length}
+use Rattle.std.specs.Prelude.{◌≡◌, Bool, cond, List, [], ◌∷◌, ℕ, ◌+◌, ◌-◌, ◌*◌, ◌≤◌, ℤ, length}
 use Rattle.std.proofs.Math.Path.{refl}
-use Rattle.std.proofs.Common.{◌∙◌, sym, ap, arith}
+use Rattle.std.proofs.Common.{◌∙◌, ap, arith}
 use Rattle.std.proofs.Math.Bool.{true, false, not}
 use Rattle.std.proofs.Math.Option.{Option, none, some, get_or}
 use Rattle.below.specs.Below.{holds_not}
@@ -16,7 +16,7 @@ use Rattle.sound.specs.rule.Sound.{room_good}
 use Rattle.tokens.specs.declared.Reading.TheVariants.{At}
 use Rattle.tokens.specs.rule.Gap.{fault}
 use Rattle.measures.specs.Width.{number_in, Measurable}
-use Rattle.measures.specs.Survey.{counted_in, columns_in, holds_in}
+use Rattle.measures.specs.Survey.{counted_in, holds_in}
 use Rattle.entries.specs.declared.Stood.{Stood}
 use Rattle.entries.specs.declared.Stood.TheVariants as stood
 use Rattle.entries.specs.Entry.{held_by, GoodHead, stood_of, settled_by}
@@ -33,7 +33,7 @@ use Rattle.reading.specs.rule.Statement.{Position}
 use Rattle.reading.specs.rule.Variable.{room, held}
 use Rattle.bridge.specs.Statements.{even_or}
 use Rattle.bridge.specs.Contents.{Parts, bits, fields}
-use Rattle.bridge.specs.Columns.{Exact, exact_fields}
+use Rattle.bridge.specs.Columns.{exact_fields}
 use Rattle.bridge.specs.Rooms.{Fate, exact, narrow, spread_fate}
 use Rattle.xml_bridge.specs.Book.{head_with, telling_with, book_with, saids_count, saids_cells, columns_with}
 
@@ -79,7 +79,8 @@ module _ (i j before : ℕ) where
       (room_before (kind_in (room_in v) v.content) v)
 
   exact_held : (v : Variable) (n : ℕ)
-      → stood_of before (held_by before (book_with i j (parts_of (spread_in v.content)) (subwidth_of (room_in v) (spread_in v.content)) v) n)
+      → stood_of before (held_by before (book_with i j (parts_of (spread_in v.content)) (subwidth_of (room_in v) (spread_in v.content)) v)
+      n)
       ≡ stood_from before (held v n)
   unfolding held_by judged named least lower stood_of
   exact_held v n = rw (holds_with v) (by (holds v)) where

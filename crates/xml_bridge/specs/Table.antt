@@ -1,11 +1,11 @@
 -- THE TABLE BUILT OF AN XML DEFINITION IS WELL FORMED: it is the table of the same variables in the books (crate `built`) but for its mark
 -- and
 -- for use and filter, of which it says what `kind_good` asks for.
-use Rattle.std.specs.Prelude.{◌≡◌, ◌⊎◌, Bool, not, ◌&&◌, ◌||◌, ltb, leb, ℤ}
+use Rattle.std.specs.Prelude.{◌≡◌, Bool, not, ◌&&◌, ◌||◌, ltb, leb, ℤ}
 use Rattle.std.proofs.Math.Path.{refl, sym, ap, fun_ext}
-use Rattle.std.proofs.Common.{◌∙◌, inl, inr, ⊎_elim, eq-or-lt_of_le, get_or-append-add}
+use Rattle.std.proofs.Common.{◌∙◌, ⊎_elim, eq-or-lt_of_le, get_or-append-add}
 use Rattle.std.proofs.Math.Bool.{true, false, cond}
-use mathlib.Core.List.{List, [], ◌∷◌, ◌++◌, map, append_assoc, append-nil}
+use mathlib.Core.List.{List, [], ◌∷◌, ◌++◌, append_assoc, append-nil}
 use Prim.Native.Nat.{ℕ, zero, suc, ◌+◌, ◌-◌, ◌*◌, ◌≤◌, ◌<◌, max}
 use native.Mathlib.Omega.{arith}
 use Rattle.std.proofs.Math.Dec.{eqb}
@@ -13,23 +13,24 @@ use Rattle.std.proofs.Math.IntN.{pos}
 use Rattle.std.proofs.Math.ListN.{length, drop, length-append, get_or-append}
 use borrow.Author.Tests.{eqb-true, eq-eqb, le-leb, lt-ltb, not-true}
 use Rattle.below.specs.rule.Below.{◌and◌, all_below, sum_below, max_below}
-use Rattle.below.specs.Below.{both_and, all_of, all_at_lem, and_true, and_left, and_right, sum_none, sum_more, or_true, either_true}
+use Rattle.below.specs.Below.{both_and, all_of, and_true, and_left, and_right, sum_none, sum_more, or_true, either_true}
 use Rattle.cells.specs.rule.Cell.{cell, count_of, pasted}
 use Rattle.strides.specs.rule.Stride.{stride_at, all_differ}
 use Rattle.layout.specs.rule.Layout.{most_rows, most_lines, header_size, row_size, line_size, row_base, lines_base, line_base}
 use Rattle.layout.specs.rule.Layout.{header_of, columns_at, line_at}
 use Rattle.layout.specs.rule.Row.{kind_of, row_of}
 use Rattle.layout.specs.declared.Columns.{Columns}
-use Rattle.layout.specs.declared.Line as cells
 use Rattle.layout.specs.declared.Row.{Row}
 use Rattle.rows.specs.rule.Cells.{row_cells, header_cells}
 use Rattle.widths.specs.rule.Width.{need}
 use Rattle.sound.specs.rule.Sound.{counts_good, places_good, value_at, plain_at, line_plain, lines_plain, values_fit, widest, lines_good}
 use Rattle.sound.specs.rule.Sound.{values_good}
-use Rattle.sound.specs.rule.Sound.{widths_good, columns_good, row_good, lines_at, finish_at, lines_before, highest_finish, good_at, idents_differ}
+use Rattle.sound.specs.rule.Sound.{widths_good, columns_good, row_good, lines_at, finish_at, lines_before, highest_finish, good_at}
+use Rattle.sound.specs.rule.Sound.{idents_differ}
 use Rattle.sound.specs.rule.Sound.{head_counts, head_sums, rows_good, well_formed}
 use Rattle.sound.specs.rule.Sound as sound
-use Rattle.uses.specs.rule.Uses.{use_known, own_use, filter_good, use_good, is_use, uses_of, once_each, uses_good, specials_none, xml_good, kind_good}
+use Rattle.uses.specs.rule.Uses.{own_use, filter_good, use_good, is_use, uses_good, specials_none, xml_good}
+use Rattle.uses.specs.rule.Uses.{kind_good}
 use Rattle.measures.specs.Survey as book
 use Rattle.measures.specs.Good.{Good, GoodVariable}
 use Rattle.measures.specs.Good as good
@@ -39,16 +40,15 @@ use Rattle.values.proofs.Rooms.{length_pasted}
 use Rattle.built.specs.Same.{max_same, differ_same}
 use Rattle.built.specs.Standing.{Stands, inside, cell_there, columns_there}
 use Rattle.built.specs.Nth.{Nth, few_rows, few_lines, sum_all, highest_all}
-use Rattle.built.specs.Nth as books
 use Rattle.built.specs.Cells.{laid, columns_of_lem, ident_of}
 use Rattle.built.specs.Rows.{lines_here, finish_here, row_good_lem, idents_differ_lem}
 use Rattle.survey.specs.rule.Survey.{Line, Variable}
-use Rattle.survey.specs.rule.Width.{flag, some_of, each_of, scaled}
+use Rattle.survey.specs.rule.Width.{some_of, each_of}
 use Rattle.survey.specs.rule.Table.{type_of, variable_columns, lines_of, lines_all, highest_in, line_cells, cells_of, all_lines}
 use Rattle.xml_reading.specs.rule.Role.{XmlEntry, variables_of, may_serve, use_wrong}
 use Rattle.xml_reading.specs.rule.Whole.{used_by, columns_for, xml_header, xml_rows, xml_table}
 use Rattle.xml_bridge.specs.Book.{book_of, columns_same}
-use Rattle.xml_bridge.specs.Good.{books_of, books_count, books_more, books_lines, books_highest, books_met, books_cells}
+use Rattle.xml_bridge.specs.Good.{books_of, books_count, books_lines, books_highest, books_met, books_cells}
 
 none_of : {A : Type 0} → ◌≡◌ {A = ℕ} 0 1 → A
 none_of e = absurd (omega arith)
@@ -339,7 +339,8 @@ module _ (t : List ℤ) (l : List XmlEntry) where
         sum_t = rw (count_for l, books_lines (variables_of l)) at (sum_all (books_good g) (lines_at T) (lines_here t (books_for l)))
 
         high_t : highest_finish T (length l) ≡ highest_in (variables_of l)
-        high_t = rw (count_for l, books_highest (variables_of l)) at (highest_all (books_good g) (finish_at T) (finish_here t (books_for l)))
+        high_t = rw (count_for l, books_highest (variables_of l)) at
+            (highest_all (books_good g) (finish_at T) (finish_here t (books_for l)))
 
     idents_x : idents_differ X (length l) ≡ true
     unfolding idents_differ

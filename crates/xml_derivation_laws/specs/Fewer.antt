@@ -1,5 +1,5 @@
 -- TURNS SUFFICE: a line more, or a variable more, with nothing charged in it, leaves one fewer of the 4,096 or 512.
-use Rattle.std.specs.Prelude.{◌≡◌, refl, Bool, true, false, ◌&&◌, List, [], ◌∷◌, ◌++◌, ℕ, suc, ◌+◌, ◌-◌, ◌<◌, ◌≤◌, leb, ltb, length}
+use Rattle.std.specs.Prelude.{◌≡◌, refl, Bool, true, false, ◌&&◌, List, [], ◌∷◌, ◌++◌, ℕ, ◌+◌, ◌-◌, ◌<◌, ◌≤◌, leb, ltb, length}
 use Rattle.std.proofs.Common.{ap, ◌∙◌, arith, length-append, leb-true, leb-false}
 use Rattle.below.specs.Below.{and_left, and_right}
 use Rattle.layout.specs.rule.Layout.{most_rows, most_lines}

@@ -64,7 +64,8 @@ module _ (bad : Bool) (d : List ℕ) where
     steps_of l = steps bad d (meanings d) C w l
 
     abbrev AtRead : List Part → Type 0
-    AtRead l = (s : State) (n : ℕ) (o : Open) (k : ℕ) (t : State) (m : ℕ) → within_element bad d w n ≡ Is o k → (steps_of l).at s o k ≡ Is t m
+    AtRead l = (s : State) (n : ℕ) (o : Open) (k : ℕ) (t : State) (m : ℕ) → within_element bad d w n ≡ Is o k → (steps_of l).at s o k
+        ≡ Is t m
         → Told d (inside w l) s n t m
 
     abbrev GoRead : List Part → Type 0
@@ -199,7 +200,8 @@ module _ (bad : Bool) (d : List ℕ) where
       at_any s n (shut p) k t m f r = passes derivation.Passes.any (at s n (shut p) k t m f r)
 
     -- ---- all of them
-    look : (l : List Part) → AtRead l → (s : State) (n : ℕ) (t : State) (m : ℕ) → bind (within_element bad d w n) ((steps_of l).at s) ≡ Is t m
+    look : (l : List Part) → AtRead l → (s : State) (n : ℕ) (t : State) (m : ℕ) → bind (within_element bad d w n) ((steps_of l).at s)
+        ≡ Is t m
         → Told d (inside w l) s n t m
     look l at s n t m r = let b = bound (within_element bad d w n) ((steps_of l).at s) t m r in
         at s n b.value b.place t m b.first_is b.then_is
@@ -256,7 +258,8 @@ module _ (bad : Bool) (d : List ℕ) where
     within_file =
         let a = (rule_of x).attributes in
         let old = s.manner.old in
-        let b = tag_within bad d p (name_of old a 0) (name_of old a 1) (name_of old a 2) (form_of old a 0) (form_of old a 1) (form_of old a 2)
+        let b = tag_within bad d p (name_of old a 0) (name_of old a 1) (name_of old a 2) (form_of old a 0) (form_of old a 1)
+        (form_of old a 2)
         (needed_of a) e h em q n (sym (tag_by_lem bad d old x p e) ∙ g) in
         (omega (arith, b.1), b.2)
 

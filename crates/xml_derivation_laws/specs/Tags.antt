@@ -31,7 +31,8 @@ module _ (bad : Bool) (d : List ℕ) where
   -- the reader of the table asks for these names and forms
   pub tag_by_lem : (old : Bool) (x : Element) (p e : ℕ)
       → tag_by bad d old (rule_of x).attributes p e
-      ≡ tag_of bad d p e (name_of old (rule_of x).attributes 0) (name_of old (rule_of x).attributes 1) (name_of old (rule_of x).attributes 2)
+      ≡ tag_of bad d p e (name_of old (rule_of x).attributes 0) (name_of old (rule_of x).attributes 1)
+      (name_of old (rule_of x).attributes 2)
       (form_of old (rule_of x).attributes 0) (form_of old (rule_of x).attributes 1) (form_of old (rule_of x).attributes 2)
       (needed_of (rule_of x).attributes)
   tag_by_lem old Sss p e = refl
@@ -182,10 +183,11 @@ module _ (bad : Bool) (d : List ℕ) (old : Bool) (x : Element) where
       → StartTag d old (rule_of x).attributes (rule_of x).word p h em n
   start_sound {p} {e} {q} {n} {h} {em} l r u =
       let a = (rule_of x).attributes in
-      let t = (tag_exactly bad d p e (name_of old a 0) (name_of old a 1) (name_of old a 2) (form_of old a 0) (form_of old a 1) (form_of old a 2)
+      let t = (tag_exactly bad d p e (name_of old a 0) (name_of old a 1) (name_of old a 2) (form_of old a 0) (form_of old a 1)
+      (form_of old a 2)
       (needed_of a) h em q n).0 (sym (tag_by_lem bad d old x p e) ∙ r) in
       record {
-        behind-name = e;
+        behind_name = e;
         end_mark = q;
         name = l;
         attributes = (placed_gives d old a t.placed u).1;

@@ -46,7 +46,8 @@ use Rattle.xml_reading.specs.rule.Word.{SSS}
 use Rattle.xml_reading.specs.rule.Open.{on_bare, misplaced}
 use Rattle.xml_reading.specs.rule.Role.{XmlEntry}
 use Rattle.xml_reading.specs.rule.Sheet.{XmlSurvey, no_root, rooted, headed, root, cleared, sheet}
-use Rattle.xml_reading.specs.rule.Whole.{Built, Refusal, xml_table, xml_fitting, xml_names, entry_place, judge_xml_names, xml_settled, sheet_of}
+use Rattle.xml_reading.specs.rule.Whole.{Built, Refusal, xml_table, xml_fitting, xml_names, entry_place, judge_xml_names, xml_settled}
+use Rattle.xml_reading.specs.rule.Whole.{sheet_of}
 use Rattle.xml_reading.specs.rule.Whole.{declared, xml_outcome}
 use Rattle.xml_grammar.specs.Grammar.{Sss}
 use Rattle.xml_grammar.specs.Reader.{element}
@@ -259,7 +260,8 @@ module _ (d : List ℕ) (latin : Bool) (n : ℕ) (l : List XmlEntry) where
   names_built false e = let f = fitting_built e in (record { names = λ h. never cc; long = f.0 }, f.1)
   names_built true {k} e = by (ltb (name_fault (xml_names latin d l)) (length l)) refl e where
     by : (b : Bool) → ltb (name_fault (xml_names latin d l)) (length l) ≡ b
-        → cond b (Refusal 9 (entry_place l (name_fault (xml_names latin d l)))) (xml_fitting n l) ≡ Built k → Kept d latin true l n × (l ≡ k)
+        → cond b (Refusal 9 (entry_place l (name_fault (xml_names latin d l)))) (xml_fitting n l) ≡ Built k → Kept d latin true l n
+        × (l ≡ k)
     by true h e = never cc
     by false h e =
         let f = fitting_built e in

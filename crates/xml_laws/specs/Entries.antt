@@ -1,7 +1,7 @@
 -- A VARIABLE THAT WAS READ IS FINE behind those before it: its numbers and texts, its values, its use and its filter.
-use Rattle.std.specs.Prelude.{◌≡◌, ◌⊎◌, Bool, not, ◌&&◌, ◌||◌, ℕ, zero, suc, ◌+◌, ◌-◌, ◌≤◌, ◌<◌, ltb, leb, take, drop}
+use Rattle.std.specs.Prelude.{◌≡◌, Bool, not, ◌&&◌, ◌||◌, ℕ, ◌+◌, ◌-◌, ◌≤◌, ◌<◌, ltb, take, drop}
 use Rattle.std.proofs.Math.Path.{refl, ap}
-use Rattle.std.proofs.Common.{◌∙◌, sym, inl, inr}
+use Rattle.std.proofs.Common.{◌∙◌, sym}
 use Rattle.std.proofs.Math.Bool.{true, false, cond}
 use mathlib.Core.List.{List, [], ◌∷◌, ◌++◌}
 use Rattle.std.proofs.Math.Option.{Option, none, some, get_or}
@@ -9,42 +9,42 @@ use native.Mathlib.Omega.{arith}
 use Rattle.std.proofs.Math.Dec.{eqb}
 use Rattle.std.proofs.Math.ListN.{length}
 use borrow.Author.Tests.{eqb-true, eqb-false, ltb-false, leb-false, not-false}
-use Rattle.below.specs.Below.{and_left, and_right, holds_not}
+use Rattle.below.specs.Below.{and_right}
 use Rattle.layout.specs.rule.Layout.{most_rows}
-use Rattle.spans.specs.rule.Heard.{Heard, heard}
+use Rattle.spans.specs.rule.Heard.{heard}
 use Rattle.spans.specs.rule.Says.{heard_word}
 use Rattle.forms.specs.rule.Form.{use_of, serial, weight}
 use Rattle.tags.specs.declared.Held.{Held}
 use Rattle.tags.specs.declared.Tag.TheVariants as tag
 use Rattle.tags.specs.rule.Tag.{tag_of, is_named}
 use Rattle.tokens.specs.rule.Gap.{fault}
-use Rattle.survey.specs.rule.Survey.{Figure, KeptText, Line, Block, Spread, Content, single, multiple, quantity, character, logical}
+use Rattle.survey.specs.rule.Survey.{Figure, KeptText, Block, Spread, Content, single, multiple, quantity, character, logical}
 use Rattle.survey.specs.rule.Survey.{Variable}
-use Rattle.survey.specs.rule.Width.{some_of, each_of, finish_in, room_in, block_in}
-use Rattle.survey.specs.rule.Table.{type_of, lines_of, lines_all, holds}
+use Rattle.survey.specs.rule.Width.{some_of, each_of, block_in}
+use Rattle.survey.specs.rule.Table.{type_of, lines_all, holds}
 use Rattle.reading.specs.rule.Result.{Result, Is, Not, Reader, bind}
-use Rattle.reading.specs.rule.Least.{Charge, ◌when◌, judged}
+use Rattle.reading.specs.rule.Least.{◌when◌, judged}
 use Rattle.reading.specs.rule.Statement.{Position}
 use Rattle.reading.specs.rule.Variable.{ident_charges, room, variable_of, held}
-use Rattle.bridge.specs.Contents.{Parts, bits, fields}
+use Rattle.bridge.specs.Contents.{Parts, bits}
 use Rattle.bridge.specs.Lowest.{never, Clear, clear}
 use Rattle.xml_reading.specs.rule.Word.{VARIABLE, NAME, LABEL, POSITION, FILTER, SPREAD, VALUES, SIZE, IDENT, TYPE, USE}
-use Rattle.xml_reading.specs.rule.Open.{Open, start, shut, within_element, misplaced, either_element, due, over, unknown_at, on_tag, entered}
+use Rattle.xml_reading.specs.rule.Open.{Open, start, shut, within_element, misplaced, either_element, due, over, unknown_at}
 use Rattle.xml_reading.specs.rule.Element.{figure_of, text, position, spread, size}
 use Rattle.xml_reading.specs.rule.Block.{rich, values}
-use Rattle.xml_reading.specs.rule.Role.{XmlEntry, Title, variables_of, type_at, use_at, may_serve, use_wrong, same_name, count_named, filter_from}
+use Rattle.xml_reading.specs.rule.Role.{XmlEntry, Title, variables_of, type_at, use_at, may_serve, use_wrong, same_name, count_named}
+use Rattle.xml_reading.specs.rule.Role.{filter_from}
 use Rattle.xml_reading.specs.rule.Role.{filter_of, has_served, title, naming, filter}
-use Rattle.xml_reading.specs.rule.Variable.{Manner, Then, with, inside, filtered, spreading, block, ended, content, variable}
+use Rattle.xml_reading.specs.rule.Variable.{Manner, Then, with, filtered, spreading, block, ended, content, variable}
 use Rattle.elements.proofs.Bounds.{tag_within}
-use Rattle.xml_bridge.specs.Book.{saids, block_as}
 use Rattle.xml_bridge.specs.Settle.{Told, as_single, as_multiple, as_quantity, as_character, as_logical}
-use Rattle.xml_bridge.specs.Good.{FineContent, fine_single, fine_multiple, fine_quantity, fine_character, fine_logical, FineVariable}
+use Rattle.xml_bridge.specs.Good.{FineContent, fine_single, fine_multiple, fine_quantity, fine_character, fine_logical}
 use Rattle.xml_bridge.specs.Good.{good_book}
 use Rattle.xml_bridge.specs.Table.{Filters, FineEntry, FineEntries, entries_count, entries_few}
 use Rattle.xml_bridge.specs.Table as table
-use Rattle.xml_laws.specs.Reads.{judged_is, moved, clear_head, clear_tail, clear_right, opened, bound, Lying, text_long, Positioned}
+use Rattle.xml_laws.specs.Reads.{judged_is, moved, clear_head, opened, bound, Lying, text_long, Positioned}
 use Rattle.xml_laws.specs.Reads.{position_fine}
-use Rattle.xml_laws.specs.Reads.{Parted, spread_fine, Sized, size_fine, within_long, misplaced_never}
+use Rattle.xml_laws.specs.Reads.{spread_fine, size_fine, within_long, misplaced_never}
 use Rattle.xml_laws.specs.Parts.{after_content, after_filter, after_position, after_label, after_name, after_title, variable_is}
 use Rattle.xml_laws.specs.Values.{Sofar, values_fine, good_values}
 
@@ -90,7 +90,8 @@ module _ (bad : Bool) (d : List ℕ) where
 
   use_known : (v e : ℕ) → use_at d v e ≤ 2
   unfolding use_at use_of
-  use_known v e = by (eqb v 0) (heard_word serial (heard (take (e - v) (drop v d)) 0)) (heard_word weight (heard (take (e - v) (drop v d)) 0))
+  use_known v e = by (eqb v 0) (heard_word serial (heard (take (e - v) (drop v d)) 0))
+      (heard_word weight (heard (take (e - v) (drop v d)) 0))
     where
       by : (p q r : Bool) → cond p 0 (cond q 1 (cond r 2 0)) ≤ 2
       by true q r = omega arith
@@ -458,12 +459,12 @@ module _ (bad : Bool) (d : List ℕ) where
           good = good_book before cf.subfields cf.subwidth (variable_of t.ident name label p c) (entries_few g).1 (record {
             texts = record {
               name = omega (arith, nb, long);
-              name-len = omega (arith, nb, long);
+              name_len = omega (arith, nb, long);
               label = omega (arith, lb, long);
-              label-len = omega (arith, lb, long);
+              label_len = omega (arith, lb, long);
             };
-            ident-some = tf.some;
-            ident-short = omega (arith, short);
+            ident_some = tf.some;
+            ident_short = omega (arith, short);
             from_one = pf.from_one;
             ordered = pf.ordered;
             low = pf.low;

@@ -1,9 +1,9 @@
 -- A variable of the rule step by step: what is still to be read behind its start tag, its name, its label, its position, its filter, its
 -- values.
 use Rattle.std.specs.Prelude.{◌≡◌, refl, Bool, List, ℕ}
-use Rattle.survey.specs.rule.Survey.{KeptText, Content, Variable}
+use Rattle.survey.specs.rule.Survey.{KeptText, Content}
 use Rattle.survey.specs.rule.Table.{lines_all}
-use Rattle.reading.specs.rule.Result.{Result, Is, Reader, bind}
+use Rattle.reading.specs.rule.Result.{Is, Reader, bind}
 use Rattle.reading.specs.rule.Statement.{Position}
 use Rattle.reading.specs.rule.Variable.{variable_of, held}
 use Rattle.xml_reading.specs.rule.Word.{VARIABLE, NAME, LABEL, POSITION}

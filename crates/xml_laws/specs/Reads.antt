@@ -1,13 +1,13 @@
 -- What was read and judged with nothing at fault: texts, position, spread, size. Each lies within the file and holds what its charges ask
 -- for.
-use Rattle.std.specs.Prelude.{◌≡◌, ◌⊎◌, Bool, cond, not, eqb, ltb, leb, take, drop, get_or}
+use Rattle.std.specs.Prelude.{◌≡◌, Bool, cond, eqb, ltb, leb, take, drop, get_or}
 use Rattle.std.proofs.Math.Path.{refl}
-use Rattle.std.proofs.Common.{◌∙◌, sym, ap, inl, inr, ⊎_elim, div-add-mod', mul-le-mul_right}
+use Rattle.std.proofs.Common.{div-add-mod', mul-le-mul_right}
 use Rattle.std.proofs.Math.Bool.{true, false}
 use mathlib.Core.List.{List, [], ◌∷◌, ◌++◌}
 use Rattle.std.proofs.Math.Option
 use Rattle.std.proofs.Math.Option.{Option, none, some}
-use Prim.Native.Nat.{ℕ, zero, suc, ◌+◌, ◌-◌, ◌*◌, ◌/◌, ◌%◌, ◌≤◌, ◌<◌}
+use Prim.Native.Nat.{ℕ, zero, suc, ◌+◌, ◌-◌, ◌*◌, ◌/◌, ◌%◌, ◌≤◌}
 use native.Mathlib.Omega.{arith}
 use Rattle.std.proofs.Math.ListN.{length}
 use borrow.Author.Tests.{eqb-true, eqb-false, ltb-false, not-false, le-ltb}
@@ -48,9 +48,10 @@ use Rattle.contents.specs.rule.Content.{begun}
 use Rattle.contents.specs.declared.Going.{Going}
 use Rattle.contents.specs.declared.Step.{Step}
 use Rattle.contents.specs.declared.Step.TheVariants as step
-use Rattle.contents.specs.rule.Step.{bracket_at, return_at, on_char, refer_at, on_note, note_at, on_other, other_at, step_kind, start_at, on_end}
+use Rattle.contents.specs.rule.Step.{bracket_at, return_at, on_char, refer_at, on_note, note_at, on_other, other_at, step_kind, start_at}
+use Rattle.contents.specs.rule.Step.{on_end}
 use Rattle.contents.specs.rule.Step.{close_at, on_angle, mark_at, step_of}
-use Rattle.contents.proofs.Goes.{Goes, stay, on, Reached, content_reached, step_on}
+use Rattle.contents.proofs.Goes.{Goes, stay, on, content_reached, step_on}
 use Rattle.tokens.specs.rule.Gap.{fault}
 use Rattle.tokens.specs.declared.Fault.{Fault}
 use Rattle.survey.specs.rule.Survey.{Figure, KeptText, Spread}
@@ -61,8 +62,9 @@ use Rattle.scan.specs.Number.{capped}
 use Rattle.bridge.specs.Statements.{even_or}
 use Rattle.bridge.specs.Contents.{Parts, fields}
 use Rattle.bridge.specs.Lowest.{never, Clear, clear, Judged, fine, faulty, judged_view}
-use Rattle.xml_reading.specs.rule.Word.{NAME, LABEL, FILTER, VALUE, SIZE, POSITION, SPREAD, START, FINISH, SUBFIELDS, WIDTH}
-use Rattle.xml_reading.specs.rule.Open.{Open, start, shut, on_shut, within_element, misplaced, on_bare, unknown_at, on_tag, on_pair, nothing}
+use Rattle.xml_reading.specs.rule.Word.{SIZE, POSITION, SPREAD, START, FINISH, SUBFIELDS, WIDTH}
+use Rattle.xml_reading.specs.rule.Open.{Open, start, shut, on_shut, within_element, misplaced, on_bare, unknown_at, on_tag, on_pair}
+use Rattle.xml_reading.specs.rule.Open.{nothing}
 use Rattle.xml_reading.specs.rule.Open as rule
 use Rattle.elements.proofs.Bounds.{start_within, shut_within, tag_within, content_within}
 use Rattle.xml_reading.specs.rule.Element.{Body, body_of, on_content, body, text, given_at, figure_of, position, spread, size_in, size}

@@ -1,6 +1,6 @@
 -- ALL VARIABLES THAT WERE READ ARE FINE, one at least: so that the table built of a definition in XML is well formed.
 use Rattle.std.specs.Prelude.{◌≡◌, refl, Bool, true, false, cond, ltb, ℤ, take}
-use Rattle.std.proofs.Common.{◌∙◌, sym, ap, arith, length-append, length-take, ltb-false}
+use Rattle.std.proofs.Common.{ap, arith, length-append, length-take, ltb-false}
 use mathlib.Core.List.{List, [], ◌∷◌, ◌++◌}
 use Prim.Native.Nat.{ℕ, zero, suc, ◌+◌, ◌≤◌, ◌<◌}
 use Rattle.std.proofs.Math.ListN.{length}
@@ -13,19 +13,20 @@ use Rattle.sound.specs.rule.Sound.{well_formed}
 use Rattle.prologs.specs.rule.Told.{declaration_of}
 use Rattle.prologs.specs.declared.Prolog.{Prolog}
 use Rattle.prologs.specs.declared.Prolog.TheVariants as prolog
-use Rattle.reading.specs.rule.Result.{Result, Is, Not, Reader, bind, turn, repeat}
+use Rattle.reading.specs.rule.Result.{Result, Is, Not, bind, turn, repeat}
 use Rattle.bridge.specs.Lowest.{never}
 use Rattle.xml_reading.specs.rule.Word.{RECORD, VARIABLE}
 use Rattle.xml_reading.specs.rule.Open.{Open, start, shut, within_element, due}
 use Rattle.xml_reading.specs.rule.Role.{XmlEntry, Title, title}
 use Rattle.xml_reading.specs.rule.Variable.{Manner, variable}
 use Rattle.xml_reading.specs.rule.Sheet.{XmlSurvey, preface, on_open, another_element, variables, sheet_closed, sheet}
-use Rattle.xml_reading.specs.rule.Whole.{xml_table, XmlOutcome, Built, Refusal, xml_fitting, xml_names, entry_place, judge_xml_names, xml_settled}
+use Rattle.xml_reading.specs.rule.Whole.{xml_table, Built, Refusal, xml_fitting, xml_names, entry_place, judge_xml_names}
+use Rattle.xml_reading.specs.rule.Whole.{xml_settled}
 use Rattle.xml_reading.specs.rule.Whole.{sheet_of}
 use Rattle.xml_reading.specs.rule.Whole.{declared, xml_outcome}
 use Rattle.xml_bridge.specs.Table.{FineEntries, nothing, more, table_well_formed}
 use Rattle.xml_laws.specs.Reads.{moved, bound, within_long}
-use Rattle.xml_laws.specs.Entries.{due_is, Read, entry_read}
+use Rattle.xml_laws.specs.Entries.{due_is, entry_read}
 
 -- each name lies within the file
 pub data Named (d : List ℕ) : List XmlEntry → Type 0 where
@@ -52,7 +53,8 @@ module _ (bad : Bool) (d : List ℕ) (long : length d ≤ 1048576)
       onward : {l : List XmlEntry} {n : ℕ} → Gathered l n → Kept (Again l) n
       over : {l : List XmlEntry} {n : ℕ} → Gathered l n → Kept (Done l) n
 
-    step_fine : (l : List XmlEntry) (e : ℕ) → Gathered l e → {x : Next (List XmlEntry) (List XmlEntry)} {n : ℕ} → another_element bad d m l e
+    step_fine : (l : List XmlEntry) (e : ℕ) → Gathered l e → {x : Next (List XmlEntry) (List XmlEntry)} {n : ℕ}
+        → another_element bad d m l e
         ≡ Is x n
         → Kept x n
     unfolding another_element

@@ -1,12 +1,12 @@
 -- VALUES THAT WERE READ ARE FINE: a range and lines whose charges are all clear, whatever is behind them.
-use Rattle.std.specs.Prelude.{◌≡◌, ◌⊎◌, Bool, not, ◌&&◌, eqb, leb}
+use Rattle.std.specs.Prelude.{◌≡◌, ◌⊎◌, Bool, not, ◌&&◌}
 use Rattle.std.proofs.Math.Path.{refl}
-use Rattle.std.proofs.Common.{◌∙◌, sym, ap, inr, length-append}
+use Rattle.std.proofs.Common.{inr, length-append}
 use Rattle.std.proofs.Math.Logic.{inl}
 use Rattle.std.proofs.Math.Bool.{true, false, cond}
 use mathlib.Core.List.{List, [], ◌∷◌, ◌++◌}
-use Rattle.std.proofs.Math.Option.{Option, none, some}
-use Prim.Native.Nat.{ℕ, zero, suc, ◌+◌, ◌-◌, ◌≤◌, ◌<◌}
+use Rattle.std.proofs.Math.Option.{none, some}
+use Prim.Native.Nat.{ℕ, zero, suc, ◌+◌, ◌≤◌, ◌<◌}
 use native.Mathlib.Omega.{arith}
 use Rattle.std.proofs.Math.ListN.{length}
 use Rattle.std.specs.Int.Signed.{lt_z}
@@ -15,28 +15,24 @@ use Rattle.cells.specs.rule.Cell.{eq_z}
 use borrow.Author.Tests.{leb-false, not-false}
 use Rattle.layout.specs.rule.Layout.{most_lines}
 use Rattle.scan.specs.rule.Loop.{Next, Again, Done}
-use Rattle.tags.specs.declared.Held.{Held}
 use Rattle.tags.specs.rule.Tag.{tag_of, is_named}
 use Rattle.pairs.specs.rule.Stand.{bare_of}
-use Rattle.tokens.specs.declared.Fault.{Fault}
-use Rattle.tokens.specs.rule.Gap.{fault}
 use Rattle.values.specs.Good.{GoodValues, GoodLine}
 use Rattle.survey.specs.rule.Survey.{Amount, Range, Line, Block}
 use Rattle.survey.specs.rule.Width.{some_of, each_of, amounts, scaled}
-use Rattle.reading.specs.rule.Result.{Result, Is, Not, Reader, bind, turn, repeat}
-use Rattle.reading.specs.rule.Least.{Charge, ◌when◌, judged}
+use Rattle.reading.specs.rule.Result.{Is, Reader, bind, turn, repeat}
+use Rattle.reading.specs.rule.Least.{Charge}
 use Rattle.reading.specs.rule.Values.{form_is, large, unlike_amounts, line_charges, with_line, range_from, unlisted}
 use Rattle.bridge.specs.Lowest.{never, Clear, clear}
 use Rattle.xml_reading.specs.rule.Word.{VALUES, RANGE, VALUE, FROM, TO, CODE}
-use Rattle.xml_reading.specs.rule.Open.{Open, start, shut, within_element, misplaced, on_bare, either_element, due, refuse, unknown_at, on_tag}
+use Rattle.xml_reading.specs.rule.Open.{Open, start, shut, within_element, misplaced, either_element, due, unknown_at}
 use Rattle.xml_reading.specs.rule.Open.{nothing, enter}
-use Rattle.xml_reading.specs.rule.Open.{entered}
-use Rattle.xml_reading.specs.rule.Element.{Body, chars_of, amount_in, body}
+use Rattle.xml_reading.specs.rule.Element.{chars_of, amount_in, body}
 use Rattle.xml_reading.specs.rule.Block.{rich, pair_charges, range, line, lined, on_open, another_line, first, values}
 use Rattle.xml_bridge.specs.Book.{said_as, saids, is_ranged, block_as}
 use Rattle.xml_bridge.specs.Fine.{Sound, amount_sound, Fine, fine_none, fine_range, fine_line, fine_values}
 use Rattle.elements.proofs.Bounds.{tag_within}
-use Rattle.xml_laws.specs.Reads.{judged_is, moved, clear_head, clear_tail, clear_right, opened, bound, nothing_long, Lying, body_long}
+use Rattle.xml_laws.specs.Reads.{judged_is, moved, clear_tail, clear_right, opened, bound, nothing_long, body_long}
 use Rattle.xml_laws.specs.Reads.{within_long, misplaced_never}
 
 module _ (bad : Bool) (d : List ℕ) (long : length d ≤ 1048576) where
@@ -57,7 +53,8 @@ module _ (bad : Bool) (d : List ℕ) (long : length d ≤ 1048576) where
       let g = not-false (form_is quantity b) y in
       (f, g, both (unlike_amounts a b) f g z, both (lt_z (scaled b) (scaled a)) f g w, u, v)
     where
-      both : (q : Bool) → form_is quantity a ≡ true → form_is quantity b ≡ true → ((form_is quantity a && form_is quantity b) && q) ≡ false → q
+      both : (q : Bool) → form_is quantity a ≡ true → form_is quantity b ≡ true → ((form_is quantity a && form_is quantity b) && q) ≡ false
+          → q
           ≡ false
       both q f g e = rw (f, g) at e
 
@@ -120,7 +117,7 @@ module _ (bad : Bool) (d : List ℕ) (long : length d ≤ 1048576) where
         alike = k.1;
         fresh = k.2;
         few = k.4;
-        good = record { special = omega arith; text-place = omega arith; text-length = omega arith };
+        good = record { special = omega arith; text_place = omega arith; text_length = omega arith };
         plain = refl;
         next = y.next;
       })

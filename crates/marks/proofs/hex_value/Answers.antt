@@ -1,5 +1,4 @@
 use mathlib.Core.Path.{◌∙◌, sym}
-use mathlib.Core.Bool.{true, false}
 use native.Mathlib.Omega.{arith}
 use borrow.Author.Tests.{eq-eqb, ne_eqb}
 use Rattle.scan.specs.rule.Number.{is_digit}

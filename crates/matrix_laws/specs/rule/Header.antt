@@ -1,6 +1,6 @@
 -- "A header of six 32-bit numbers: records, columns, offset of summaries, offset of presence bytes, offset of values, total length", as a
 -- reader takes them from a file: little-endian.
-use Rattle.std.specs.Prelude.{◌≡◌, List, [], ◌∷◌, ℕ, ◌+◌, ◌*◌, take, drop}
+use Rattle.std.specs.Prelude.{◌≡◌, List, ℕ, take, drop}
 use Rattle.matrix.specs.rule.Bytes.{presence_at, values_at, total_of}
 use Rattle.little.specs.rule.Bytes.{little_number}
 

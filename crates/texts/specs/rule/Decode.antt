@@ -1,7 +1,7 @@
 -- A text of a definition, decoded for a caller (document 02, C-17): 3 where the bytes from that place of that length are not the inside of
 -- a text (they pass the definition's end, hold a quote outside a brace form, or a bad or unfinished form); 25 where the list is shorter
 -- than the text; the list is then kept, and beyond the count always.
-use Rattle.std.specs.Prelude.{◌≡◌, Bool, true, false, cond, ◌&&◌, List, [], ◌∷◌, ◌++◌, ℕ, ◌+◌, eqb, leb, ltb, ℤ, pos, length, take, drop}
+use Rattle.std.specs.Prelude.{◌≡◌, Bool, false, cond, ◌&&◌, List, [], ◌∷◌, ◌++◌, ℕ, ◌+◌, eqb, leb, ltb, ℤ, pos, length, take, drop}
 use Rattle.signs.specs.declared.Sign.{Sign}
 use Rattle.signs.specs.rule.Sign.{sign_number}
 use Rattle.scan.specs.rule.Text.{text}

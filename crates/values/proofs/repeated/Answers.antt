@@ -1,5 +1,4 @@
 use mathlib.Core.Path.{◌≡◌, ◌∙◌, sym}
-use mathlib.Core.Bool.{false}
 use mir.Facts.{to_z-of_z}
 use borrow.Author.Rules.{sfits_of}
 use native.Mathlib.Omega.{arith}

@@ -1,0 +1,47 @@
+-- `field_values::quick::quick_spread` meets its contract.
+use mathlib.Core.Path.{sym}
+use native.Mathlib.Omega.{arith}
+use lib.Seq.{length-take-le}
+use Rattle.field_values.specs.Quick.{quick_none, ready_as, written_as, set_quick}
+use Rattle.field_values.proofs.quick.quick_spread.Goals as goal
+
+pub take_codes-n-requires : goal.take_codes-n-requires
+take_codes-n-requires c = c.requires.fact.2
+
+pub returns-then-n-eq0 : goal.returns-then-n-eq0
+returns-then-n-eq0 c = quick_none _ _ _ _ _
+
+pub slice_bounds-range_fits-end-2 : goal.slice_bounds-range_fits-end-2
+slice_bounds-range_fits-end-2 c =
+    let k = c.take_codes-n in
+    sym (length-take-le _ _ (omega (
+      arith,
+      k.auto.list,
+      c.requires.fact.2,
+      k.ensures.few,
+    )))
+
+pub returns-then-not-range_fits : goal.returns-then-not-range_fits
+returns-then-not-range_fits c = quick_none _ _ _ _ _
+
+pub slice_bounds-spread_full-end-2 : goal.slice_bounds-spread_full-end-2
+slice_bounds-spread_full-end-2 c =
+    let k = c.take_codes-n in
+    sym (length-take-le _ _ (omega (
+      arith,
+      k.auto.list,
+      c.requires.fact.2,
+      k.ensures.few,
+    )))
+
+pub spread_full-requires : goal.spread_full-requires
+spread_full-requires c = record {
+  tens = c.requires.tens;
+  ready = ready_as c.requires.fact.1 c.requires.ready;
+  members_value = c.range_fits.ensures c.if-not-range_fits.false;
+}
+
+pub returns : goal.returns
+returns c =
+    set_quick c.requires.fact.0 c.requires.fact.1 c.take_codes-n.ensures c.if-n-eq0.false
+    (written_as c.requires.fact.1 c.spread_full.ensures) c.is_done.ensures

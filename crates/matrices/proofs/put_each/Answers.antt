@@ -1,0 +1,199 @@
+use mathlib.Core.Path.{◌≡◌, refl, sym, ap, ◌∙◌, subst}
+use mathlib.Core.List.{List}
+use Prim.Native.Nat.{ℕ, ◌+◌, ◌*◌, ◌≤◌, ◌<◌}
+use native.Mathlib.Nat.{add-zero}
+use native.Mathlib.Omega.{arith}
+use lib.ListN.{length}
+use Rattle.cuts.specs.Records.{part}
+use Rattle.fields.specs.rule.Row.{reading_of}
+use Rattle.sets.specs.rule.Sets.{is_illegal}
+use Rattle.columns.specs.Reach.{Readable}
+use Rattle.columns.specs.Room.{Room, room_on}
+use Rattle.columns.specs.Rows.{entries_by}
+use Rattle.below.specs.Below.{and_left, and_right}
+use mathlib.Core.Bool.{Bool, true, false, cond}
+use Rattle.matrices.specs.Entries.{record_at}
+use Rattle.matrices.specs.Parts.{records_in, length_records, record_in}
+use Rattle.matrices.specs.Met.{going_start, going_step, going_over, count_low}
+use Rattle.matrices.specs.Blocks.{cells_below, more_cells, each_step, each_done}
+use Rattle.matrices.proofs.put_each.Goals as goal
+use Rattle.matrices.proofs.put_each.Goals.{In-loop-n}
+
+one_low : (b : Bool) {k : ℕ} → k ≡ cond b 1 0 → k ≤ 1
+one_low true e = omega arith
+one_low false e = omega arith
+
+-- the record that is at hand, and the room for its entries
+low : (c : In-loop-n) → c.loop-n.n
+    < length (records_in c.args.d.now
+    c.args.s.first c.args.s.step
+    c.args.p.from c.args.p.count)
+low c = let a = c.args in
+    omega (arith, c.loop-n-test.true, length_records a.d.now a.s.first a.s.step a.p.from a.p.count)
+
+inside : (c : In-loop-n) → let a = c.args in
+    c.loop-n.from + a.s.first ≤ length a.d.now
+inside c = omega (
+  arith,
+  c.loop-n.invariant.2,
+  c.requires.steps.0.inside c.loop-n.n c.loop-n-test.true,
+)
+
+there : (c : In-loop-n) → let a = c.args in let l = c.loop-n in
+    record_at (records_in a.d.now a.s.first a.s.step a.p.from a.p.count) l.n
+    ≡ part a.d.now l.from (l.from + a.s.first)
+there c =
+    let a = c.args in
+    record_in a.d.now a.s.first a.s.step a.p.from a.p.count c.loop-n.n c.loop-n-test.true
+    ∙ ap (λ (x : ℕ). part a.d.now x (x + a.s.first)) (sym c.loop-n.invariant.2)
+
+room : (c : In-loop-n) → let a = c.args in let l = c.loop-n in
+    Room (a.flags + l.k) (a.values + 8 * l.k) (length a.out.now) a.m.count
+room c =
+    let a = c.args in
+    subst (λ (x : ℕ). Room (a.flags + x) (a.values + 8 * x) (length a.out.now) a.m.count) (sym c.loop-n.invariant.1)
+    (c.requires.columns_bound.1 c.loop-n.n c.loop-n-test.true)
+
+pub loop-n-init : goal.loop-n-init
+loop-n-init c = (
+  omega arith,
+  omega arith,
+  omega arith,
+  refl,
+  refl,
+  refl,
+  simp add-zero,
+  omega arith,
+  λ e. going_start _ _ _ _ _ c.requires.marked_row.1,
+)
+
+pub put_row-put-requires : goal.put_row-put-requires
+put_row-put-requires c =
+    let l = c.loop-n in
+    let a = c.args in
+    let p = c.requires in record {
+      tens = (
+        p.tens.0,
+        subst (λ (r : List ℕ). Readable a.t.now a.rows a.row (length r)) (there (goal.at.put_row-put-requires c).In-loop-n)
+            (p.steps.1 l.n (low (goal.at.put_row-put-requires c).In-loop-n)).0,
+        l.invariant.3 ∙ p.tens.1,
+      );
+      bytes_value = subst (λ (r : List ℕ). is_illegal (reading_of a.t.now a.rows a.row r) ≡ false)
+          (there (goal.at.put_row-put-requires c).In-loop-n)
+          (p.steps.1 l.n (low (goal.at.put_row-put-requires c).In-loop-n)).1;
+      marked_row = (p.marked_row.0, l.invariant.4 ∙ p.tens.2);
+      room = room_on l.invariant.5 (room (goal.at.put_row-put-requires c).In-loop-n);
+    }
+
+pub overflow_add-k : goal.overflow_add-k
+overflow_add-k c =
+    let a = c.args in
+    omega (
+      arith,
+      c.loop-n.invariant.1,
+      cells_below c.loop-n.n a.p.count a.columns c.loop-n-test.true,
+      c.requires.columns_bound.0,
+    )
+
+pub overflow_add-from : goal.overflow_add-from
+overflow_add-from c =
+    let a = c.args in
+    omega (
+      arith,
+      c.loop-n.invariant.2,
+      cells_below c.loop-n.n a.p.count a.s.step c.loop-n-test.true,
+      c.requires.steps.0.whole,
+    )
+
+pub loop-n-preserved : goal.loop-n-preserved
+loop-n-preserved c =
+    let put = c.put_row-put in
+    let l = c.loop-n in
+    let a = c.args in (
+      omega (arith, c.loop-n-test.true),
+      omega (arith, l.invariant.1, more_cells l.n a.columns),
+      omega (arith, l.invariant.2, more_cells l.n a.s.step),
+      put.auto.list ∙ l.invariant.3,
+      put.auto.present ∙ l.invariant.4,
+      put.auto.out ∙ l.invariant.5,
+      each_step (λ r. entries_by a.row.kind a.t.now a.rows a.row r) a.columns
+          (records_in a.d.now a.s.first a.s.step a.p.from a.p.count) l.n
+          l.k a.flags a.values l.out (low (goal.at.loop-n-preserved c).In-loop-n) (there (goal.at.loop-n-preserved c).In-loop-n)
+          put.ensures.0 l.invariant.6,
+      omega (arith, l.invariant.7, one_low put.result.there c.one_if-held.ensures),
+      λ e. going_step (λ r. entries_by a.row.kind a.t.now a.rows a.row r)
+          (records_in a.d.now a.s.first a.s.step a.p.from a.p.count) l.n (low (goal.at.loop-n-preserved c).In-loop-n)
+          (there (goal.at.loop-n-preserved c).In-loop-n) (omega (
+            arith,
+            c.requires.marked_row.0.many,
+            count_low a.t.now a.rows a.row a.row.kind,
+          )) (l.invariant.8 (and_left l.near _ e))
+          (put.ensures.1 (and_right l.near _ e)) (ap (λ (k : ℕ). l.held + k) c.one_if-held.ensures),
+    )
+
+pub returns : goal.returns
+returns c =
+    let l = c.loop-n in
+    let a = c.args in (
+      each_done (λ r. entries_by a.row.kind a.t.now a.rows a.row r) a.columns
+          (records_in a.d.now a.s.first a.s.step a.p.from a.p.count) l.n
+          (a.flags + l.k) (a.values + 8 * l.k)
+          (omega (arith, c.loop-n-test.false, length_records a.d.now a.s.first a.s.step a.p.from a.p.count)) l.invariant.6,
+      λ e. going_over (λ r. entries_by a.row.kind a.t.now a.rows a.row r)
+          (records_in a.d.now a.s.first a.s.step a.p.from a.p.count) l.n
+          (omega (arith, c.loop-n-test.false, length_records a.d.now a.s.first a.s.step a.p.from a.p.count))
+          (l.invariant.8 e),
+    )
+
+pub overflow_add-end : goal.overflow_add-end
+overflow_add-end c = omega (arith, inside c)
+
+pub slice_bounds-put_row-start : goal.slice_bounds-put_row-start
+slice_bounds-put_row-start c = omega (arith, inside c)
+
+pub slice_bounds-put_row-end : goal.slice_bounds-put_row-end
+slice_bounds-put_row-end c = omega (arith, inside c)
+
+pub overflow_add-flags : goal.overflow_add-flags
+overflow_add-flags c = omega (
+  arith,
+  (room (goal.at.overflow_add-flags c).In-loop-n).behind,
+  (room (goal.at.overflow_add-flags c).In-loop-n).inside,
+)
+
+pub overflow_mul-k : goal.overflow_mul-k
+overflow_mul-k c = omega (
+  arith,
+  (room (goal.at.overflow_mul-k c).In-loop-n).behind,
+  (room (goal.at.overflow_mul-k c).In-loop-n).inside,
+)
+
+pub overflow_add-values : goal.overflow_add-values
+overflow_add-values c = omega (
+  arith,
+  (room (goal.at.overflow_add-values c).In-loop-n).behind,
+  (room (goal.at.overflow_add-values c).In-loop-n).inside,
+)
+
+pub overflow_add-held : goal.overflow_add-held
+overflow_add-held c = omega (
+  arith,
+  c.loop-n.invariant.7,
+  c.loop-n-test.true,
+  one_low c.put_row-put.result.there c.one_if-held.ensures,
+)
+
+pub overflow_add-n : goal.overflow_add-n
+overflow_add-n c = omega (
+  arith,
+  c.loop-n-test.true,
+)
+
+pub shape_of-list : goal.shape_of-list
+shape_of-list c = c.loop-n.invariant.3
+
+pub shape_of-present : goal.shape_of-present
+shape_of-present c = c.loop-n.invariant.4
+
+pub shape_of-out : goal.shape_of-out
+shape_of-out c = c.loop-n.invariant.5

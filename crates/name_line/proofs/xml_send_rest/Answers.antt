@@ -1,0 +1,17 @@
+-- `name_line::xml_send_rest` meets its contract.
+use mathlib.Core.Path.{sym, ◌∙◌}
+use Rattle.commas.specs.Csv.{field_quoted, field_plain, doubled_plain}
+use Rattle.sink.specs.Sent.{sent_as, then}
+use Rattle.name_line.proofs.xml_send_rest.Goals as goal
+
+pub returns-then-not-xml_needs_quotes : goal.returns-then-not-xml_needs_quotes
+returns-then-not-xml_needs_quotes c =
+    let q = sym c.xml_needs_quotes.ensures
+    ∙ c.if-not-xml_needs_quotes.true in
+    sent_as c.xml_send_signs.ensures (doubled_plain _ q ∙ field_plain _ q)
+
+pub returns : goal.returns
+returns c =
+    sent_as (then c.send_byte-end.ensures
+    (then c.xml_send_signs-end.ensures c.send_byte.ensures)) (field_quoted _
+    (sym c.xml_needs_quotes.ensures ∙ c.if-not-xml_needs_quotes.false))
