@@ -33,7 +33,8 @@ use Rattle.xml_reading.specs.rule.Whole.{declared, xml_outcome}
 use Rattle.xml_grammar.specs.Grammar.{Sss}
 use Rattle.xml_grammar.specs.Reader.{element}
 use Rattle.xml_grammar.specs.Meaning.{State, meanings}
-use Rattle.xml_grammar.specs.Whole.{depth, last, sheet_is}
+use Rattle.xml_grammar.specs.Whole.{depth, last}
+use Rattle.xml_grammar.proofs.Whole.{sheet_is}
 use Rattle.xml_derivations.specs.Derivation.{the}
 use Rattle.xml_derivations.specs.Document.{unsaid, survey_of, Definition, definition, Named}
 use Rattle.xml_derivation_laws.specs.Read.{Told, element_read}

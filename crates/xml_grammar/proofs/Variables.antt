@@ -29,8 +29,8 @@ use Rattle.xml_grammar.specs.Meaning.{with_size}
 use Rattle.xml_grammar.specs.Meaning.{sort_of, content_in, lines_before, meanings}
 use Rattle.xml_grammar.specs.Meaning as meaning
 use Rattle.xml_grammar.specs.Behind.{map_behind, both_behind, regroup, entered_as, on_tag_lem, due_behind, either_behind}
-use Rattle.xml_grammar.specs.Leaves.{name_is, label_is, position_is, filter_is, spread_is, size_is}
-use Rattle.xml_grammar.specs.Blocks.{values_is}
+use Rattle.xml_grammar.proofs.Leaves.{name_is, label_is, position_is, filter_is, spread_is, size_is}
+use Rattle.xml_grammar.proofs.Blocks.{values_is}
 
 module _ (bad : Bool) (d : List ℕ) (f : ℕ) where
   abbrev child : Element → State → ℕ → Reader State

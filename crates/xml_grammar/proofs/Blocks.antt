@@ -17,7 +17,7 @@ use Rattle.xml_grammar.specs.Grammar.{Element, Values, Range, Value, either, any
 use Rattle.xml_grammar.specs.Reader.{steps, round, element}
 use Rattle.xml_grammar.specs.Meaning.{State, with_block, is_quantity, lines_before, meanings}
 use Rattle.xml_grammar.specs.Behind.{map_behind, on_tag_lem, due_behind, either_behind}
-use Rattle.xml_grammar.specs.Leaves.{range_is, value_is}
+use Rattle.xml_grammar.proofs.Leaves.{range_is, value_is}
 use Rattle.xml_grammar.specs.Loops.{onward, ending, rounds_are, turn_is}
 
 module _ (bad : Bool) (d : List ℕ) (f : ℕ) (s : State) where

@@ -17,7 +17,7 @@ use Rattle.xml_grammar.specs.Reader.{steps, round, element}
 use Rattle.xml_grammar.specs.Meaning.{State, between, meanings}
 use Rattle.xml_grammar.specs.Behind.{same_behind, on_tag_lem, due_same}
 use Rattle.xml_grammar.specs.Loops.{onward, ending, rounds_are, turn_is}
-use Rattle.xml_grammar.specs.Variables.{variable_is}
+use Rattle.xml_grammar.proofs.Variables.{variable_is}
 
 module _ (bad : Bool) (d : List ℕ) (f : ℕ) (m : Manner) where
   abbrev child : Element → State → ℕ → Reader State
