@@ -109,7 +109,8 @@ module _ (bad : Bool) (d : List ℕ) where
 
     values_ended_lem : (o : Open) {p e : ℕ} → due_of (bind (read_of o) λ x. due bad d VALUES x give) ≡ dues.At p e
         → bind (read_of o) (values_ended bad d languages isQuantity before) ≡ bind (read p e) K
-    values_ended_lem o f = after (read_of o) (λ x. due bad d VALUES x read) K ∙ ap (λ (r : Result Block). bind r K) (due_from VALUES o read f)
+    values_ended_lem o f = after (read_of o) (λ x. due bad d VALUES x read) K
+        ∙ ap (λ (r : Result Block). bind r K) (due_from VALUES o read f)
 
     values_never : (o : Open) {g : Fault} → due_of (bind (read_of o) λ x. due bad d VALUES x give) ≡ dues.Not g
         → bind (read_of o) (values_ended bad d languages isQuantity before) ≡ Not g

@@ -258,9 +258,9 @@ small_used b v u f g h k = wider (variable_columns b v) (rw (← columns_same b 
     before = s.before;
     lines = s.lines;
     name = s.name;
-    name-len = s.name_len;
+    name_len = s.name_len;
     label = s.label;
-    label-len = s.label_len;
+    label_len = s.label_len;
     usage = omega (arith, h);
     filter = omega (arith, k);
   }
@@ -273,7 +273,8 @@ pub record Settled (b : ℕ) (v : Variable) (n : ℕ) (c : Columns) (last k : �
   pub holding : holds v ≡ true
   pub held_is : held v n ≡ Is v n
 
-settled_is : (b : ℕ) (v : Variable) (n : ℕ) (c : Columns) (last k : ℕ) → stood.Is c last k ≡ stood_from b (held v n) → Settled b v n c last k
+settled_is : (b : ℕ) (v : Variable) (n : ℕ) (c : Columns) (last k : ℕ) → stood.Is c last k ≡ stood_from b (held v n)
+    → Settled b v n c last k
 settled_is b v n c last k = by (held v n) refl where
   by : (r : Result Variable) → held v n ≡ r → stood.Is c last k ≡ stood_from b r → Settled b v n c last k
   by (Is w j) i e =
@@ -438,13 +439,13 @@ module _ (bad : Bool) (d : List ℕ) (long : length d ≤ 1048576) (m : Manner) 
     fine : FineVariable b o.contained.subfields o.contained.subwidth v
     fine = record {
       texts = record {
-        name = omega (arith, x.name_in_lem, long);
-        name-len = omega (arith, x.name_in_lem, long);
-        label = omega (arith, x.label_in_lem, long);
-        label-len = omega (arith, x.label_in_lem, long);
+        name = omega (arith, x.name_in, long);
+        name_len = omega (arith, x.name_in, long);
+        label = omega (arith, x.label_in, long);
+        label_len = omega (arith, x.label_in, long);
       };
-      ident-some = x.titled.some;
-      ident-short = omega (arith, x.short);
+      ident_some = x.titled.some;
+      ident_short = omega (arith, x.short);
       from_one = x.placed.from_one;
       ordered = x.placed.ordered;
       low = x.placed.low;
@@ -570,7 +571,8 @@ pub knows : {latin : Bool} {d seen : List ℕ} {y : Tally} {rows : List ℤ} {su
     → summed.Known latin d rows y.rows sums
 knows k = record { lying = lies k.sofar; summing = k.summing }
 
-lines_of_lem : {d seen : List ℕ} {y : Tally} {rows : List ℤ} {l : List XmlEntry} → Before d seen y rows l → y.lines ≡ lines_all (variables_of l)
+lines_of_lem : {d seen : List ℕ} {y : Tally} {rows : List ℤ} {l : List XmlEntry} → Before d seen y rows l → y.lines
+    ≡ lines_all (variables_of l)
 unfolding tally_of
 lines_of_lem b = ap (λ (y : Tally). y.lines) b.tally
 
@@ -732,15 +734,15 @@ front_known bad d m l q e {x} {n} f =
       is = f ∙ sym g.then_is;
       read = record {
         front = record { title = a.value; name = b.value; label = c.value; position = g.value };
-        head-is = refl;
-        usage-is = refl;
+        head_is = refl;
+        usage_is = refl;
         behind = a.place;
         titled = title_fine bad d m.old l q e a.first_is;
         short = k.short;
         typed = k.typed;
         placed = position_fine bad d gd.place gw.place gd.then_is;
         name_in = (moved (Laws.Lying bad d) bj.0 bj.1 (text_long bad d NAME 0 bd.place bw.place bt.first_is)).inside;
-        label-in = (text_long bad d LABEL (rich m.languages) cd.place cw.place cd.then_is).inside;
+        label_in = (text_long bad d LABEL (rich m.languages) cd.place cw.place cd.then_is).inside;
       };
     })
   where

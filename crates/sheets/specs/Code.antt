@@ -234,8 +234,8 @@ pub record FrontRead (bad : Bool) (d : List ℕ) (m : Manner) (l : List XmlEntry
   pub short : front.title.ident.value < 10000
   pub typed : (1 ≤ front.title.type) × (front.title.type ≤ 5)
   pub placed : Positioned bad d front.position at
-  pub name_in_lem : front.name.place + front.name.length ≤ length d
-  pub label_in_lem : front.label.place + front.label.length ≤ length d
+  pub name_in : front.name.place + front.name.length ≤ length d
+  pub label_in : front.label.place + front.label.length ≤ length d
 
 -- a tag that stands behind it, or the refusal
 abbrev pub sifted_of : Result (Then ℕ) → Sifted
