@@ -1,7 +1,9 @@
 -- What a field is that was judged where it stands: the value that export writes so, which its row accepts.
-use Rattle.std.specs.Prelude.{◌≡◌, refl, Bool, ◌&&◌, ◌||◌, List, [], ◌∷◌, ◌++◌, ℕ, zero, suc, ◌+◌, ◌-◌, ◌*◌, ◌^◌, ◌≤◌, ◌<◌, eqb, leb, ltb, ℤ, pos, negsuc, length, take, drop, get_or}
+use Rattle.std.specs.Prelude.{◌≡◌, refl, Bool, ◌&&◌, ◌||◌, List, [], ◌∷◌, ◌++◌, ℕ, zero, suc, ◌+◌, ◌-◌, ◌*◌, ◌^◌, ◌≤◌, ◌<◌, eqb, leb, ltb}
+use Rattle.std.specs.Prelude.{ℤ, pos, negsuc, length, take, drop, get_or}
 use Rattle.std.proofs.Math.Path.{sym, ap}
-use Rattle.std.proofs.Common.{◌∙◌, append-nil, append_assoc, add-one, arith, eqb-true, ne_eqb, le-leb, lt-ltb, le-ltb, ltb-false, length-append, length-drop, length-take-le}
+use Rattle.std.proofs.Common.{◌∙◌, append-nil, append_assoc, add-one, arith, eqb-true, ne_eqb, le-leb, lt-ltb, le-ltb, ltb-false}
+use Rattle.std.proofs.Common.{length-append, length-drop, length-take-le}
 use Rattle.std.proofs.Math.Bool.{true, false, cond}
 use Rattle.std.proofs.lemmas.Bool.{eqb-false}
 use Rattle.std.proofs.Math.Seq.{get_or-append_seam}

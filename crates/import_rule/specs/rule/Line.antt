@@ -23,7 +23,8 @@ on_field illegal g c = faulty 64 c
 -- the fields of the rows from i on, written to the record s in row order
 unfoldable pub record_from : List ℤ → ℕ → ℕ → List (List ℕ) → List ℕ → LineSays
 record_from t v i [] s = builds s
-record_from t v i (f ∷ fs) s = on_field (value_from t v (row_at t i) f) (λ x. record_from t v (i + 1) fs (written_of t v (row_at t i) x s)) (i + 1)
+record_from t v i (f ∷ fs) s = on_field (value_from t v (row_at t i) f) (λ x. record_from t v (i + 1) fs (written_of t v (row_at t i) x s))
+    (i + 1)
 
 -- WHAT A LINE SAYS: a field for each row
 unfoldable pub line_says : List ℤ → List (List ℕ) → LineSays
