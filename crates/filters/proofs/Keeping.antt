@@ -20,8 +20,7 @@ use Rattle.layout.specs.declared.Header.{Header}
 use Rattle.rows.specs.rule.Cells.{row_cells, header_cells}
 use Rattle.uses.specs.rule.Uses.{use_known, serial_typed, weight_typed, unfiltered, own_use, filter_good, use_good, is_use, uses_of}
 use Rattle.uses.specs.rule.Uses.{uses_good}
-use Rattle.uses.specs.rule.Uses.{specials_none, xml_good, kind_good}
-use Rattle.survey.specs.rule.Table.{variable_columns, lines_of, lines_all, all_lines}
+use Rattle.survey.specs.rule.Table.{variable_columns, lines_of, all_lines}
 use Rattle.xml_reading.specs.rule.Role.{XmlEntry, variables_of}
 use Rattle.xml_reading.specs.rule.Whole.{columns_for, xml_header, xml_rows, xml_table}
 use Rattle.filters.specs.rule.Kept.{At, here, there, entry_kind, Joins, Before, RowKept, Kept}

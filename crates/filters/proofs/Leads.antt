@@ -4,9 +4,9 @@ use mathlib.Core.Bool.{Bool, true, false, cond, not, ◌&&◌}
 use mathlib.Core.List.{List, [], ◌∷◌, ◌++◌}
 use Prim.Native.Nat.{ℕ, ◌+◌, ◌-◌, ◌≤◌, ◌<◌}
 use native.Mathlib.Omega.{arith}
-use lib.Dec.{eqb, ltb, leb}
+use lib.Dec.{eqb, ltb}
 use lib.ListN.{length, get_or}
-use borrow.Author.Tests.{lt-leb, lt-ltb, ltb-true, not-false}
+use borrow.Author.Tests.{lt-leb, lt-ltb, ltb-true}
 use Rattle.below.specs.Below.{and_left, and_right}
 use Rattle.ascii.specs.rule.Class.{upper_of}
 use Rattle.signs.specs.declared.Sign.{Sign}
@@ -19,7 +19,7 @@ use Rattle.contents.specs.declared.Said.TheVariants as said
 use Rattle.contents.specs.declared.Step.TheVariants as step
 use Rattle.contents.proofs.Goes.{signs_next}
 use Rattle.xml_reading.specs.rule.Role.{alike}
-use Rattle.filters.specs.Code.{like_of, plain_of, Leads}
+use Rattle.filters.specs.Code.{plain_of, Leads}
 use Rattle.filters.specs.declared.Lead.{Lead}
 use Rattle.filters.specs.declared.Lead.TheVariants as lead
 use Rattle.filters.proofs.Meets.{like_both}

@@ -1,5 +1,5 @@
 -- Rows whose sums differ from that of a text are passed: none of them has the text as its name.
-use mathlib.Core.Path.{◌≡◌, refl, sym, ap, ◌∙◌}
+use mathlib.Core.Path.{◌≡◌, refl, sym, ◌∙◌}
 use mathlib.Core.Logic.{◌⊎◌, ⊎_elim}
 use mathlib.Core.Bool.{Bool, true, false, not, ◌&&◌}
 use mathlib.Core.List.{List}
@@ -8,10 +8,10 @@ use native.Mathlib.Nat.{eq-or-lt_of_le}
 use native.Mathlib.Omega.{arith}
 use lib.Dec.{eqb, ltb}
 use lib.IntN.{ℤ}
-use lib.ListN.{length, get_or}
+use lib.ListN.{get_or}
 use borrow.Author.Tests.{eq-eqb, lt-ltb}
 use Rattle.below.specs.rule.Below.{all_below}
-use Rattle.below.specs.Below.{and_left, and_right, holds_not}
+use Rattle.below.specs.Below.{and_left, and_right}
 use Rattle.survey.specs.rule.Survey.{KeptText}
 use Rattle.xml_reading.specs.rule.Role.{same_name}
 use Rattle.filters.specs.Code.{column_in, name_in, ServedSaid}

@@ -15,16 +15,15 @@ use Rattle.below.specs.Below.{and_left, and_right}
 use Rattle.layout.specs.rule.Layout.{most_rows}
 use Rattle.signs.specs.declared.Sign.{Sign}
 use Rattle.signs.specs.declared.Sign.TheVariants.{Byte, Break}
-use Rattle.names.specs.rule.Standard.{agree}
 use Rattle.contents.specs.rule.Step.{step_of}
 use Rattle.contents.specs.rule.Content.{begun, signs_from}
 use Rattle.contents.specs.declared.Content.TheVariants.{Fault}
 use Rattle.contents.proofs.Goes.{signs_over}
 use Rattle.survey.specs.rule.Survey.{KeptText}
-use Rattle.xml_reading.specs.rule.Role.{same_signs, alike, signs_in, same_name}
+use Rattle.xml_reading.specs.rule.Role.{alike, signs_in, same_name}
 use Rattle.filters.specs.Code.{plain_of, column_in, name_in, like_of, ServedSaid, Lying}
 use Rattle.filters.specs.Sums.{folded_of, sum_with, sum_from, sum_in, bin_of, Summing, Known}
-use Rattle.filters.proofs.Asked.{SomeFrom, served_by, some_next, some_over, served_begin, served_row, served_said, none_served, above}
+use Rattle.filters.proofs.Asked.{SomeFrom, served_by, some_next, some_over, served_begin, served_row, served_said, none_served}
 use Rattle.filters.proofs.Leads.{plain_signs}
 use Rattle.filters.proofs.Meets.{like_both, like_first, like_second}
 

@@ -131,7 +131,12 @@ module _ (d : List ℕ) where
   position_given : {n k j i m : ℕ} {a b : Figure} → Statement d POSITION n k → Number d k a j → Keyword d TO j i → Number d i b m
       → position_at d n ≡ places (said a j) (said b m) m
   unfolding position_at capitals differ
-  position_given s y k z = rw (statement_past_lem d {w = POSITION} refl refl s, number_past d y, given_past d {w = TO} refl k, number_past d z)
+  position_given s y k z = rw (
+    statement_past_lem d {w = POSITION} refl refl s,
+    number_past d y,
+    given_past d {w = TO} refl k,
+    number_past d z,
+  )
 
   position_absent : {n k j m : ℕ} {a : Figure} → Statement d POSITION n k → Number d k a j → Gap d j m → NoWord d TO m
       → position_at d n ≡ places (said a j) (said a j) m

@@ -16,14 +16,17 @@ use Rattle.grammar.specs.Grammar as says
 use Rattle.grammar_laws.specs.Places.{differ, other_word}
 use Rattle.grammar_laws.specs.Lines.{value_no_word, quote_no_word}
 use Rattle.clean_text.specs.rule.Span.{span_of}
-use Rattle.clean_text.specs.rule.Clean.{Token, line_of, clean_text, amount_token, quoted_token, value_line, range_line, values_lines, marked}
+use Rattle.clean_text.specs.rule.Clean.{Token, line_of, clean_text, amount_token, quoted_token, value_line, range_line, values_lines}
+use Rattle.clean_text.specs.rule.Clean.{marked}
 use Rattle.clean_text.specs.rule.Clean.{some_line}
 use Rattle.steps.specs.declared.Span.{Span}
 use Rattle.steps.specs.Step.{span, value_span, string_span, word_found, statement_found, statement_past, keyword_past, notes_past}
-use Rattle.steps.specs.Law.{notes_past_lem, notes_before, gap_past_lem, statement_past_lem, keyword_past_lem, statement_found_lem, statement_missed}
+use Rattle.steps.specs.Law.{notes_past_lem, notes_before, gap_past_lem, statement_past_lem, keyword_past_lem, statement_found_lem}
+use Rattle.steps.specs.Law.{statement_missed}
 use Rattle.steps.specs.Law.{whether_past, given_past, absent_past, value_past, string_past}
 use Rattle.pages.specs.declared.RangeParts.{RangeParts}
-use Rattle.pages.specs.Page.{Page, page, before, framed, line_at, line_text, lines_page, range_parts, range_at, range_text, block_page, values_page}
+use Rattle.pages.specs.Page.{Page, page, before, framed, line_at, line_text, lines_page, range_parts, range_at, range_text, block_page}
+use Rattle.pages.specs.Page.{values_page}
 use Rattle.page_laws.specs.Tokens.{string_end, end_page_lem}
 
 -- lines one list behind the other
@@ -59,7 +62,13 @@ module _ (d : List ℕ) where
   unfolding line_at line_text framed capitals
   line_page (says.line {a = a} {t = t} {s = s} r v x w) =
       record {
-        line = rw (notes_past_lem d r (value_not_note v), value_past d v, string_past d x, whether_past d {w = SPECIAL} refl w, string_end d x)
+        line = rw (
+          notes_past_lem d r (value_not_note v),
+          value_past d v,
+          string_past d x,
+          whether_past d {w = SPECIAL} refl w,
+          string_end d x,
+        )
             (line_words (amount_token d a) (span_of d t.place (t.place + t.length)) s);
         stands = rw (notes_past_lem d r (value_not_note v), value_past d v, string_past d x, whether_past d {w = SPECIAL} refl w);
       }

@@ -26,7 +26,8 @@ use Rattle.clean_text.specs.rule.Clean.{variable_lines, each_variable}
 use Rattle.clean_text.specs.rule.Clean as clean
 use Rattle.steps.specs.Step.{span, number_span, statement_found}
 use Rattle.steps.specs.Law.{statement_past_lem, statement_found_lem, statement_missed, number_past, given_past, absent_past}
-use Rattle.pages.specs.Page.{Page, page, before, then, framed, number_page, room_of, even_of, spread_at, spread_text, rest_page, values_page}
+use Rattle.pages.specs.Page.{Page, page, before, then, framed, number_page, room_of, even_of, spread_at, spread_text, rest_page}
+use Rattle.pages.specs.Page.{values_page}
 use Rattle.pages.specs.Page.{titles_page, body_page, variable_page, variables_page}
 use Rattle.page_laws.specs.Tokens.{number_page_lem, phrase_page_lem, end_page_lem, kind_of, type_page, type_text_lem, Placed, position_page}
 use Rattle.page_laws.specs.Values.{text_append, values_page_lem}
@@ -207,11 +208,13 @@ module _ (d : List ℕ) where
       whole =
           ap (λ (s : List ℕ). line_of a ++ (line_of b ++ (line_of c ++ (line_of e ++ (line_of f ++ s)))))
           (text_append l last ∙ ap (λ (s : List ℕ). clean_text l ++ s) (one_line (END ∷ VARIABLE ∷ [])))
-          ∙ sym (append_assoc (line_of a) (line_of b ++ line_of c) (line_of e ++ (line_of f ++ (clean_text l ++ line_of (END ∷ VARIABLE ∷ []))))
+          ∙ sym (append_assoc (line_of a) (line_of b ++ line_of c)
+          (line_of e ++ (line_of f ++ (clean_text l ++ line_of (END ∷ VARIABLE ∷ []))))
           ∙ ap (λ (s : List ℕ). line_of a ++ s) (append_assoc (line_of b) (line_of c)
           (line_of e ++ (line_of f ++ (clean_text l ++ line_of (END ∷ VARIABLE ∷ []))))))
 
-  pub variable_page_lem : {n m : ℕ} {v : Variable} → says.Variable d n v m → Fine v → variable_page d n ≡ page (clean_text (variable_lines d v)) m
+  pub variable_page_lem : {n m : ℕ} {v : Variable} → says.Variable d n v m → Fine v → variable_page d n
+      ≡ page (clean_text (variable_lines d v)) m
   unfolding variable_page line_of
   variable_page_lem {m = m} {v = v} (says.variable s x n l t k p r e) fine =
       rw (titles_page_lem s x n l, body_page_lem fine.finish fine.start fine.lines fine.parts t k p r e)

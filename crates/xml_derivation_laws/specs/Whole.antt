@@ -52,7 +52,8 @@ use Rattle.xml_reading.specs.rule.Whole.{declared, xml_outcome}
 use Rattle.xml_grammar.specs.Grammar.{Sss}
 use Rattle.xml_grammar.specs.Reader.{element}
 use Rattle.xml_grammar.specs.Meaning.{State, meanings}
-use Rattle.xml_grammar.specs.Whole.{depth, last, sheet_is}
+use Rattle.xml_grammar.specs.Whole.{depth, last}
+use Rattle.xml_grammar.proofs.Whole.{sheet_is}
 use Rattle.xml_derivations.specs.Derivation.{the, Says}
 use Rattle.xml_derivations.specs.Document.{unsaid, survey_of, Document, document, definition, Taken, taken}
 use Rattle.xml_derivation_laws.specs.Table.{word_name}

@@ -2,11 +2,7 @@ pub mod Grammar
 pub mod Reader
 pub mod Meaning
 pub mod Behind
-pub mod Leaves
 pub mod Loops
-pub mod Blocks
-pub mod Variables
-pub mod Records
 pub mod Surveys
 pub mod Words
 pub mod Whole

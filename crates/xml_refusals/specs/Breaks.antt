@@ -243,7 +243,8 @@ module _ (bad : Bool) (d : List ℕ) where
 
         by : (x y : Bool) → leb (length d) v ≡ x → (eqb (get_or d v 0) 34 || eqb (get_or d v 0) 39) ≡ y
             → cond x (Faulty (end_fault bad v o))
-            (cond y (on_quoted n (run_at 1 d n) (v + 1) (quoted_of bad o (get_or d v 0) d (v + 1))) (Faulty v)) ≡ Faulty q → AttributeStops q
+            (cond y (on_quoted n (run_at 1 d n) (v + 1) (quoted_of bad o (get_or d v 0) d (v + 1))) (Faulty v)) ≡ Faulty q
+            → AttributeStops q
         by true y h i z = let j : end_fault bad v o ≡ q = cc in moved j (value_cut s (leb-true (length d) v h))
         by false true h i z = quoted h i (quoted_of bad o (get_or d v 0) d (v + 1)) refl z
         by false false h i z = let j : v ≡ q = cc in moved j (unquoted s (leb-false (length d) v h) i)

@@ -497,7 +497,8 @@ module _ (bad : Bool) (d : List ℕ) where
     faulted : tag_by bad d old l p t.behind_name ≡ tag.Fault f.number f.place
     faulted =
         tag_by_lem bad d old x p t.behind_name
-        ∙ (tag_refused_exactly bad d p t.behind_name (name_of old l 0) (name_of old l 1) (name_of old l 2) (form_of old l 0) (form_of old l 1)
+        ∙ (tag_refused_exactly bad d p t.behind_name (name_of old l 0) (name_of old l 1) (name_of old l 2) (form_of old l 0)
+        (form_of old l 1)
         (form_of old l 2) (needed_of l) f).1 t.faults
 
     deep : (g : ℕ) → height x ≤ g → element bad d (meanings d) g x s p t.behind_name ≡ Not f

@@ -122,10 +122,11 @@ module _ (bad : Bool) (d : List ℕ) where
       → AnyTag d old (rule_of x).attributes (rule_of x).word p h em q n
   any_sound old x {p} {e} {q} {n} {h} {em} o l r =
       let a = (rule_of x).attributes in
-      let t = (tag_exactly bad d p e (name_of old a 0) (name_of old a 1) (name_of old a 2) (form_of old a 0) (form_of old a 1) (form_of old a 2)
+      let t = (tag_exactly bad d p e (name_of old a 0) (name_of old a 1) (name_of old a 2) (form_of old a 0) (form_of old a 1)
+      (form_of old a 2)
       (needed_of a) h em q n).0 (sym (tag_by_lem bad d old x p e) ∙ r) in
       record {
-        behind-name = e;
+        behind_name = e;
         opens = o;
         name = l;
         placed = t.placed;
@@ -139,7 +140,8 @@ module _ (bad : Bool) (d : List ℕ) where
       (form_of old (rule_of x).attributes 2) (needed_of (rule_of x).attributes) (tags.nothing_held e) (fault a b)
   tag_faults old x p e {a} {b} t =
       let l = (rule_of x).attributes in
-      (tag_refused_exactly bad d p e (name_of old l 0) (name_of old l 1) (name_of old l 2) (form_of old l 0) (form_of old l 1) (form_of old l 2)
+      (tag_refused_exactly bad d p e (name_of old l 0) (name_of old l 1) (name_of old l 2) (form_of old l 0) (form_of old l 1)
+      (form_of old l 2)
       (needed_of l) (fault a b)).0 (sym (tag_by_lem bad d old x p e) ∙ t)
 
   -- ---- parts no higher than k, by a reader of elements so deep, of which what it refuses stops
@@ -401,7 +403,8 @@ module _ (bad : Bool) (d : List ℕ) where
     within_file =
         let a = (rule_of x).attributes in
         let old = s.manner.old in
-        let b = tag_within bad d p (name_of old a 0) (name_of old a 1) (name_of old a 2) (form_of old a 0) (form_of old a 1) (form_of old a 2)
+        let b = tag_within bad d p (name_of old a 0) (name_of old a 1) (name_of old a 2) (form_of old a 0) (form_of old a 1)
+        (form_of old a 2)
         (needed_of a) e h em q n (sym (tag_by_lem bad d old x p e) ∙ t) in
         (omega (arith, b.1), b.2)
 
@@ -541,7 +544,8 @@ module _ (bad : Bool) (d : List ℕ) where
         on (before a) = fronted (fails (judged (front_of d x s h) (tt {0}) n) (ends em) f a)
         on (behind u k a b) = opened u k em refl a b
 
-    held_seen : (r : Holds) → (rule_of x).holds ≡ r → holding bad d (meanings d) x s h (child g) r em q n ≡ Not f → Stops bad d (the x) s p f
+    held_seen : (r : Holds) → (rule_of x).holds ≡ r → holding bad d (meanings d) x s h (child g) r em q n ≡ Not f
+        → Stops bad d (the x) s p f
     held_seen nothing i r = nothing_seen i r
     held_seen plain i r = text_seen i derivation.Texts.characters r
     held_seen number i r = number_seen i r
@@ -564,4 +568,4 @@ module _ (bad : Bool) (d : List ℕ) where
         on ih (tag.Read h em q n) t r = held_seen g ih x s p e f high o l h em q n t (rule_of x).holds refl r
         on ih (tag.Fault a b) t r =
             let j : fault a b ≡ f = cc in
-            moved j (stops.in_tag (record { behind-name = e; opens = o; name = l; faults = tag_faults s.manner.old x p e t }))
+            moved j (stops.in_tag (record { behind_name = e; opens = o; name = l; faults = tag_faults s.manner.old x p e t }))

@@ -32,9 +32,11 @@ use Rattle.pairs.specs.rule.Grammar.{Name, first_of}
 use Rattle.pairs.specs.rule.Stand.{shut_of, bare_of}
 use Rattle.pairs.specs.rule.Pair.{pair_of}
 use Rattle.contents.specs.rule.Grammar.{br, text, lang}
-use Rattle.contents.specs.rule.Step.{mode_in, step_kind, knowing, step_of, mark_at, note_at, start_at, break_at, pair_at, language_at, other_at}
+use Rattle.contents.specs.rule.Step.{mode_in, step_kind, knowing, step_of, mark_at, note_at, start_at, break_at, pair_at, language_at}
+use Rattle.contents.specs.rule.Step.{other_at}
 use Rattle.contents.specs.rule.Step.{close_at}
-use Rattle.contents.specs.rule.Step.{bracket_at, return_at, refer_at, on_char, on_note, content_pair, on_break, on_language, on_other, on_out, on_end}
+use Rattle.contents.specs.rule.Step.{bracket_at, return_at, refer_at, on_char, on_note, content_pair, on_break, on_language, on_other}
+use Rattle.contents.specs.rule.Step.{on_out, on_end}
 use Rattle.contents.specs.rule.Step.{on_angle, go_on_saying, broken_at}
 use Rattle.contents.specs.rule.Content.{begun, content_of}
 use Rattle.contents.specs.declared.Going.{Going}

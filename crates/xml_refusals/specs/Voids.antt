@@ -81,7 +81,8 @@ module _ (bad : Bool) (d w : List ℕ) where
     on : (r : Skip) → gap_of bad d n ≡ r → on_gap bad d r ≡ stand.Foreign p → ForeignAt n p
     on (skip.Broken q) g e = never cc
     on (skip.Past q) g e = by (leb (length d) q) (eqb (get_or d q 0) 60) refl refl e where
-      angles : leb (length d) q ≡ false → eqb (get_or d q 0) 60 ≡ true → (a : Angle) → angle_of bad d q ≡ a → stand_angle q a ≡ stand.Foreign p
+      angles : leb (length d) q ≡ false → eqb (get_or d q 0) 60 ≡ true → (a : Angle) → angle_of bad d q ≡ a → stand_angle q a
+          ≡ stand.Foreign p
           → ForeignAt n p
       angles h i (angle.Start m) a e = never cc
       angles h i (angle.Close m) a e = never cc

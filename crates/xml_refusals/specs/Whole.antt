@@ -27,12 +27,14 @@ use Rattle.grammar.specs.Faults.{Clean}
 use Rattle.names.specs.rule.Standard.{name_fault}
 use Rattle.xml_reading.specs.rule.Word.{SSS}
 use Rattle.xml_reading.specs.rule.Sheet.{XmlSurvey, headed, root, cleared, sheet}
-use Rattle.xml_reading.specs.rule.Whole.{Built, Refusal, xml_table, xml_fitting, xml_names, entry_place, judge_xml_names, xml_settled, sheet_of}
+use Rattle.xml_reading.specs.rule.Whole.{Built, Refusal, xml_table, xml_fitting, xml_names, entry_place, judge_xml_names, xml_settled}
+use Rattle.xml_reading.specs.rule.Whole.{sheet_of}
 use Rattle.xml_reading.specs.rule.Whole.{declared, xml_outcome}
 use Rattle.xml_grammar.specs.Grammar.{Sss}
 use Rattle.xml_grammar.specs.Reader.{element}
 use Rattle.xml_grammar.specs.Meaning.{State, meanings}
-use Rattle.xml_grammar.specs.Whole.{depth, last, sheet_is}
+use Rattle.xml_grammar.specs.Whole.{depth, last}
+use Rattle.xml_grammar.proofs.Whole.{sheet_is}
 use Rattle.xml_derivations.specs.Derivation.{the}
 use Rattle.xml_derivations.specs.Document.{unsaid, survey_of, Definition, definition, Named}
 use Rattle.xml_derivation_laws.specs.Read.{Told, element_read}
@@ -184,7 +186,8 @@ module _ (d : List ℕ) (n : ℕ) where
         derived_sheet latin x o,
       )
 
-  sheet_of_lem : (latin : Bool) (p : ℕ) {k q : ℕ} → length d ≤ 1048576 → Declared d (prolog.Read latin p) → sheet_of latin d p n ≡ Refusal k q
+  sheet_of_lem : (latin : Bool) (p : ℕ) {k q : ℕ} → length d ≤ 1048576 → Declared d (prolog.Read latin p) → sheet_of latin d p n
+      ≡ Refusal k q
       → Refused d n k q
   unfolding sheet_of
   sheet_of_lem latin p {k} {q} h g e = on (sheet (ltb z (length d)) (take z d) latin p) refl e where

@@ -1,6 +1,9 @@
 -- EVERY TEXT OF A TABLE THAT WAS READ FROM XML DECODES: `zarfolin_decode_text` answers its signs, or 25 where the list is too short, never
 -- 3.
-use Rattle.std.specs.Prelude.{◌≡◌, refl, Bool, true, false, ℕ, ◌+◌, ◌≤◌, ℤ, length, take}
+use Rattle.std.specs.Prelude.{◌≡◌, refl, Bool, true, false, ℕ, ◌+◌, ◌≤◌, ℤ, length, take, drop}
+use Rattle.utf.specs.rule.Chars.{Chars}
+use Rattle.reading.specs.rule.Least.{Charge}
+use Rattle.xml_reading.specs.rule.Sheet.{XmlSurvey}
 use Rattle.std.proofs.Common.{◌∙◌, arith, length-take-le, le-leb}
 use mathlib.Core.List.Memᴰ
 use mathlib.Core.List.{List, Memᴰ}
@@ -23,7 +26,7 @@ use Rattle.survey.specs.rule.Survey.{KeptText, Line}
 use Rattle.survey.specs.rule.Table.{lines_of}
 use Rattle.xml_reading.specs.rule.Role.{XmlEntry}
 use Rattle.xml_reading.specs.rule.Whole.{Built, xml_outcome}
-use Rattle.xml_derivations.specs.Document.{document, definition, Taken, taken}
+use Rattle.xml_derivations.specs.Document.{Document, document, definition, Taken, taken}
 use Rattle.xml_derivation_laws.specs.Whole.{taken_exactly}
 use Rattle.xml_text_laws.specs.Texts.{Stands, EntryStands, no_text_lem, derived_good}
 
@@ -87,18 +90,24 @@ root_behind (prologs.typed g b t h) =
     let q = h.place in
     omega (arith, ahead t)
 
--- a definition that is taken
-taken_stands : {d : List ℕ} {n : ℕ} {l : List XmlEntry} → Taken d n l → (v : XmlEntry) → Memᴰ v l → EntryStands (latin_of d) d v
-unfolding latin_of
-taken_stands {d} (taken {latin = latin} (definition {n = p} h g c (document {k = k} a y z)) o names long) v m =
-    let e = (declaration_exactly d (prolog.Read latin p)).1 g in
-    rw e ((derived_good latin d p c y (root_behind a) (record {
+-- a document that is derived
+document_stands : {latin : Bool} {d : List ℕ} {p : ℕ} {cs : List ℕ} {g : List Charge} {s : XmlSurvey} {q : ℕ} → Chars latin cs (drop p d)
+    → Document latin d p g s q → (v : XmlEntry) → Memᴰ v s.entries → EntryStands latin d v
+document_stands {latin} {d} {p} c (document a y z) v m =
+    (derived_good latin d p c y (root_behind a) (record {
       script = refl;
       entries = λ v m. absurd (Memᴰ.not-nil m);
       name = no_text_lem latin d p c;
       label = no_text_lem latin d p c;
       lines = λ y m. absurd (Memᴰ.not-nil m);
-    })).0.entries v m)
+    })).0.entries v m
+
+-- a definition that is taken
+taken_stands : {d : List ℕ} {n : ℕ} {l : List XmlEntry} → Taken d n l → (v : XmlEntry) → Memᴰ v l → EntryStands (latin_of d) d v
+unfolding latin_of
+taken_stands {d} (taken {latin = latin} (definition {n = p} h g c f) o names long) v m =
+    let e = (declaration_exactly d (prolog.Read latin p)).1 g in
+    rw e (document_stands c f v m)
 
 -- every text of every variable that was read
 pub texts_decode : (d : List ℕ) (n : ℕ) (l : List XmlEntry) → is_xml d ≡ true → xml_outcome d n ≡ Built l → (v : XmlEntry) → Memᴰ v l

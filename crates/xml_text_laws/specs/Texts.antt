@@ -79,7 +79,8 @@ module _ (latin : Bool) (d : List ℕ) where
     tag_places : (p < n) × (n ≤ length d)
     tag_places =
         let l = (rule_of x).attributes in
-        let b = tag_within false d p (name_of old l 0) (name_of old l 1) (name_of old l 2) (form_of old l 0) (form_of old l 1) (form_of old l 2)
+        let b = tag_within false d p (name_of old l 0) (name_of old l 1) (name_of old l 2) (form_of old l 0) (form_of old l 1)
+        (form_of old l 2)
         (needed_of l) a.behind_name h em a.end_mark n
         (sym (tag_by_lem false d old x p a.behind_name) ∙ start_complete false d old x a) in
         let k = a.name.place in

@@ -1,0 +1,6 @@
+pub mod Leaves
+pub mod Blocks
+pub mod Variables
+pub mod Records
+pub mod Surveys
+pub mod Whole
