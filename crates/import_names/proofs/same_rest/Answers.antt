@@ -1,5 +1,5 @@
 use mathlib.Core.Path.{sym, ap, ◌∙◌}
-use mathlib.Core.Bool.{true, false}
+use mathlib.Core.Bool.{false}
 use native.Mathlib.Omega.{arith}
 use Rattle.stretches.proofs.Outcomes.{begins, told_one, told_over}
 use Rattle.name_line.specs.Names.{bytes_of, shorter}
