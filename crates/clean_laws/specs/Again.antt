@@ -1,5 +1,5 @@
 -- THE SAME SURVEY, THE SAME CLEAN TEXT: lines are of kept bytes alone, so a survey that is the same but for places has the same lines.
-use Rattle.std.specs.Prelude.{◌≡◌, Bool, List, map, ℕ, ◌-◌}
+use Rattle.std.specs.Prelude.{◌≡◌, Bool, List, map, ℕ}
 use Rattle.std.proofs.Math.Path.{refl}
 use Rattle.std.proofs.Math.Bool.{true, false}
 use Rattle.std.proofs.Math.Option.{Option}

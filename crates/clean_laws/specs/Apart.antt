@@ -72,7 +72,8 @@ on_text : (v k : ℕ) → of_text (suc v) (row_size + k) ≡ of_text v k
 unfolding of_text
 on_text v k = by (ltb k (row_size * v)) refl where
   by : (q : Bool) → ltb k (row_size * v) ≡ q
-      → cond (ltb (row_size + k) (row_size * suc v)) (within 14 17 ((row_size + k) % row_size)) (leb 2 ((row_size + k - row_size * suc v) % 4))
+      → cond (ltb (row_size + k) (row_size * suc v)) (within 14 17 ((row_size + k) % row_size))
+      (leb 2 ((row_size + k - row_size * suc v) % 4))
       ≡ cond q (within 14 17 (k % row_size)) (leb 2 ((k - row_size * v) % 4))
   by true e =
       let h = ltb-true k (row_size * v) e in

@@ -1,12 +1,12 @@
 -- What the reading back means to callers: texts as the call that decodes gives them, by the places and lengths of the two tables; and a
 -- clean text keeps all that a definition says.
-use Rattle.std.specs.Prelude.{◌↔◌, ◌⊎◌, ◌≡◌, refl, false, cond, List, ◌∷◌, map, ℕ, ◌+◌, ◌-◌, ◌≤◌, ◌<◌, ltb, ℤ, pos, length, drop}
+use Rattle.std.specs.Prelude.{◌↔◌, ◌⊎◌, ◌≡◌, refl, false, cond, List, map, ℕ, ◌+◌, ◌-◌, ◌≤◌, ◌<◌, ltb, ℤ, pos, length, drop}
 use Rattle.std.proofs.Common.{inl, inr, sym, ap, ◌∙◌, arith, get_or-append-add, get_or-drop, lt-ltb, le-ltb}
 use Rattle.std.proofs.Math.ListN.{get_or-append}
 use Rattle.below.specs.Below.{lt_or_le}
 use Rattle.cells.specs.rule.Cell.{cell, pasted}
 use Rattle.rows.specs.rule.Cells.{header_cells}
-use Rattle.survey.specs.rule.Survey.{KeptText, Line, Variable, Survey}
+use Rattle.survey.specs.rule.Survey.{Line, Variable, Survey}
 use Rattle.survey.specs.rule.Table.{lines_all, header_for, table_of}
 use Rattle.definition.specs.declared.Answer.{Answer}
 use Rattle.definition.specs.rule.Definition.{Refusal, sss_outcome, sss_answer, sss_table_after, SssRead}

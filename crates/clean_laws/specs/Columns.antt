@@ -1,6 +1,6 @@
 -- THE SAME SURVEY, THE SAME ROW but for its text places and lengths: columns are of what numbers say, and an OF that is stated says what
 -- was reckoned without it.
-use Rattle.std.specs.Prelude.{◌≡◌, Bool, List, [], ◌∷◌, ◌++◌, map, ℕ, ◌+◌, max, length}
+use Rattle.std.specs.Prelude.{◌≡◌, Bool, List, [], ◌∷◌, ◌++◌, map, ℕ, max, length}
 use Rattle.std.proofs.Math.Path.{refl, sym, ap}
 use Rattle.std.proofs.Common.{◌∙◌}
 use Rattle.std.proofs.Math.Option.{Option}
@@ -20,7 +20,8 @@ use Rattle.clean_laws.specs.Same as same
 use Rattle.clean_laws.specs.Again.{room_again}
 
 -- ---- numbers of a block look at what a value says, not at its place
-pub some_bare : (f : Amount → Bool) → ((a : Amount) → f (bare_amount a) ≡ f a) → (l : List Amount) → some_of f (map bare_amount l) ≡ some_of f l
+pub some_bare : (f : Amount → Bool) → ((a : Amount) → f (bare_amount a) ≡ f a) → (l : List Amount) → some_of f (map bare_amount l)
+    ≡ some_of f l
 unfolding some_of
 some_bare f h [] = refl
 some_bare f h (a ∷ l) = rw (h a, some_bare f h l)

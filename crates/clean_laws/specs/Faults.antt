@@ -1,6 +1,6 @@
 -- THE SAME SURVEY, NO FAULT: charges test what numbers say, never a place; and where OF is stated in p alone, a width that divides the
 -- position exactly is not 0.
-use Rattle.std.specs.Prelude.{◌≡◌, Bool, cond, ℕ, ◌+◌, ◌-◌, ◌*◌, ◌/◌, ◌%◌, ◌≤◌, eqb}
+use Rattle.std.specs.Prelude.{◌≡◌, Bool, cond, ℕ, ◌+◌, ◌*◌, ◌/◌, ◌%◌, ◌≤◌, eqb}
 use Rattle.std.proofs.Math.Path.{refl, ap}
 use Rattle.std.proofs.Common.{sym, ◌∙◌, div-le_self, mul-zero, arith}
 use Rattle.std.proofs.Math.Bool.{true, false, not}
@@ -18,7 +18,8 @@ use Rattle.reading.specs.rule.Least.{Charge, ◌when◌, named}
 use Rattle.reading.specs.rule.Statement.{position_charges, spread_charges, size_charges}
 use Rattle.reading.specs.rule.Values.{form_is, large, unlike_amounts, range_charges, line_charges, with_line, unlisted}
 use Rattle.reading.specs.rule.Variable.{ident_charges}
-use Rattle.grammar.specs.Faults.{Clean, range_faults, line_faults, block_faults, spread_faults, content_faults, width_faults, variable_faults}
+use Rattle.grammar.specs.Faults.{Clean, range_faults, line_faults, block_faults, spread_faults, content_faults, width_faults}
+use Rattle.grammar.specs.Faults.{variable_faults}
 use Rattle.grammar.specs.Faults.{variables_faults, faults_of}
 use Rattle.grammar_laws.specs.Views.{clean_both, clean_left, clean_right}
 use Rattle.printed.specs.Lines.{All}

@@ -1,5 +1,5 @@
 -- THE PRINTED HEADING: the opening, the statements before SURVEY in their fixed order, TITLE, RECORD and its letter.
-use Rattle.std.specs.Prelude.{◌≡◌, Bool, ℕ, ◌+◌, eqb}
+use Rattle.std.specs.Prelude.{◌≡◌, Bool, ℕ, eqb}
 use Rattle.std.proofs.Math.Path.{refl}
 use Rattle.std.proofs.Common.{◌∙◌}
 use Rattle.std.proofs.Math.Bool.{true, false}
@@ -81,7 +81,8 @@ unfolding entered_text
 item_other k j none l e = refl
 item_other k j (some t) l e = rw e
 
-item_this : (k : ℕ) (o : Option KeptText) (l : List HeadingEntry) → eqb k k ≡ true → entered_text k l ≡ none → entered_text k (item k o l) ≡ o
+item_this : (k : ℕ) (o : Option KeptText) (l : List HeadingEntry) → eqb k k ≡ true → entered_text k l ≡ none → entered_text k (item k o l)
+    ≡ o
 unfolding entered_text
 item_this k none l e h = h
 item_this k (some t) l e h = rw e

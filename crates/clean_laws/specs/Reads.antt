@@ -1,15 +1,13 @@
 -- THE CLEAN TEXT READS BACK (document 02, C-11; READINGS-02, C-11 point 7): "Reading its output gives the same table apart from text places
 -- and lengths, and equal decoded texts"; it is refused by none of 1 to 9; cleaning it again gives it again.
-use Rattle.std.specs.Prelude.{◌≡◌, false, List, [], ◌∷◌, map, ℕ, ◌≤◌, ◌<◌, ℤ, length}
+use Rattle.std.specs.Prelude.{◌≡◌, false, List, [], ◌∷◌, map, ℕ, ◌≤◌, ℤ, length}
 use Rattle.std.proofs.Math.Path.{refl}
 use Rattle.std.proofs.Common.{sym, ap, ◌∙◌, arith}
-use Rattle.std.proofs.Math.Option.{Option, none, some}
+use Rattle.std.proofs.Math.Option.{Option}
 use Rattle.cells.specs.rule.Cell.{cell}
 use Rattle.signs.specs.declared.Sign.{Sign}
 use Rattle.survey.specs.rule.Survey.{KeptText, Line, Variable, Heading, Survey}
 use Rattle.survey.specs.rule.Table.{lines_of, table_of}
-use Rattle.reading.specs.rule.Result.{Is}
-use Rattle.reading.specs.rule.Whole.{survey_of}
 use Rattle.definition.specs.rule.Definition.{SssOutcome, Built, Refusal, sss_outcome}
 use Rattle.grammar.specs.Grammar.{Definition}
 use Rattle.grammar.specs.Faults.{Clean, faults_of}

@@ -6,7 +6,7 @@ use Rattle.ascii.specs.rule.Class.{class_of}
 use Rattle.survey.specs.rule.Survey.{Figure, KeptText, Range, Line, Block, Spread, Content, single, multiple, quantity, character, logical}
 use Rattle.survey.specs.rule.Survey.{Variable, Heading, Survey}
 use Rattle.survey.specs.rule.Width.{room_in}
-use Rattle.reading.specs.rule.Whole.{HeadingEntry, given, entered_text, heading}
+use Rattle.reading.specs.rule.Whole.{HeadingEntry, entered_text, heading}
 use Rattle.grammar.specs.Token as token
 use Rattle.grammar.specs.Grammar as grammar
 use Rattle.printed.specs.Runs.{FigureSaid, number_said, AmountSaid, value_said}
@@ -157,6 +157,7 @@ module _ (d : List ℕ) where
     variables_are : {v : Variable} {l : List Variable} → All VariableSaid (v ∷ l) → VariablesSaid (v ∷ l)
 
   variables_said : {n m : ℕ} {l : List Variable} → All (λ (v : Variable). Short (room_in v)) l → grammar.Variables d n l m → VariablesSaid l
+  variables_said nil i = elim i [ ]
   variables_said (more h nil) (grammar.one x) = variables_are (more (variable_said h x) nil)
   variables_said (more h r) (grammar.Variables.more x y) = by (variable_said h x) (variables_said r y) where
     by : {v : Variable} {l : List Variable} → VariableSaid v → VariablesSaid l → VariablesSaid (v ∷ l)

@@ -10,7 +10,8 @@ use Rattle.layout.specs.declared.Columns.{Columns}
 use Rattle.layout.specs.declared.Header.{Header}
 use Rattle.rows.specs.rule.Cells.{row_cells, header_cells}
 use Rattle.survey.specs.rule.Survey.{Line, Variable}
-use Rattle.survey.specs.rule.Table.{variable_columns, lines_of, lines_all, highest_in, header_for, rows_from, line_cells, cells_of, all_lines}
+use Rattle.survey.specs.rule.Table.{variable_columns, lines_of, lines_all, highest_in, header_for, rows_from, line_cells, cells_of}
+use Rattle.survey.specs.rule.Table.{all_lines}
 use Rattle.survey.specs.rule.Table.{table_of}
 use Rattle.definition.specs.rule.Definition.{names_of}
 use Rattle.clean_laws.specs.Masked.{masked_lines, masked_row, masked_rows, masked}
@@ -58,7 +59,8 @@ module _ (d p : List ℕ) where
       let g' = append_assoc (row_cells (variable_columns before v')) (rows_from (before + length (lines_of v)) l') t' in
       rw (k, g, g')
       (rows_step (variable_columns before v') (length l') (rows_from (before + length (lines_of v)) l' ++ t')
-      ∙ rw (row_same before s, f) (sym (rows_step (variable_columns before v) (length l) (rows_from (before + length (lines_of v)) l ++ t))))
+      ∙ rw (row_same before s, f) (sym (rows_step (variable_columns before v) (length l)
+      (rows_from (before + length (lines_of v)) l ++ t))))
 
   -- ---- the header
   pub lines_all_same : {l l' : List Variable} → Alike (SameVariable d p) l l' → lines_all l' ≡ lines_all l

@@ -1,5 +1,5 @@
 -- PRINTED VARIABLES: its lines one after another, and variables one behind the other.
-use Rattle.std.specs.Prelude.{◌≡◌, true, ℕ, ◌+◌}
+use Rattle.std.specs.Prelude.{◌≡◌, true, ℕ}
 use Rattle.std.proofs.Math.Path.{refl, ap}
 use mathlib.Core.List.{List, [], ◌∷◌, ◌++◌, append-nil}
 use Rattle.std.proofs.Math.Option.{get_or}

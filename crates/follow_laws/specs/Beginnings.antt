@@ -180,9 +180,9 @@ module _ {d d' : List ℕ} {M : ℕ} (files : Alike d d' M) where
             let c = back_on q g.1 in
             (rw (c.0, g.0, h.0) (spelling.last x y), c.1),
       )
-  pairs_on {r} {k} (spelling.more x y z) q =
+  pairs_on {r} {k} (spelling.more {q = j} x y z) q =
       let e = (rest_of_lem d q).0 in
-      let c = pairs_on z (rest_of_lem d e).0 in (
+      let c = pairs_on {r = r} {k = j + 1} z (rest_of_lem d e).0 in (
         c.0,
         c.1,
         λ a.
@@ -243,9 +243,9 @@ module _ {d d' : List ℕ} {M : ℕ} (files : Alike d d' M) where
 
   spelt_in : {r k m : ℕ} {t : Text} {s : List Sign} → Spelt t s m → t ≡ text d k → Ahead d M r m → Spelt (text d' k) s m × Ahead d M r k
   spelt_in spelling.closed q a = let c = back_on q a in (rw c.0 spelling.closed, c.1)
-  spelt_in {r} (spelling.piece p z) q a =
-      let c = piece_on {r = r} p q in
-      let y = spelt_in z c.1 a in
+  spelt_in {r} {k} (spelling.piece p z) q a =
+      let c = piece_on {r = r} {k = k} p q in
+      let y = spelt_in {k = c.0} z c.1 a in
       let x = c.2 y.1 in
       (spelling.piece x.0 y.0, x.1)
 

@@ -1,14 +1,14 @@
 -- What the writer asks of a variable holds of all that are read: their places and parts by the faults that they don't have, their number
 -- and
 -- lines by the test that reading makes.
-use Rattle.std.specs.Prelude.{◌≡◌, refl, ◌⊎◌, Bool, true, false, cond, not, List, [], ◌∷◌, ◌++◌, ℕ, ◌+◌, ◌-◌, ◌%◌, ◌≤◌, ◌<◌, eqb, ltb, length}
-use Rattle.std.proofs.Common.{sym, ap, ◌∙◌, inl, inr, mod-eq_of_lt, arith, ltb-false, eqb-true}
-use Rattle.std.proofs.Math.Option.{Option, none, some, get_or}
+use Rattle.std.specs.Prelude.{◌≡◌, refl, ◌⊎◌, Bool, true, false, not, List, [], ◌∷◌, ◌++◌, ℕ, ◌%◌, ◌≤◌, ◌<◌}
+use Rattle.std.specs.Prelude.{length}
+use Rattle.std.proofs.Common.{inl, inr, mod-eq_of_lt, arith, ltb-false, eqb-true}
+use Rattle.std.proofs.Math.Option.{none, some, get_or}
 use Rattle.std.proofs.lemmas.Bool.{eqb-false}
 use Rattle.below.specs.Below.{lt_or_le}
 use Rattle.tokens.specs.declared.Fault.{Fault}
-use Rattle.tokens.specs.rule.Gap.{fault}
-use Rattle.survey.specs.rule.Survey.{Figure, Spread, Block, Content, single, multiple, quantity, character, logical, Variable, Survey}
+use Rattle.survey.specs.rule.Survey.{Figure, Spread, Block, Content, multiple, Variable}
 use Rattle.survey.specs.rule.Width.{room_in}
 use Rattle.survey.specs.rule.Table.{lines_of, lines_all}
 use Rattle.reading.specs.rule.Least.{Charge, ◌when◌, named}

@@ -1,5 +1,5 @@
 -- A DEFINITION THAT WAS READ is sent as the clean text of its survey.
-use Rattle.std.specs.Prelude.{◌≡◌, refl, Bool, true, false, cond, List, ℕ, ◌≤◌, length}
+use Rattle.std.specs.Prelude.{◌≡◌, refl, List, ℕ, ◌≤◌, length}
 use Rattle.std.proofs.Common.{sym, ap, ◌∙◌, arith}
 use Rattle.survey.specs.rule.Survey.{Variable, Survey}
 use Rattle.survey.specs.rule.Table.{lines_all}
@@ -8,7 +8,6 @@ use Rattle.reading.specs.rule.Whole.{survey_of}
 use Rattle.bridge.specs.Lowest.{never}
 use Rattle.measures.specs.Survey as kept
 use Rattle.built.specs.Nth.{few_rows, few_lines}
-use Rattle.definition.specs.declared.Answer.{Answer}
 use Rattle.definition.specs.declared.Answer.TheVariants as answer
 use Rattle.definition.specs.rule.Definition.{SssOutcome, Built, sss_outcome, sss_answer}
 use Rattle.definition.specs.Books as books
@@ -29,7 +28,8 @@ few d n l e = by refl e (outcome_same d n) where
       × (lines_all l ≤ 4096)
   by i j (bridge.built {l = k} s) =
       let g = built_good d n k i in
-      let a : answer.Read (length k) (kept.lines_all k) ≡ answer.Read (length l) (lines_all l) = sym (ap books.answer_in i) ∙ answer_same d n
+      let a : answer.Read (length k) (kept.lines_all k) ≡ answer.Read (length l) (lines_all l) = sym (ap books.answer_in i)
+      ∙ answer_same d n
       ∙ ap sss_answer e in
       let b : length k ≡ length l = cc in
       let c : kept.lines_all k ≡ lines_all l = cc in

@@ -4,15 +4,14 @@ use Rattle.std.proofs.Math.Path.{refl, sym, ap}
 use Rattle.std.proofs.Common.{◌∙◌}
 use Rattle.std.proofs.Math.Bool.{true, false}
 use mathlib.Core.List.{List, [], ◌∷◌, ◌++◌, append_assoc, append-nil}
-use Rattle.std.proofs.Math.Option.{Option, none, some}
+use Rattle.std.proofs.Math.Option.{Option}
 use native.Mathlib.Omega.{arith}
-use Rattle.scan.specs.rule.Text.{text, sign}
 use Rattle.scan.specs.Text.{step_of}
 use Rattle.scan.specs.Word.{capitals}
 use Rattle.tokens.specs.declared.Reading.TheVariants.{At}
 use Rattle.token_laws.specs.Opening.{one_one, sss, version, opening_exactly}
-use Rattle.statements.specs.rule.Words.{NOTE, SSS, VERSION, ONE-ONE, DATE, TIME, ORIGIN, USER, STANDARD, NAMES, SURVEY, TITLE, RECORD, END}
-use Rattle.survey.specs.rule.Survey.{KeptText, Variable, Heading, Survey}
+use Rattle.statements.specs.rule.Words.{NOTE, SSS, VERSION, ONE-ONE, DATE, TIME, ORIGIN, USER, SURVEY, TITLE, RECORD, END}
+use Rattle.survey.specs.rule.Survey.{KeptText, Variable, Survey}
 use Rattle.survey.specs.rule.Width.{some_of}
 use Rattle.reading.specs.rule.Whole.{HeadingEntry, given, heading}
 use Rattle.reading.specs.rule.Whole as reading
@@ -24,19 +23,21 @@ use Rattle.grammar_laws.specs.Places.{differ, other_word}
 use Rattle.grammar_laws.specs.Notes.{note_capitals}
 use Rattle.grammar_laws.specs.Tokens.{run_there}
 use Rattle.clean_text.specs.rule.Span.{span_of}
-use Rattle.clean_text.specs.rule.Clean.{Token, line_of, clean_text, perhaps, standard_line, head_lines, each_variable, clean_lines, clean_of}
+use Rattle.clean_text.specs.rule.Clean.{Token, line_of, clean_text, perhaps, standard_line, head_lines, each_variable, clean_lines}
+use Rattle.clean_text.specs.rule.Clean.{clean_of}
 use Rattle.clean_text.specs.rule.Clean.{quoted_token}
 use Rattle.steps.specs.declared.Found.{Found}
 use Rattle.steps.specs.Step.{place_in, string_span, statement_found, statement_past}
 use Rattle.steps.specs.Law.{gap_past_lem, statement_past_lem, statement_found_lem, statement_missed, string_past}
-use Rattle.pages.specs.Page.{Page, page, framed, variables_page}
+use Rattle.pages.specs.Page.{Page, framed, variables_page}
 use Rattle.page_laws.specs.Tokens.{string_end}
 use Rattle.page_laws.specs.Values.{text_append}
 use Rattle.page_laws.specs.Variables.{AllFine, variables_page_lem}
 use Rattle.fronts.specs.declared.Letter as books
-use Rattle.fronts.specs.Front.{found, item_found, letter_in, letter_at, opening_past, items_of, front_at, perhaps_text, standard_text, opened}
+use Rattle.fronts.specs.Front.{item_found, letter_in, letter_at, opening_past, items_of, front_at, perhaps_text, standard_text}
+use Rattle.fronts.specs.Front.{opened}
 use Rattle.fronts.specs.Front.{head_text, tail_text, closed, whole_text}
-use Rattle.front_laws.specs.Items.{Spoken, Tells, nothing, a_text, items_end, items_standard, items_text}
+use Rattle.front_laws.specs.Items.{Tells, nothing, a_text, items_end, items_standard, items_text}
 
 -- lists one behind the other
 flat : (a b c e f g m r : List ℕ) → ((((((a ++ b) ++ c) ++ e) ++ f) ++ g) ++ m) ++ r ≡ (a ++ (b ++ (c ++ (e ++ (f ++ g))))) ++ (m ++ r)
@@ -124,7 +125,8 @@ module _ (d : List ℕ) where
     unfolding front_at
     front_title = rw (opening_past_lem o) (rw items_next (rw survey_past refl))
 
-    letter_is : letter_at d (statement_past d (cond (statement_found d c TITLE).there (string_span d (statement_found d c TITLE).next).next c)
+    letter_is : letter_at d (statement_past d (cond (statement_found d c TITLE).there (string_span d (statement_found d c TITLE).next).next
+        c)
         RECORD) ≡ record { byte = x; next = g }
     letter_is = rw (title_past u r) (rw record_past (letter_past w))
 
@@ -200,7 +202,8 @@ module _ (d : List ℕ) where
             (text_append ((p0 ++ p1) ++ p2) p3
             ∙ ap (λ (s : List ℕ). s ++ clean_text p3)
             (text_append (p0 ++ p1) p2 ∙ ap (λ (s : List ℕ). s ++ clean_text p2) (text_append p0 p1)))))
-            ∙ flat opened (clean_text (perhaps d DATE (reading.entered_text 0 l))) (clean_text p1) (clean_text p2) (clean_text p3) (clean_text p4)
+            ∙ flat opened (clean_text (perhaps d DATE (reading.entered_text 0 l))) (clean_text p1) (clean_text p2) (clean_text p3)
+            (clean_text p4)
             (clean_text p5)
             (clean_text p6)
 

@@ -81,7 +81,8 @@ pub slow_some : {t : List ℤ} {v j : ℕ} {f : List ℕ} {bad end : ℕ} {old n
 slow_some e k = record { slow = λ z. k; good = λ z. absurd (z e); kept = λ z. absurd (z e) }
 
 -- both: the step of the field
-step_held : (t : List ℤ) (v j : ℕ) (f : List ℕ) (bad : ℕ) (s : List ℕ) {x : Value} → bad ≡ 0 → j < v → value_from t v (row_at t j) f ≡ holds x
+step_held : (t : List ℤ) (v j : ℕ) (f : List ℕ) (bad : ℕ) (s : List ℕ) {x : Value} → bad ≡ 0 → j < v → value_from t v (row_at t j) f
+    ≡ holds x
     → walk_of 0 (written_of t v (row_at t j) x s) ≡ step t v j f bad s
 unfolding step step_by
 step_held t v j f bad s e h k = rw (e, lt-ltb j v h, k)

@@ -1,6 +1,8 @@
 -- A field in quotes without its doubled quotes.
-use Rattle.std.specs.Prelude.{◌≡◌, refl, Bool, true, false, cond, List, [], ◌∷◌, ◌++◌, ℕ, zero, suc, ◌+◌, ◌-◌, ◌≤◌, ◌<◌, eqb, length, take, drop, get_or, set}
-use Rattle.std.proofs.Common.{sym, ap, ◌∙◌, append-nil, append_assoc, add-one, arith, eqb-true, drop_of_length-le, length-append, drop-cons, drop-drop, take-suc-set, length-take-le}
+use Rattle.std.specs.Prelude.{◌≡◌, refl, Bool, true, false, cond, List, [], ◌∷◌, ◌++◌, ℕ, zero, suc, ◌+◌, ◌-◌, ◌≤◌, ◌<◌, eqb, length, take}
+use Rattle.std.specs.Prelude.{drop, get_or, set}
+use Rattle.std.proofs.Common.{sym, ap, ◌∙◌, append-nil, append_assoc, add-one, arith, eqb-true, drop_of_length-le, length-append, drop-cons}
+use Rattle.std.proofs.Common.{drop-drop, take-suc-set, length-take-le}
 use Rattle.commas.specs.rule.Csv.{doubled_byte, doubled}
 
 -- of two quotes the second is left out

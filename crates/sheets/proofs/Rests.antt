@@ -2,7 +2,7 @@
 use mathlib.Core.Path.{◌≡◌, refl, sym, ap, ◌∙◌}
 use mathlib.Core.Bool.{Bool, true, false, cond}
 use mathlib.Core.List.{List}
-use Prim.Native.Nat.{ℕ, ◌+◌, ◌*◌, ◌≤◌, ◌<◌}
+use Prim.Native.Nat.{ℕ, ◌+◌, ◌*◌, ◌≤◌}
 use native.Mathlib.Omega.{arith}
 use lib.IntN.{ℤ}
 use lib.ListN.{length}
@@ -35,7 +35,7 @@ use Rattle.elements.proofs.Dues.{missed, due_then}
 use Rattle.blocks.specs.Code.{block_of, listed_of, Stored}
 use Rattle.prefaces.specs.Code.{reading_of}
 use Rattle.xml_bridge.specs.Book.{block_as}
-use Rattle.xml_laws.specs.Reads.{Sized, size_fine}
+use Rattle.xml_laws.specs.Reads.{size_fine}
 use Rattle.sheets.specs.Code.{end_in, values_ended, size_ended, valued_of, Valued, plain_of, sized_of}
 
 after : {A B C : Type 0} (x : Result A) (f : A → Reader B) (g : B → Reader C) → bind x (λ a n. bind (f a n) g) ≡ bind (bind x f) g

@@ -1,9 +1,8 @@
 -- A filter or none, by what the code was told of what stands there.
-use mathlib.Core.Path.{◌≡◌, refl, sym, ap, ◌∙◌}
+use mathlib.Core.Path.{◌≡◌, refl, ap, ◌∙◌}
 use mathlib.Core.Bool.{Bool, true, false, cond}
 use mathlib.Core.List.{List}
 use Prim.Native.Nat.{ℕ, ◌+◌}
-use lib.ListN.{length}
 use Rattle.tags.specs.rule.Tag.{is_named}
 use Rattle.tokens.specs.declared.Fault.{Fault}
 use Rattle.survey.specs.rule.Survey.{KeptText}
@@ -18,10 +17,8 @@ use Rattle.elements.specs.declared.Open.{Open}
 use Rattle.elements.specs.declared.Open.TheVariants as opened
 use Rattle.elements.specs.declared.Due.TheVariants as dues
 use Rattle.elements.specs.Code.{read_of, starts_of, due_of, Within}
-use Rattle.elements.proofs.Dues.{missed}
 use Rattle.filters.specs.declared.Filtered.TheVariants as found
 use Rattle.filters.specs.Code.{filtered_of}
-use Rattle.sheets.specs.declared.Sifted.{Sifted}
 use Rattle.sheets.specs.Code.{sifted_of}
 
 pub sifted_tag : (d : List ℕ) (f : ℕ) (o : Open) → Within d 0 o → Within d 0 (sifted_of (bind (read_of o) λ x n. Is (with f x) n)).tag

@@ -8,7 +8,7 @@ use Rattle.elements.specs.Code.{read_of}
 use Rattle.elements.proofs.Dues.{read_open}
 use Rattle.sheets.specs.Code.{sifted_of}
 use Rattle.sheets.proofs.Parts.{within_first}
-use Rattle.sheets.proofs.Sifts.{sifted_tag, filter_is, filter_not, filter_at}
+use Rattle.sheets.proofs.Sifts.{sifted_tag, filter_is, filter_not}
 use Rattle.sheets.proofs.read_filter.Goals as goal
 
 pub find_open-o-requires : goal.find_open-o-requires
