@@ -1,24 +1,30 @@
 -- What the call keeps: the text measured, and the text stored.
-use Rattle.std.specs.Prelude.{◌≡◌, refl, ◌⊎◌, List, ◌++◌, ℕ, ◌+◌, ◌*◌, ◌≤◌, ◌<◌, ℤ, length, drop}
-use Rattle.std.proofs.Common.{ap, ◌∙◌, inl, inr, arith}
+use Rattle.std.specs.Prelude.{◌≡◌, refl, ◌⊎◌, Bool, true, false, cond, List, ◌++◌, ℕ, ◌+◌, ◌*◌, ◌≤◌, ◌<◌, ltb, ℤ, length, drop}
+use Rattle.std.proofs.Common.{sym, ap, ◌∙◌, inl, inr, arith}
 use borrow.Author.Tests.{lt-ltb, le-ltb}
 use Rattle.below.specs.Below.{lt_or_le}
 use Rattle.layout.specs.rule.Layout.{line_base, most_rows, most_lines}
 use Rattle.survey.specs.rule.Survey.{Variable, Survey}
+use Rattle.survey.specs.rule.Table.{table_of}
 use Rattle.reading.specs.rule.Result.{Is}
 use Rattle.reading.specs.rule.Whole.{survey_of}
 use Rattle.values.specs.Room.{Unless}
 use Rattle.laying.specs.declared.Rooms.TheVariants as rooms
 use Rattle.bridge.specs.Lowest.{never}
-use Rattle.definition.specs.declared.Against.TheVariants.{Same, Refused}
+use Rattle.laying.specs.rule.Begins.{begins_table}
+use Rattle.definition.specs.declared.Against.{Against}
+use Rattle.definition.specs.declared.Against.TheVariants.{Same, Other, Refused}
 use Rattle.definition.specs.rule.Definition.{SssOutcome, Built, Refusal, sss_outcome}
 use Rattle.definition.specs.rule.Against.{sss_held, sss_against}
 use Rattle.grammar_laws.specs.Outcome.{Settles, read, too_long, stopped, misnamed, no_room, outcome_exactly}
 use Rattle.grammar_laws.specs.Whole.{survey_is, definition_exactly}
 use Rattle.sink.specs.rule.Sent.{Sent}
 use Rattle.sink.specs.Sent.{sets_front}
+use Rattle.clean_text.specs.rule.Clean.{clean_of}
 use Rattle.fronts.specs.Front.{whole_text}
 use Rattle.front_laws.specs.Read.{read_clean}
+use Rattle.clean.specs.declared.Written.{Written}
+use Rattle.clean.specs.declared.Written.TheVariants as written
 use Rattle.clean.specs.rule.Written.{Writing, Text, clean_fitted, cleaned, clean_written, out_after}
 use Rattle.clean.specs.rule.Written as rule
 use Rattle.clean.specs.Most.{clean_most}

@@ -1,12 +1,12 @@
 -- What a look tells: a word, a number, a string that stand just as they are to be written, and the lines that they make.
-use Rattle.std.specs.Prelude.{◌≡◌, refl, Bool, true, false, not, ◌&&◌, ◌||◌, List, [], ◌∷◌, ◌++◌, ℕ, suc, ◌+◌, ◌-◌, ◌≤◌, ◌<◌}
+use Rattle.std.specs.Prelude.{◌≡◌, refl, Bool, true, false, cond, not, ◌&&◌, ◌||◌, List, [], ◌∷◌, ◌++◌, ℕ, zero, suc, ◌+◌, ◌-◌, ◌≤◌, ◌<◌}
 use Rattle.std.specs.Prelude.{eqb, leb, ltb}
 use Rattle.std.proofs.Common.{sym, ◌∙◌, ⊎_elim, leb-true, ltb-true, eqb-true, eq-eqb}
 use Rattle.std.proofs.Math.Path.{ap}
 use native.Mathlib.Omega.{arith}
 use Rattle.std.proofs.Math.ListN.{length, get_or}
 use Rattle.std.proofs.lemmas.Bool.{eqb-false}
-use Rattle.below.specs.Below.{holds_not, and_left, and_right, either_true}
+use Rattle.below.specs.Below.{holds_not, and_left, and_right, either_true, lt_or_le}
 use Rattle.ascii.specs.rule.Class.{upper_of}
 use Rattle.scan.specs.rule.Text.{Text, sign, text}
 use Rattle.scan.specs.rule.Number.{is_digit, is_value, run_of}
@@ -26,7 +26,7 @@ use Rattle.tokens.specs.rule.Gap.{gap_at}
 use Rattle.tokens.proofs.Gaps.{gap_blank}
 use Rattle.tokens.proofs.Leads.{space_parts}
 use Rattle.steps.specs.declared.Span.{Span}
-use Rattle.steps.specs.Step.{span, found_in, word_past, word_found, notes_past, statement_past, statement_found, number_span}
+use Rattle.steps.specs.Step.{span, found_in, word_past, word_found, notes_past, statement_past, statement_found, gap_past, number_span}
 use Rattle.steps.specs.Step.{phrase_in}
 use Rattle.steps.specs.Step.{string_span, value_span, keyword_past}
 use Rattle.steps.specs.Law.{found}
