@@ -21,7 +21,8 @@ use Rattle.commas.specs.rule.Csv.{holds_special}
 use Rattle.csv_fields.specs.Page.{part, part_rest, BareTo}
 use Rattle.value_fields.specs.rule.Values.{export_number, set_text, export_value}
 use Rattle.widths.specs.rule.Width.{decimals_of}
-use Rattle.value_fields.specs.Plain.{number_plain, set_plain, truth_plain}
+use Rattle.value_fields.specs.Plain.{truth_plain}
+use Rattle.value_fields.proofs.Plain.{number_plain, set_plain}
 use Rattle.number_fields.specs.Reads.{Reads, reads_none, reads_byte, reads_join, reads_as, CodeAt}
 use Rattle.writes.specs.declared.Value as given
 use Rattle.writes.specs.declared.Value.TheVariants.{Missing, Number, Set, Text, Truth}

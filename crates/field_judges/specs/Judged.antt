@@ -27,7 +27,8 @@ use Rattle.csv_fields.specs.Page.{part, part_none, part_more, part_rest, Bared, 
 use Rattle.csv_fields.proofs.Page.{bared_more}
 use Rattle.value_fields.specs.rule.Values.{export_number, codes_behind, set_text, export_value}
 use Rattle.widths.specs.rule.Width.{decimals_of}
-use Rattle.value_fields.specs.Plain.{number_plain, set_plain, truth_plain}
+use Rattle.value_fields.specs.Plain.{truth_plain}
+use Rattle.value_fields.proofs.Plain.{number_plain, set_plain}
 use Rattle.number_fields.specs.Reads.{Reads, reads_none, reads_byte, reads_join, reads_as, reads_part, NumberAt, CodeAt}
 use Rattle.writes.specs.Write.{answer_by}
 use Rattle.writes.specs.declared.Wrote.{Wrote}

@@ -14,7 +14,7 @@ use Rattle.lines.specs.rule.Text.{numeral}
 use Rattle.lines.specs.Appended.{numeral_length}
 use Rattle.ascii.specs.Tens.{digits_least}
 use Rattle.value_fields.specs.rule.Values.{amount_text, export_number, codes_behind, set_text}
-use Rattle.value_fields.specs.Values.{amount_whole, amount_parts}
+use Rattle.value_fields.proofs.Values.{amount_whole, amount_parts}
 use Rattle.field_values.specs.rule.Value.{zeros, Left, whole, cut, unpointed}
 use Rattle.field_values.specs.rule.Read.{capped, capped_from, size_guess, number_guess, codes_in, set_guess}
 use Rattle.field_values.specs.Left.{length_zeros, same_tail}

@@ -36,7 +36,8 @@ module _ {l m : List Sign} {x : Sign} (e : l ≡ x ∷ m) (raw : List ℕ) (i : 
   unfolding same_bytes
   name_byte h = rw (e, undoubled_next raw i h)
 
-  pub name_other : i < length raw → {b : ℕ} → b ≡ sign_byte x → (b ≡ get_or raw i 0 → ⊥) → same_bytes (bytes_of l) (undoubled false (drop i raw))
+  pub name_other : i < length raw → {b : ℕ} → b ≡ sign_byte x → (b ≡ get_or raw i 0 → ⊥)
+      → same_bytes (bytes_of l) (undoubled false (drop i raw))
       ≡ false
   name_other h is n = name_byte h ∙ rw (ne_eqb (sign_byte x) (get_or raw i 0) (λ k. n (is ∙ k)))
 
@@ -84,7 +85,8 @@ module _ (def : List ℕ) (t : List ℤ) (rows j : ℕ) (f : List ℕ) {bad p n 
     (i : n ≡ long_at t j) {q : Bool} (w : q ≡ same_bytes (name_text def p n) f) where
   the_row : {b : Bool} → q ≡ b → cond b 0 (j + 1) ≡ name_step (name_at def t) rows j f bad
   the_row {b} x = one_row (name_at def t) rows j f bad e h
-      (ap (λ (y : ℕ). same_bytes (name_text def y (long_at t j)) f) (sym k) ∙ ap (λ (y : ℕ). same_bytes (name_text def p y) f) (sym i) ∙ sym w
+      (ap (λ (y : ℕ). same_bytes (name_text def y (long_at t j)) f) (sym k) ∙ ap (λ (y : ℕ). same_bytes (name_text def p y) f) (sym i)
+      ∙ sym w
       ∙ x)
 
   pub one_same : q ≡ true → 0 ≡ name_step (name_at def t) rows j f bad
@@ -148,7 +150,8 @@ pub record Naming (g : ℕ → List ℕ) (rows : ℕ) (d : List ℕ) (at j bad :
   pub on : j ≤ at
   pub within : at ≤ length d
   pub reads : page_lines (page fresh d) ≡ with_fields fields (page_lines (page fresh (drop at d)))
-  pub differs : (gs : List (List ℕ)) → differ_at 1 (each g 0 rows) (fields ++ gs) ≡ or_later bad (differ_at (j + 1) (each g j (rows - j)) gs)
+  pub differs : (gs : List (List ℕ)) → differ_at 1 (each g 0 rows) (fields ++ gs)
+      ≡ or_later bad (differ_at (j + 1) (each g j (rows - j)) gs)
 
 pub naming_none : (g : ℕ → List ℕ) (rows : ℕ) (d : List ℕ) → Naming g rows d 0 0 0
 unfolding with_fields or_later
@@ -222,7 +225,8 @@ module _ {g : ℕ → List ℕ} {rows : ℕ} {d : List ℕ} {at j bad : ℕ} (w 
       ∙ ap (λ (i : ℕ). broken (i + 1)) (sym w.count)
 
   pub naming_last : {p q next b : ℕ} {c : Bool} → Found d (page fresh (drop at d)) p q c next (λ f. last f (page start (drop next d)))
-      → b ≡ name_step g rows j (undoubled false (take (q - p) (drop p d))) bad → NamesTaken (each g 0 rows) d (names_end rows (j + 1) b next)
+      → b ≡ name_step g rows j (undoubled false (take (q - p) (drop p d))) bad
+      → NamesTaken (each g 0 rows) d (names_end rows (j + 1) b next)
   unfolding page_lines names_end
   naming_last {p} {q} {next} {b} {c} k e = go (eqb b 0) refl (ltb (j + 1) rows) refl
     where

@@ -1,6 +1,8 @@
 -- What the code keeps of the output while it builds the records of a text that is accepted.
-use Rattle.std.specs.Prelude.{◌≡◌, refl, Bool, true, false, cond, List, [], ◌∷◌, ◌++◌, ℕ, zero, suc, ◌+◌, ◌-◌, ◌*◌, ◌≤◌, ◌<◌, min, eqb, ℤ, length, take, drop}
-use Rattle.std.proofs.Common.{sym, ap, ◌∙◌, append-nil, append_assoc, ⊎_elim, suc-mul, mul-le-mul_right, arith, length-append, length-drop, take_at, drop_at, drop-drop}
+use Rattle.std.specs.Prelude.{◌≡◌, refl, Bool, true, false, cond, List, [], ◌∷◌, ◌++◌, ℕ, zero, suc, ◌+◌, ◌-◌, ◌*◌, ◌≤◌, ◌<◌, min, eqb, ℤ}
+use Rattle.std.specs.Prelude.{length, take, drop}
+use Rattle.std.proofs.Common.{sym, ap, ◌∙◌, append-nil, append_assoc, ⊎_elim, suc-mul, mul-le-mul_right, arith, length-append, length-drop}
+use Rattle.std.proofs.Common.{take_at, drop_at, drop-drop}
 use Rattle.below.specs.Below.{lt_or_le}
 use Rattle.layout.specs.rule.Row.{row_at}
 use Rattle.fields.specs.rule.Field.{Value, Field, holds, illegal, spaces}
@@ -56,7 +58,8 @@ pub line_sized : (t : List ℤ) (fs : List (List ℕ)) {s : List ℕ} → line_s
 unfolding line_says
 line_sized t fs {s} e = by (eqb (length fs) (rows_of t)) e
   where
-    by : (q : Bool) → cond q (record_from t (rows_of t) 0 fs (spaces (length_of t))) (faulty 63 (min (length fs) (rows_of t) + 1)) ≡ builds s
+    by : (q : Bool) → cond q (record_from t (rows_of t) 0 fs (spaces (length_of t))) (faulty 63 (min (length fs) (rows_of t) + 1))
+        ≡ builds s
         → length s ≡ length_of t
     by true h = record_sized t (rows_of t) 0 fs (spaces (length_of t)) h ∙ length_spaces (length_of t)
     by false h = not_builds h

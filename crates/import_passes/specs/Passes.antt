@@ -124,7 +124,8 @@ abbrev pub JudgedAs : TextSays → Judged → Type 0
 JudgedAs says (judged.Done n) = Accepted says n
 JudgedAs says (judged.Refused k l c) = says ≡ refuses k l c
 
-line_says_lem : (t : List ℤ) (d : List ℕ) (at n : ℕ) → at < length d → {fs : List (List ℕ)} {ls : Lines} → page_lines (page fresh (drop at d))
+line_says_lem : (t : List ℤ) (d : List ℕ) (at n : ℕ) → at < length d → {fs : List (List ℕ)} {ls : Lines}
+    → page_lines (page fresh (drop at d))
     ≡ line fs ls
     → lines_say t n (page_lines (page start (drop at d))) ≡ after_line n (line_says t fs) (lines_say t (n + 1) ls)
 unfolding lines_say

@@ -40,7 +40,8 @@ use Rattle.cuts.specs.rule.Records.{Records, over, unended, record_and}
 use Rattle.commas.specs.rule.Csv.{holds_special, doubled_byte, doubled, field_bytes, line_bytes, csv_bytes}
 use Rattle.commas.specs.Csv.{field_plain, comma_before, line_left, left_line}
 use Rattle.value_fields.specs.rule.Values.{amount_text, export_number, codes_behind, set_text, export_value, export_field, row_field}
-use Rattle.value_fields.specs.Plain.{number_plain, set_plain, truth_plain}
+use Rattle.value_fields.specs.Plain.{truth_plain}
+use Rattle.value_fields.proofs.Plain.{number_plain, set_plain}
 use Rattle.record_lines.specs.rule.Lines.{record_line, records_lines}
 
 -- ---- the most bytes of a field, by its row

@@ -1,9 +1,10 @@
 -- ONE OUTCOME, the layout, and where the presence byte and the value of each record and column stand.
 -- Assumes nothing.
-use Rattle.std.specs.Prelude.{◌≡◌, refl, List, [], ◌∷◌, ◌++◌, ℕ, suc, ◌+◌, ◌*◌, ◌≤◌, ◌<◌, ℤ}
+use Rattle.std.specs.Prelude.{◌≡◌, refl, List, [], ◌∷◌, ◌++◌, ℕ, zero, suc, ◌+◌, ◌*◌, ◌≤◌, ◌<◌, ℤ}
 use Rattle.std.specs.Prelude.{pos, length, get_or, take, drop}
 use Rattle.std.proofs.Common.{sym, ap, ◌∙◌, suc-mul, mul-le-mul_right, arith}
-use Rattle.std.proofs.Common.{length-append, get_or-drop, drop-drop}
+use Rattle.std.proofs.Common.{length-append, get_or-drop, drop-drop, append_assoc, take_at}
+use Rattle.std.proofs.Math.Seq.{drop-append-add}
 use Rattle.std.specs.Float.{binary64}
 use Rattle.std.specs.Float.Ieee.{to_bits}
 use Rattle.sound.specs.rule.Rows.{rows_of}
@@ -17,7 +18,7 @@ use Rattle.matrix.specs.rule.Entry.{presence_of, float_of, flags_of, value_bytes
 use Rattle.matrix.specs.Put.{put_entries}
 use Rattle.matrix.specs.rule.Bytes.{presence_at, values_at, total_of, header_bytes, summary_bytes}
 use Rattle.matrix.specs.Entry.{length_flags, length_values, length_entries}
-use Rattle.matrix.specs.Bytes.{length_header}
+use Rattle.matrix.specs.Bytes.{length_header, length_summary}
 use Rattle.matrix.specs.Stride.{presence_there, bytes_there}
 use Rattle.columns.specs.rule.Columns.{Column, entry_of, member_entry, number_entry}
 use Rattle.matrices.specs.rule.Matrix.{table_columns, matrix_entries, column_entries, summaries_of, matrix_of, MatrixVerdict}
@@ -144,3 +145,21 @@ absent_zero = (refl, refl)
 pub empty_present : (c : ℕ) → (member_entry c (holds (members [])) ≡ Scaled (pos 0) 1) × (presence_of (Scaled (pos 0) 1) ≡ 1)
 unfolding member_entry presence_of is_member
 empty_present c = (refl, refl)
+
+-- a column's summary stands at its place among the summaries
+summary_at : (t : List ℤ) (v : ℕ) (rs : List (List ℕ)) (cs : List Column) (k : ℕ) (rest : List ℕ) → k < length cs
+    → take 24 (drop (24 * k) (summaries_of t v rs cs ++ rest)) ≡ summary_bytes (summary_of (present_of (column_entries t v (column_at cs k) rs)))
+unfolding summaries_of
+summary_at t v rs [] k rest h = absurd (omega arith)
+summary_at t v rs (c ∷ cs) zero rest h =
+    let s = summary_of (present_of (column_entries t v c rs)) in
+    ap (take 24) (append_assoc (summary_bytes s) (summaries_of t v rs cs) rest)
+    ∙ take_at (summary_bytes s) (summaries_of t v rs cs ++ rest) 24 (length_summary s)
+summary_at t v rs (c ∷ cs) (suc k) rest h =
+    let s = summary_of (present_of (column_entries t v c rs)) in
+    let b = summary_bytes s in
+    let e : 24 * suc k ≡ length b + 24 * k = omega (arith, length_summary s) in
+    ap (λ (i : ℕ). take 24 (drop i ((b ++ summaries_of t v rs cs) ++ rest))) e
+    ∙ ap (λ (l : List ℕ). take 24 (drop (length b + 24 * k) l)) (append_assoc b (summaries_of t v rs cs) rest)
+    ∙ ap (take 24) (drop-append-add b (summaries_of t v rs cs ++ rest) (24 * k))
+    ∙ summary_at t v rs cs k rest (omega arith)

@@ -10,7 +10,7 @@ use Rattle.fields.specs.rule.Number.{padded}
 use Rattle.digits.specs.Right.{padded_right}
 use Rattle.lines.specs.rule.Text.{numeral}
 use Rattle.value_fields.specs.rule.Values.{amount_text, export_number}
-use Rattle.value_fields.specs.Values.{amount_none, amount_parts}
+use Rattle.value_fields.proofs.Values.{amount_none, amount_parts}
 use Rattle.value_fields.specs.Numeral.{numeral_one, numeral_more}
 
 -- THESE BYTES STAND from one place to another

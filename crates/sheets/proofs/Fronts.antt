@@ -1,18 +1,14 @@
 -- A variable up to its position, part by part; and what stands where a tag is due, by what the code was told.
-use mathlib.Core.Path.{◌≡◌, refl, sym, ap, ◌∙◌}
-use mathlib.Core.Bool.{Bool, true, false, cond}
+use mathlib.Core.Path.{◌≡◌, refl, sym, ap}
+use mathlib.Core.Bool.{Bool}
 use mathlib.Core.List.{List}
-use mathlib.Core.Option.{get_or}
-use Prim.Native.Nat.{ℕ, ◌+◌, ◌≤◌}
-use native.Mathlib.Omega.{arith}
-use lib.ListN.{length}
+use Prim.Native.Nat.{ℕ}
 use Rattle.scan.specs.Number.{capped}
 use Rattle.tokens.specs.declared.Fault.{Fault}
 use Rattle.tokens.specs.declared.Quoted.{Quoted}
-use Rattle.tokens.specs.declared.Phrase.{Phrase}
 use Rattle.tokens.specs.declared.Phrase.TheVariants as phrase
 use Rattle.survey.specs.rule.Survey.{KeptText}
-use Rattle.reading.specs.rule.Result.{Result, Is, Not, Reader, bind, give}
+use Rattle.reading.specs.rule.Result.{Result, Is, Not, bind}
 use Rattle.reading.specs.rule.Statement.{Position}
 use Rattle.bridge.specs.Lowest.{never}
 use Rattle.elements.specs.Code.{phrase_of}
@@ -21,7 +17,7 @@ use Rattle.filters.specs.Code.{titled_of}
 use Rattle.xml_reading.specs.rule.Role.{XmlEntry, Title, title}
 use Rattle.xml_reading.specs.rule.Variable.{Manner}
 use Rattle.sheets.specs.declared.Fronted.TheVariants as fronted
-use Rattle.sheets.specs.Code.{Front, name_in, label_in, position_in, front_of, fronted_of, placed_of}
+use Rattle.sheets.specs.Code.{name_in, label_in, position_in, front_of, fronted_of, placed_of}
 
 abbrev text_of : Quoted → KeptText
 text_of q = record { place = q.place; length = q.length }

@@ -1,9 +1,9 @@
 -- Inside a variable: what is due is found first and read then, and each answer lies within the file.
-use mathlib.Core.Path.{◌≡◌, refl, sym, ap, ◌∙◌}
-use mathlib.Core.Bool.{Bool, true, false, cond}
+use mathlib.Core.Path.{◌≡◌, refl, ap, ◌∙◌}
+use mathlib.Core.Bool.{Bool}
 use mathlib.Core.List.{List}
 use mathlib.Core.Option.{get_or}
-use Prim.Native.Nat.{ℕ, ◌+◌, ◌≤◌, ◌<◌}
+use Prim.Native.Nat.{ℕ, ◌≤◌}
 use native.Mathlib.Omega.{arith}
 use lib.ListN.{length}
 use borrow.Author.Tests.{le-ltb}
@@ -23,7 +23,6 @@ use Rattle.bridge.specs.Statements.{to_stated}
 use Rattle.bridge.specs.Lowest.{never}
 use Rattle.xml_reading.specs.rule.Word.{VARIABLE}
 use Rattle.xml_reading.specs.rule.Open.{within_element, due}
-use Rattle.elements.specs.declared.Due.{Due}
 use Rattle.elements.specs.declared.Due.TheVariants as dues
 use Rattle.elements.specs.Code.{due_of, phrase_of}
 use Rattle.xml_reading.specs.rule.Open.{start, shut}
@@ -31,7 +30,7 @@ use Rattle.xml_reading.specs.rule.Open as rule
 use Rattle.elements.specs.declared.Open.{Open}
 use Rattle.elements.specs.declared.Open.TheVariants as opened
 use Rattle.elements.specs.Code.{Within}
-use Rattle.elements.proofs.Dues.{read_open, read_due, due_then}
+use Rattle.elements.proofs.Dues.{read_due, due_then}
 use Rattle.xml_laws.specs.Reads.{Lying, Positioned, bound, within_long}
 use Rattle.xml_laws.specs.Entries.{due_is}
 use Rattle.sheets.specs.Code.{due_in, DueEnds, PhraseEnds, StatedEnds, placed_of}

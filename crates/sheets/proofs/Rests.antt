@@ -2,7 +2,7 @@
 use mathlib.Core.Path.{◌≡◌, refl, sym, ap, ◌∙◌}
 use mathlib.Core.Bool.{Bool, true, false, cond}
 use mathlib.Core.List.{List}
-use Prim.Native.Nat.{ℕ, ◌+◌, ◌*◌, ◌≤◌, ◌<◌}
+use Prim.Native.Nat.{ℕ, ◌+◌, ◌*◌, ◌≤◌}
 use native.Mathlib.Omega.{arith}
 use lib.IntN.{ℤ}
 use lib.ListN.{length}
@@ -35,7 +35,7 @@ use Rattle.elements.proofs.Dues.{missed, due_then}
 use Rattle.blocks.specs.Code.{block_of, listed_of, Stored}
 use Rattle.prefaces.specs.Code.{reading_of}
 use Rattle.xml_bridge.specs.Book.{block_as}
-use Rattle.xml_laws.specs.Reads.{Sized, size_fine}
+use Rattle.xml_laws.specs.Reads.{size_fine}
 use Rattle.sheets.specs.Code.{end_in, values_ended, size_ended, valued_of, Valued, plain_of, sized_of}
 
 after : {A B C : Type 0} (x : Result A) (f : A → Reader B) (g : B → Reader C) → bind x (λ a n. bind (f a n) g) ≡ bind (bind x f) g
@@ -109,7 +109,8 @@ module _ (bad : Bool) (d : List ℕ) where
 
     values_ended_lem : (o : Open) {p e : ℕ} → due_of (bind (read_of o) λ x. due bad d VALUES x give) ≡ dues.At p e
         → bind (read_of o) (values_ended bad d languages isQuantity before) ≡ bind (read p e) K
-    values_ended_lem o f = after (read_of o) (λ x. due bad d VALUES x read) K ∙ ap (λ (r : Result Block). bind r K) (due_from VALUES o read f)
+    values_ended_lem o f = after (read_of o) (λ x. due bad d VALUES x read) K
+        ∙ ap (λ (r : Result Block). bind r K) (due_from VALUES o read f)
 
     values_never : (o : Open) {g : Fault} → due_of (bind (read_of o) λ x. due bad d VALUES x give) ≡ dues.Not g
         → bind (read_of o) (values_ended bad d languages isQuantity before) ≡ Not g

@@ -1,12 +1,11 @@
 -- A VARIABLE AS A ROW: what is read behind its position, measured, is the rule's variable; its row is small enough for the room.
 use mathlib.Core.Path.{◌≡◌, refl, sym, ap, ◌∙◌}
-use mathlib.Core.Logic.{◌⊎◌, inl, inr}
 use mathlib.Core.Bool.{Bool, true, false, cond, not}
 use mathlib.Core.List.{List, [], ◌∷◌, ◌++◌}
-use mathlib.Core.Option.{Option, none, some, get_or}
+use mathlib.Core.Option.{get_or}
 use Prim.Native.Nat.{ℕ, ◌+◌, ◌-◌, ◌*◌, ◌≤◌, ◌<◌}
 use native.Mathlib.Omega.{arith}
-use lib.Dec.{eqb, ltb}
+use lib.Dec.{eqb}
 use lib.IntN.{ℤ}
 use lib.ListN.{length, length-append, take, drop}
 use borrow.Author.Tests.{le-ltb, eqb-true, eqb-false, ltb-true, not-false}
@@ -28,27 +27,25 @@ use Rattle.tokens.specs.declared.Quoted.{Quoted}
 use Rattle.values.specs.declared.Block as books
 use Rattle.variables.specs.declared.Head.{Head}
 use Rattle.variables.specs.declared.Rest.{Rest}
-use Rattle.variables.specs.declared.Rested.{Rested}
 use Rattle.variables.specs.declared.Rested.TheVariants as rested
 use Rattle.measures.specs.Width.{number_in, Measurable, full_columns, widened, plain_columns}
 use Rattle.measures.specs.Survey.{counted_in, columns_in, holds_in}
 use Rattle.measures.specs.Good.{GoodVariable}
 use Rattle.entries.specs.Entry.{settled_by}
-use Rattle.entries.specs.declared.Stood.{Stood}
 use Rattle.entries.specs.declared.Stood.TheVariants as stood
-use Rattle.survey.specs.rule.Survey.{Figure, KeptText, Spread, Block, Content, single, multiple, quantity, character, logical, Variable}
-use Rattle.survey.specs.rule.Width.{block_in, finish_in, room_in}
+use Rattle.survey.specs.rule.Survey.{KeptText, Content, single, multiple, quantity, character, logical, Variable}
+use Rattle.survey.specs.rule.Width.{block_in}
 use Rattle.survey.specs.rule.Table.{type_of, spread_in, variable_columns, lines_of, lines_all, cells_of, holds}
 use Rattle.reading.specs.rule.Result.{Result, Is, Not, Reader, bind}
-use Rattle.reading.specs.rule.Least.{Charge, ◌when◌, judged}
+use Rattle.reading.specs.rule.Least.{◌when◌, judged}
 use Rattle.reading.specs.rule.Statement.{Position}
 use Rattle.reading.specs.rule.Variable.{ident_charges, room, variable_of, held}
 use Rattle.bridge.specs.Lowest.{never}
-use Rattle.bridge.specs.Contents.{Parts, bits, fields}
-use Rattle.xml_reading.specs.rule.Word.{VARIABLE, NAME, LABEL, POSITION, VALUES, SIZE, IDENT, TYPE, USE}
-use Rattle.xml_reading.specs.rule.Open.{Open, within_element, due, over, unknown_at, on_tag, entered}
+use Rattle.bridge.specs.Contents.{bits, fields}
+use Rattle.xml_reading.specs.rule.Word.{VARIABLE, NAME, LABEL, POSITION, SIZE, IDENT, TYPE, USE}
+use Rattle.xml_reading.specs.rule.Open.{Open, within_element, due, over, unknown_at}
 use Rattle.xml_reading.specs.rule.Element.{figure_of, text, position, size}
-use Rattle.xml_reading.specs.rule.Block.{rich, values}
+use Rattle.xml_reading.specs.rule.Block.{rich}
 use Rattle.xml_reading.specs.rule.Role.{XmlEntry, Title, variables_of, type_at, use_at, use_wrong, has_served, title, naming}
 use Rattle.xml_reading.specs.rule.Variable.{Manner, Then, filtered, spreading, block, ended, content, variable}
 use Rattle.xml_reading.specs.rule.Whole.{used_by, columns_for}
@@ -62,7 +59,7 @@ use Rattle.xml_bridge.specs.Table as table
 use Rattle.laying.specs.declared.Tally.{Tally}
 use Rattle.laying.specs.Code.{tally_with}
 use Rattle.laying.proofs.Small.{small_columns}
-use Rattle.elements.specs.Code.{read_of, open_of}
+use Rattle.elements.specs.Code.{read_of}
 use Rattle.elements.proofs.Dues.{read_open}
 use Rattle.filters.specs.Code.{Lying}
 use Rattle.filters.specs.Sums as summed
@@ -77,7 +74,7 @@ use Rattle.xml_laws.specs.Reads as Laws
 use Rattle.xml_laws.specs.Sheets.{Named, none_named, more_named}
 use Rattle.xml_laws.specs.Reads.{text_long, position_fine, judged_is, moved, clear_head, opened, bound, within_long}
 use Rattle.xml_laws.specs.Parts.{after_content, after_filter, after_position, after_label, after_name, after_title, variable_is}
-use Rattle.xml_laws.specs.Entries.{Titled, due_is, title_fine, Filter, no_filter, one_filter, filtered_fine, Contained, content_fine}
+use Rattle.xml_laws.specs.Entries.{due_is, title_fine, Filter, no_filter, one_filter, filtered_fine, Contained, content_fine}
 use Rattle.xml_laws.specs.Entries.{room_some, room_few}
 use Rattle.sheets.specs.declared.Fronted.{Fronted}
 use Rattle.sheets.specs.declared.Fronted.TheVariants as fronted
@@ -258,9 +255,9 @@ small_used b v u f g h k = wider (variable_columns b v) (rw (← columns_same b 
     before = s.before;
     lines = s.lines;
     name = s.name;
-    name-len = s.name_len;
+    name_len = s.name_len;
     label = s.label;
-    label-len = s.label_len;
+    label_len = s.label_len;
     usage = omega (arith, h);
     filter = omega (arith, k);
   }
@@ -273,7 +270,8 @@ pub record Settled (b : ℕ) (v : Variable) (n : ℕ) (c : Columns) (last k : �
   pub holding : holds v ≡ true
   pub held_is : held v n ≡ Is v n
 
-settled_is : (b : ℕ) (v : Variable) (n : ℕ) (c : Columns) (last k : ℕ) → stood.Is c last k ≡ stood_from b (held v n) → Settled b v n c last k
+settled_is : (b : ℕ) (v : Variable) (n : ℕ) (c : Columns) (last k : ℕ) → stood.Is c last k ≡ stood_from b (held v n)
+    → Settled b v n c last k
 settled_is b v n c last k = by (held v n) refl where
   by : (r : Result Variable) → held v n ≡ r → stood.Is c last k ≡ stood_from b r → Settled b v n c last k
   by (Is w j) i e =
@@ -438,13 +436,13 @@ module _ (bad : Bool) (d : List ℕ) (long : length d ≤ 1048576) (m : Manner) 
     fine : FineVariable b o.contained.subfields o.contained.subwidth v
     fine = record {
       texts = record {
-        name = omega (arith, x.name_in_lem, long);
-        name-len = omega (arith, x.name_in_lem, long);
-        label = omega (arith, x.label_in_lem, long);
-        label-len = omega (arith, x.label_in_lem, long);
+        name = omega (arith, x.name_in, long);
+        name_len = omega (arith, x.name_in, long);
+        label = omega (arith, x.label_in, long);
+        label_len = omega (arith, x.label_in, long);
       };
-      ident-some = x.titled.some;
-      ident-short = omega (arith, x.short);
+      ident_some = x.titled.some;
+      ident_short = omega (arith, x.short);
       from_one = x.placed.from_one;
       ordered = x.placed.ordered;
       low = x.placed.low;
@@ -570,7 +568,8 @@ pub knows : {latin : Bool} {d seen : List ℕ} {y : Tally} {rows : List ℤ} {su
     → summed.Known latin d rows y.rows sums
 knows k = record { lying = lies k.sofar; summing = k.summing }
 
-lines_of_lem : {d seen : List ℕ} {y : Tally} {rows : List ℤ} {l : List XmlEntry} → Before d seen y rows l → y.lines ≡ lines_all (variables_of l)
+lines_of_lem : {d seen : List ℕ} {y : Tally} {rows : List ℤ} {l : List XmlEntry} → Before d seen y rows l → y.lines
+    ≡ lines_all (variables_of l)
 unfolding tally_of
 lines_of_lem b = ap (λ (y : Tally). y.lines) b.tally
 
@@ -732,15 +731,15 @@ front_known bad d m l q e {x} {n} f =
       is = f ∙ sym g.then_is;
       read = record {
         front = record { title = a.value; name = b.value; label = c.value; position = g.value };
-        head-is = refl;
-        usage-is = refl;
+        head_is = refl;
+        usage_is = refl;
         behind = a.place;
         titled = title_fine bad d m.old l q e a.first_is;
         short = k.short;
         typed = k.typed;
         placed = position_fine bad d gd.place gw.place gd.then_is;
         name_in = (moved (Laws.Lying bad d) bj.0 bj.1 (text_long bad d NAME 0 bd.place bw.place bt.first_is)).inside;
-        label-in = (text_long bad d LABEL (rich m.languages) cd.place cw.place cd.then_is).inside;
+        label_in = (text_long bad d LABEL (rich m.languages) cd.place cw.place cd.then_is).inside;
       };
     })
   where

@@ -1,9 +1,8 @@
 -- A filter or none, by what the code was told of what stands there.
-use mathlib.Core.Path.{◌≡◌, refl, sym, ap, ◌∙◌}
+use mathlib.Core.Path.{◌≡◌, refl, ap, ◌∙◌}
 use mathlib.Core.Bool.{Bool, true, false, cond}
 use mathlib.Core.List.{List}
 use Prim.Native.Nat.{ℕ, ◌+◌}
-use lib.ListN.{length}
 use Rattle.tags.specs.rule.Tag.{is_named}
 use Rattle.tokens.specs.declared.Fault.{Fault}
 use Rattle.survey.specs.rule.Survey.{KeptText}
@@ -18,10 +17,8 @@ use Rattle.elements.specs.declared.Open.{Open}
 use Rattle.elements.specs.declared.Open.TheVariants as opened
 use Rattle.elements.specs.declared.Due.TheVariants as dues
 use Rattle.elements.specs.Code.{read_of, starts_of, due_of, Within}
-use Rattle.elements.proofs.Dues.{missed}
 use Rattle.filters.specs.declared.Filtered.TheVariants as found
 use Rattle.filters.specs.Code.{filtered_of}
-use Rattle.sheets.specs.declared.Sifted.{Sifted}
 use Rattle.sheets.specs.Code.{sifted_of}
 
 pub sifted_tag : (d : List ℕ) (f : ℕ) (o : Open) → Within d 0 o → Within d 0 (sifted_of (bind (read_of o) λ x n. Is (with f x) n)).tag
@@ -41,7 +38,8 @@ module _ (bad : Bool) (d : List ℕ) where
   either_starts : {A : Type 0} (w : List ℕ) (o : Open) (k : ℕ → Reader A) (q : rule.Open → Reader A) {p e : ℕ} → starts_of d o w ≡ true
       → due_of (bind (read_of o) λ x. due bad d w x give) ≡ dues.At p e → bind (read_of o) (λ x. either_element bad d w x k (q x)) ≡ k p e
   either_starts {A} w (opened.Start i j) k q {p} {e} h f = by (is_named d (i + 1) j w) h f where
-    by : (t : Bool) → t ≡ true → due_of (cond t (give i j) (rule.misplaced bad d {A = ℕ} i j)) ≡ dues.At p e → cond t (k i j) (q (start i) j)
+    by : (t : Bool) → t ≡ true → due_of (cond t (give i j) (rule.misplaced bad d {A = ℕ} i j)) ≡ dues.At p e
+        → cond t (k i j) (q (start i) j)
         ≡ k p e
     by true h f = let a : i ≡ p = cc in let b : j ≡ e = cc in rw (a, b)
     by false h f = never cc
@@ -89,7 +87,8 @@ module _ (bad : Bool) (d : List ℕ) where
         ≡ bind (read_of o) none_at
     sift_none o e h = all_by o e ∙ either_other FILTER o filter_at none_at h
 
-    pub sift_one : (o : Open) {p e : ℕ} → m.old ≡ false → starts_of d o FILTER ≡ true → due_of (bind (read_of o) λ x. due bad d FILTER x give)
+    pub sift_one : (o : Open) {p e : ℕ} → m.old ≡ false → starts_of d o FILTER ≡ true
+        → due_of (bind (read_of o) λ x. due bad d FILTER x give)
         ≡ dues.At p e
         → bind (read_of o) (filtered bad d m l name usage) ≡ filter_at p e
     sift_one o g h f = all_by o g ∙ either_starts FILTER o filter_at none_at h f

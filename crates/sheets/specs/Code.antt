@@ -1,7 +1,7 @@
 -- THE CODE'S BOOKS: the answers of the rule's readers (`xml_reading`) as the code of a sheet holds them, and what it keeps of the variables
 -- that
 -- were read.
-use Rattle.std.specs.Prelude.{◌≡◌, Bool, cond, List, [], ◌∷◌, ◌++◌, ℕ, ◌+◌, ◌*◌, ◌≤◌, ◌<◌, ℤ, length, take}
+use Rattle.std.specs.Prelude.{◌≡◌, Bool, List, [], ◌∷◌, ◌++◌, ℕ, ◌+◌, ◌*◌, ◌≤◌, ◌<◌, ℤ, length}
 use Rattle.std.proofs.Math.Option.{Option, none, some, get_or}
 use Rattle.cells.specs.rule.Cell.{pasted}
 use Rattle.layout.specs.rule.Layout.{row_size, line_size, most_rows, most_lines, mark_xml}
@@ -20,7 +20,7 @@ use Rattle.variables.specs.declared.Head.{Head}
 use Rattle.variables.specs.declared.Rest.{Rest}
 use Rattle.variables.specs.declared.Rested.{Rested}
 use Rattle.variables.specs.declared.Rested.TheVariants as rested
-use Rattle.survey.specs.rule.Survey.{Figure, KeptText, Spread, Block, Content, single, multiple, quantity, character, logical}
+use Rattle.survey.specs.rule.Survey.{Figure, KeptText, Spread, Block, Content}
 use Rattle.survey.specs.rule.Width.{block_in}
 use Rattle.survey.specs.rule.Table.{lines_of, lines_all, highest_in, cells_of, all_lines, spread_in}
 use Rattle.reading.specs.rule.Result.{Result, Is, Not, Reader, bind, give}
@@ -34,13 +34,12 @@ use Rattle.xml_reading.specs.rule.Element.{text, position, size}
 use Rattle.xml_reading.specs.rule.Block.{rich, values}
 use Rattle.xml_reading.specs.rule.Role.{XmlEntry, Title, variables_of, title, naming, filter}
 use Rattle.xml_reading.specs.rule.Variable.{Manner, Then, with, filtered, content, variable}
-use Rattle.xml_reading.specs.rule.Sheet.{on_open, variables}
+use Rattle.xml_reading.specs.rule.Sheet.{on_open}
 use Rattle.xml_reading.specs.rule.Whole.{columns_for, xml_rows, xml_table, XmlOutcome, Refusal, xml_fitting, judge_xml_names, declared}
 use Rattle.laying.specs.declared.Tally.{Tally}
 use Rattle.laying.specs.declared.Rooms.{Rooms}
 use Rattle.laying.specs.declared.Rooms.TheVariants as rooms
 use Rattle.laying.specs.Code.{tally_with, cells_in}
-use Rattle.elements.specs.declared.Open.{Open}
 use Rattle.elements.specs.declared.Open.TheVariants as opened
 use Rattle.elements.specs.declared.Due.{Due}
 use Rattle.elements.specs.declared.Due.TheVariants as dues
@@ -234,8 +233,8 @@ pub record FrontRead (bad : Bool) (d : List ℕ) (m : Manner) (l : List XmlEntry
   pub short : front.title.ident.value < 10000
   pub typed : (1 ≤ front.title.type) × (front.title.type ≤ 5)
   pub placed : Positioned bad d front.position at
-  pub name_in_lem : front.name.place + front.name.length ≤ length d
-  pub label_in_lem : front.label.place + front.label.length ≤ length d
+  pub name_in : front.name.place + front.name.length ≤ length d
+  pub label_in : front.label.place + front.label.length ≤ length d
 
 -- a tag that stands behind it, or the refusal
 abbrev pub sifted_of : Result (Then ℕ) → Sifted

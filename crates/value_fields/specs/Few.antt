@@ -3,27 +3,9 @@ use Rattle.std.specs.Prelude.{◌≡◌, Bool, cond, List, [], ◌∷◌, ◌++�
 use Rattle.std.proofs.Math.Path.{refl, sym}
 use Rattle.std.proofs.Common.{ap, ⊎_elim, arith, ltb-true, ltb-false, lt-ltb, le-ltb}
 use Rattle.std.proofs.Math.Bool.{true, false}
-use Rattle.below.specs.Below.{holds_not, lt_or_le}
-use Rattle.fields.specs.rule.Field.{holds, illegal, members, all_entries, spread_set, spread_field}
-use Rattle.sets.specs.rule.Sets.{is_illegal}
-use Rattle.few_codes.specs.Few.{is_among, HeldAll, NextAbove, above, above_next, above_none, members_are, some_held}
-use Rattle.commas.specs.rule.Csv.{field_bytes}
-use Rattle.commas.specs.Csv.{field_plain}
-use Rattle.value_fields.specs.rule.Values.{export_number, codes_behind, set_text, export_value, export_field}
-use Rattle.value_fields.specs.Plain.{set_plain}
-
--- a code is held: those that are, rising
-module _ (w n : ℕ) (s m : List ℕ) (few : w ≤ 4) (all : HeldAll w n s m) where
-  pub held_text : (ok : ℤ → Bool) (r : ℕ) → 1 ≤ r → is_among r m ≡ true → is_illegal (spread_field ok w n s) ≡ false
-      → set_text (above m 0) ≡ field_bytes (export_field 0 (spread_field ok w n s))
-  unfolding spread_field is_illegal export_field export_value
-  held_text ok r h e good = rw (some_held w n s m few all r h e, ← members_are w n s m few all)
-      (go (all_entries ok w n s) (rw (some_held w n s m few all r h e) at good))
-    where
-      go : (q : Bool) → is_illegal (cond q (holds (members (spread_set w n s))) illegal) ≡ false
-          → set_text (spread_set w n s) ≡ field_bytes (export_field 0 (cond q (holds (members (spread_set w n s))) illegal))
-      go true g = field_plain (set_text (spread_set w n s)) (set_plain (spread_set w n s))
-      go false g = holds_not refl g
+use Rattle.below.specs.Below.{lt_or_le}
+use Rattle.few_codes.specs.Few.{NextAbove, above, above_next, above_none}
+use Rattle.value_fields.specs.rule.Values.{export_number, codes_behind, set_text}
 
 -- ---- codes sent one by one: from one on, where it is one
 abbrev pub from_code : List ℕ → ℕ → List ℤ

@@ -4,19 +4,17 @@ use Rattle.std.proofs.Common.{sym, ◌∙◌, ⊎_elim, add-one, arith, set-set}
 use Rattle.std.proofs.Math.Path.{ap}
 use mathlib.Core.List.{List, [], ◌∷◌, ◌++◌}
 use Rattle.std.proofs.Math.ListN.{set, length-set}
-use Rattle.std.proofs.Math.Seq.{sets, length-sets}
+use Rattle.std.proofs.Math.Seq.{sets}
 use Rattle.std.proofs.lemmas.List.{set-get_or, set_comm}
 use Rattle.below.specs.Below.{lt_or_le}
-use Rattle.ascii.specs.rule.Tens.{digits_of}
 use Rattle.places.specs.rule.Places.{put, run}
 use Rattle.fields.specs.rule.Number.{padded}
 use Rattle.fieldlaws.specs.NumberLaws.{length_padded}
-use Rattle.lines.specs.rule.Text.{numeral}
 use Rattle.sink.specs.rule.Sent.{Sent}
-use Rattle.sink.specs.Sent.{Owed, all_owed, less_owed, owed_as, sent_as, bytes_stored}
+use Rattle.sink.specs.Sent.{Owed, all_owed}
 use Rattle.value_fields.specs.rule.Values.{export_number, codes_behind, set_text}
 use Rattle.value_fields.specs.Values.{put_sets}
-use Rattle.value_fields.specs.Legal.{bits_from, bit_clear, codes_set, bits_over, count_code}
+use Rattle.value_fields.specs.Legal.{bits_from}
 
 -- of a bitstring of w bytes from the place p of r on, what is set from byte i to byte j is stored, in so many bytes at most
 pub record Stretch (most w : ℕ) (r : List ℕ) (p i j : ℕ) (out : List ℕ) (at : ℕ) (out' : List ℕ) (end : ℕ) : Type 0 where
@@ -31,55 +29,6 @@ stretch_none w r p i out at = record { room = refl; few = omega arith; owed = λ
 -- a code with its semicolon
 pub behind_stored : (out : List ℕ) (at d n : ℕ) → put (set out at 59) (run (at + 1) d) (padded d n) ≡ sets out at (59 ∷ padded d n)
 behind_stored out at d n = rw (add-one at) (put_sets (padded d n) (set out at 59) (suc at) d (length_padded d n))
-
-code_sent : (n : ℕ) {bound : ℕ} {out out' : List ℕ} {at d : ℕ} → digits_of n ≡ d → out' ≡ sets out at (59 ∷ padded d n)
-    → at + (d + 1) < bound → Sent bound out at (59 ∷ numeral n) out' (at + (d + 1))
-unfolding numeral
-code_sent n {bound} {out} {out'} {at} {d} e o h =
-    let l : length (59 ∷ padded d n) ≡ d + 1 = rw (length_padded d n, add-one d) in
-    rw (e, o) (rw l at (bytes_stored bound out at (59 ∷ padded d n) (rw l h)))
-
-module _ {most w : ℕ} {r : List ℕ} {p i j : ℕ} {out : List ℕ} {at : ℕ} {out' : List ℕ} {end : ℕ}
-    (s : Stretch most w r p i j out at out' end) where
-  -- one byte more
-  pub stretch_set : {d m n k : ℕ} {out'' : List ℕ} → j < w → get_or r (p + j) 0 ≡ 49 → n ≡ j + 1 → digits_of n ≡ d
-      → out'' ≡ sets out' end (59 ∷ padded d n) → k ≡ j + 1 → most + (d + 1) ≤ m → Stretch m w r p i k out at out'' (end + (d + 1))
-  stretch_set {d} {m} {n} {k} {out''} l b q e o g h = record {
-    room = rw (o, length-sets out' end (59 ∷ padded d n)) s.room;
-    few = let f = s.few in omega arith;
-    owed = λ z.
-        let f = s.few in
-        rw g (less_owed (s.owed (omega arith)) (codes_set w j l r p b)
-        (sent_as (code_sent n e o (omega arith)) (ap (λ (x : ℕ). 59 ∷ numeral x) q ∙ ap (λ (x : List ℕ). 59 ∷ x) (count_code (j + 1)))));
-  }
-
-  pub stretch_clear : {m k : ℕ} → j < w → (get_or r (p + j) 0 ≡ 49 → ⊥) → k ≡ j + 1 → most ≤ m → Stretch m w r p i k out at out' end
-  stretch_clear l b g h = record {
-    room = s.room;
-    few = let f = s.few in omega arith;
-    owed = λ z. rw g (owed_as (s.owed (omega arith)) (ap codes_behind (bit_clear w j l r p b)));
-  }
-
-  -- behind the last byte there is nothing
-  pub stretch_over : {m k : ℕ} → w ≤ j → w ≤ k → most ≤ m → Stretch m w r p i k out at out' end
-  stretch_over {m} {k} l n g = record {
-    room = s.room;
-    few = let f = s.few in omega arith;
-    owed = λ h. owed_as (s.owed (omega arith)) (ap codes_behind (bits_over w r p j l ∙ sym (bits_over w r p k n)));
-  }
-
-  pub stretch_then : {more m k k' : ℕ} {out'' : List ℕ} {end' : ℕ} → Stretch more w r p j k out' end out'' end' → k' ≡ k
-      → most + more ≤ m → Stretch m w r p i k' out at out'' end'
-  stretch_then z e g = record {
-    room = z.room ∙ s.room;
-    few = let f = s.few in let q = z.few in omega arith;
-    owed = λ {bound} h.
-        let f = s.few in
-        rw e record {
-          pays = λ x. (s.owed {bound = bound} (omega arith)).pays ((z.owed {bound = bound} (omega arith)).pays x);
-          same_room = z.room ∙ s.room;
-        };
-  }
 
 -- ---- a semicolon before the first code, at the place before it: that place gets its own byte back
 sets_below : (s l : List ℕ) (k at b : ℕ) → k < at → set (sets l at s) k b ≡ sets (set l k b) at s

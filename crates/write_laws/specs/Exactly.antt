@@ -1,29 +1,25 @@
 -- EXACT REFUSALS of writing a clean definition, one outcome, and what the output then holds.
 -- Assumes nothing.
-use Rattle.std.specs.Prelude.{◌≡◌, Bool, cond, ℕ, ◌≤◌, ◌<◌, ℤ, length, take, drop}
+use Rattle.std.specs.Prelude.{◌≡◌, Bool, cond, ℕ, ℤ, length}
 use Rattle.std.proofs.Math.Path.{refl}
-use Rattle.std.proofs.Common.{sym, ap, ◌∙◌, arith}
+use Rattle.std.proofs.Common.{sym, ◌∙◌}
 use Rattle.std.proofs.Math.Bool.{true, false}
-use mathlib.Core.List.{List, [], ◌∷◌, ◌++◌}
+use mathlib.Core.List.{List}
 use borrow.Author.Tests.{ltb-true, ltb-false, lt-ltb, le-ltb}
 use Rattle.std.proofs.Math.Dec.{ltb}
 use Rattle.below.specs.Below.{holds_not}
 use Rattle.layout.specs.rule.Layout.{line_base, most_rows, most_lines}
 use Rattle.survey.specs.rule.Survey.{Variable, Survey}
 use Rattle.survey.specs.rule.Table.{table_of}
-use Rattle.reading.specs.rule.Whole.{survey_of}
-use Rattle.bridge.specs.Lowest.{never}
 use Rattle.laying.specs.rule.Begins.{begins_table}
 use Rattle.laying.specs.Begins.{begins_is, begins_these}
-use Rattle.definition.specs.declared.Against.{Against}
-use Rattle.definition.specs.declared.Against.TheVariants.{Same, Other}
 use Rattle.definition.specs.rule.Definition.{SssOutcome, Built, Refusal, sss_outcome}
-use Rattle.definition.specs.rule.Against.{sss_held, sss_against}
+use Rattle.definition.specs.rule.Against.{sss_against}
 use Rattle.clean_text.specs.rule.Clean.{clean_of}
 use Rattle.clean_laws.specs.rule.Reads.{Reads}
 use Rattle.clean_laws.specs.Reads.{ReadAs, read_as, built_reads}
 use Rattle.clean.specs.declared.Written.{Written}
-use Rattle.clean.specs.declared.Written.TheVariants.{Done, Refused}
+use Rattle.clean.specs.declared.Written.TheVariants.{Refused}
 use Rattle.clean.specs.rule.Written.{Text, clean_fitted, judged_against, writing_of, clean_written, out_after, DefinitionWritten}
 use Rattle.clean.specs.rule.Written as rule
 use Rattle.write_laws.specs.rule.Exactly.{Unread, Begins, WriteOutcome, unread, other_table, too_large, short_room, all_written}

@@ -1,6 +1,6 @@
 -- 1 TO 9: a definition that is refused whatever table is lent is refused with one of these, and never with 10. What is met in reading is 2
 -- to 8 (crate `refusals`), and 10 goes where there is room for the table.
-use Rattle.std.specs.Prelude.{◌≡◌, refl, Bool, true, false, cond, ℕ, suc, ◌-◌, ◌≤◌, ltb}
+use Rattle.std.specs.Prelude.{◌≡◌, refl, ℕ, suc, ◌-◌, ◌≤◌, ltb}
 use mathlib.Core.List.{List, [], ◌∷◌, ◌++◌}
 use native.Mathlib.Omega.{arith}
 use Rattle.std.proofs.Math.ListN.{length}
@@ -125,7 +125,8 @@ module _ (d : List ℕ) where
     refusal_placed d 0 number place (u 0),
   )
     where
-      by : {o : Outcome} {q : rule.SssOutcome} → outcome_in d (room_of (survey_of d)) ≡ o → q ≡ rule.Refusal number place → SameOutcome d o q
+      by : {o : Outcome} {q : rule.SssOutcome} → outcome_in d (room_of (survey_of d)) ≡ o → q ≡ rule.Refusal number place
+          → SameOutcome d o q
           → number ≤ 9
       by i j (bridge.built s) = never cc
       by i j (bridge.refused {k = a} {p = b}) =

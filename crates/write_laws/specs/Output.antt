@@ -1,6 +1,6 @@
 -- THE OUTPUT of writing a clean definition: kept by a refusal, else the clean text with what stood behind it; and that text reads back.
-use Rattle.std.specs.Prelude.{◌≡◌, refl, List, [], ◌∷◌, ◌++◌, ℕ, ◌+◌, ◌≤◌, ◌<◌, ℤ, length, take}
-use Rattle.std.proofs.Common.{sym, ◌∙◌, arith, le-ltb}
+use Rattle.std.specs.Prelude.{◌≡◌, refl, List, [], ◌∷◌, ◌++◌, ℕ, ◌+◌, ◌≤◌, ℤ, length, take}
+use Rattle.std.proofs.Common.{◌∙◌, le-ltb}
 use Rattle.std.proofs.Math.Path.{ap}
 use Rattle.std.proofs.Math.ListN.{drop}
 use Rattle.cells.specs.rule.Cell.{pasted}
@@ -101,7 +101,7 @@ says_same {d} {s} r h =
       survey = c.survey;
       reads = c.reads;
       called = λ {u} {u₁} {u₂} {a₁} {a₂} room p q. clean_called r c u room p q;
-      heading-texts = c.heading_texts;
+      heading_texts = c.heading_texts;
       texts = texts_equal r c;
       again = λ {u} {u'} {a} {out} {out'} {w} room p k q. clean_again c h room p k q;
     }

@@ -1,6 +1,6 @@
 -- ANY TABLE HAS ROOM in the rooms of reading: 6 + 18 * 512 + 4 * 4096 numbers. So 10 is no answer of this call.
-use Rattle.std.specs.Prelude.{◌≡◌, refl, List, [], ◌∷◌, ◌++◌, ℕ, ◌+◌, ◌*◌, ◌≤◌, ◌<◌, length}
-use Rattle.std.proofs.Common.{sym, ap, ◌∙◌, arith, length-append}
+use Rattle.std.specs.Prelude.{◌≡◌, refl, List, [], ◌∷◌, ◌++◌, ℕ, ◌+◌, ◌*◌, ◌≤◌, length}
+use Rattle.std.proofs.Common.{◌∙◌, arith, length-append}
 use Rattle.layout.specs.rule.Layout.{row_size, line_size, line_base, most_rows, most_lines}
 use Rattle.rows.specs.rule.Cells.{row_cells, header_cells}
 use Rattle.survey.specs.rule.Survey.{Line, Variable, Survey}

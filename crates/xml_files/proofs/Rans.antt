@@ -164,7 +164,8 @@ moved_rows e f h = rw (e, f) h
 
 lines_more : (l : List XmlEntry) (v : XmlEntry) (lines lines' : List ℤ) → lines'
     ≡ pasted lines (line_size * lines_all (variables_of l)) (cells_of (lines_of v.variable))
-    → line_size * lines_all (variables_of l) ≤ length lines → take (line_size * lines_all (variables_of l)) lines ≡ all_lines (variables_of l)
+    → line_size * lines_all (variables_of l) ≤ length lines → take (line_size * lines_all (variables_of l)) lines
+    ≡ all_lines (variables_of l)
     → take (line_size * lines_all (variables_of (l ++ v ∷ []))) lines' ≡ all_lines (variables_of (l ++ v ∷ []))
 lines_more l v lines lines' q h e =
     let k = line_size * lines_all (variables_of l) in
@@ -234,115 +235,116 @@ module _ (y : Tally) (l : List XmlEntry) (v : XmlEntry) (tally : y ≡ tally_of 
       )
 
 module _ (bad : Bool) (d : List ℕ) (m : Manner) (long : length d ≤ 1048576) (at₀ at : ℕ) (y : Tally) (seen : List ℕ) (rows lines : List ℤ)
-    (r : Ran bad d m at₀ at y seen rows lines) (wide : length rows ≡ row_size * most_rows) (many : length lines ≡ line_size * most_lines) where
-  abbrev l : List XmlEntry
-  l = r.read
+    (r : Ran bad d m at₀ at y seen rows lines) (wide : length rows ≡ row_size * most_rows) (many : length lines ≡ line_size * most_lines)
+  where
+    abbrev l : List XmlEntry
+    l = r.read
 
-  rows_few : length l ≤ most_rows
-  rows_few = (entries_few r.before.fine).0
+    rows_few : length l ≤ most_rows
+    rows_few = (entries_few r.before.fine).0
 
-  pub ran_sofar : Sofar d seen y rows
-  ran_sofar = record { read = l; before = r.before; seen_long = r.seen_long; rows_long = wide }
+    pub ran_sofar : Sofar d seen y rows
+    ran_sofar = record { read = l; before = r.before; seen_long = r.seen_long; rows_long = wide }
 
-  pub record Onward (i : ℕ) (z : Tally) (n : ℕ) (rows' lines' : List ℤ) : Type 0 where
-    pub small : i < 10000
-    pub further : z.rows ≡ y.rows + 1
-    pub left : y.rows < most_rows
-    pub ran : Ran bad d m at₀ n z (set seen i 1) rows' lines'
+    pub record Onward (i : ℕ) (z : Tally) (n : ℕ) (rows' lines' : List ℤ) : Type 0 where
+      pub small : i < 10000
+      pub further : z.rows ≡ y.rows + 1
+      pub left : y.rows < most_rows
+      pub ran : Ran bad d m at₀ n z (set seen i 1) rows' lines'
 
-  module _ (rows' lines' : List ℤ) (w : Turn) (t : Turned bad d m seen y at rows rows' lines lines' w) where
-    module _ (i : ℕ) (z : Tally) (n : ℕ) (e : w ≡ turns.More i z n) where
-      o : OneMore bad d m seen y at rows rows' lines lines' l i z n
-      o = t.more e l r.before
+    module _ (rows' lines' : List ℤ) (w : Turn) (t : Turned bad d m seen y at rows rows' lines lines' w) where
+      module _ (i : ℕ) (z : Tally) (n : ℕ) (e : w ≡ turns.More i z n) where
+        o : OneMore bad d m seen y at rows rows' lines lines' l i z n
+        o = t.more e l r.before
 
-      abbrev v : XmlEntry
-      v = o.entry
+        abbrev v : XmlEntry
+        v = o.entry
 
-      entry_fine : Read bad d l v n
-      entry_fine =
-          let a = o.added in
-          let x = due_is bad d VARIABLE (start a.place) (variable bad d m l) a.end a.read in
-          entry_read bad d long m l r.before.fine (λ p e t n. few bad d m.old l p e t n) x.place a.end x.then_is
+        entry_fine : Read bad d l v n
+        entry_fine =
+            let a = o.added in
+            let x = due_is bad d VARIABLE (start a.place) (variable bad d m l) a.end a.read in
+            entry_read bad d long m l r.before.fine (λ p e t n. few bad d m.old l p e t n) x.place a.end x.then_is
 
-      ident_low : v.variable.ident.value < 10000
-      ident_low = omega (arith, ident_few (lines_all (variables_of l)) v.variable entry_fine.fine.good)
+        ident_low : v.variable.ident.value < 10000
+        ident_low = omega (arith, ident_few (lines_all (variables_of l)) v.variable entry_fine.fine.good)
 
-      tally_now : z ≡ tally_of (l ++ v ∷ [])
-      tally_now = tally_more y l v r.before.tally z o.tally_is
+        tally_now : z ≡ tally_of (l ++ v ∷ [])
+        tally_now = tally_more y l v r.before.tally z o.tally_is
 
-      rows_now : z.rows ≡ y.rows + 1
-      rows_now = rows_is z (l ++ v ∷ []) tally_now ∙ length-append l (v ∷ []) ∙ ap (λ (k : ℕ). k + 1) (sym (rows_is y l r.before.tally))
+        rows_now : z.rows ≡ y.rows + 1
+        rows_now = rows_is z (l ++ v ∷ []) tally_now ∙ length-append l (v ∷ []) ∙ ap (λ (k : ℕ). k + 1) (sym (rows_is y l r.before.tally))
 
-      left_now : y.rows < most_rows
-      left_now = let q = rows_is y l r.before.tally in omega (arith, entry_fine.fine.left)
+        left_now : y.rows < most_rows
+        left_now = let q = rows_is y l r.before.tally in omega (arith, entry_fine.fine.left)
 
-      held_now : RowsOf rows' z.rows (l ++ v ∷ [])
-      held_now =
-          let q = o.row_is ∙ ap (λ (b : ℕ). pasted rows (row_size * y.rows) (row_cells (columns_for b v)))
-          (lines_is y l r.before.tally) in
-          moved_rows q rows_now (rows_more rows y.rows l v wide left_now r.before.held)
+        held_now : RowsOf rows' z.rows (l ++ v ∷ [])
+        held_now =
+            let q = o.row_is ∙ ap (λ (b : ℕ). pasted rows (row_size * y.rows) (row_cells (columns_for b v)))
+            (lines_is y l r.before.tally) in
+            moved_rows q rows_now (rows_more rows y.rows l v wide left_now r.before.held)
 
-      before_now : Before d (set seen i 1) z rows' (l ++ v ∷ [])
-      before_now = record {
-        tally = tally_now;
-        held = held_now;
-        idents = idents_as seen l v r.before.idents r.seen_long ident_low i o.ident_is;
-        fine = more r.before.fine entry_fine.fine;
-        named = more_named v r.before.named entry_fine.name;
-      }
+        before_now : Before d (set seen i 1) z rows' (l ++ v ∷ [])
+        before_now = record {
+          tally = tally_now;
+          held = held_now;
+          idents = idents_as seen l v r.before.idents r.seen_long ident_low i o.ident_is;
+          fine = more r.before.fine entry_fine.fine;
+          named = more_named v r.before.named entry_fine.name;
+        }
 
-      lines_now : take (line_size * lines_all (variables_of (l ++ v ∷ []))) lines' ≡ all_lines (variables_of (l ++ v ∷ []))
-      lines_now =
-          lines_more l v lines lines' (o.line_is
-          ∙ ap (λ (b : ℕ). pasted lines (line_size * b) (cells_of (lines_of o.entry.variable))) (lines_is y l r.before.tally))
-          (omega (arith, (entries_few r.before.fine).1)) r.lines_are
+        lines_now : take (line_size * lines_all (variables_of (l ++ v ∷ []))) lines' ≡ all_lines (variables_of (l ++ v ∷ []))
+        lines_now =
+            lines_more l v lines lines' (o.line_is
+            ∙ ap (λ (b : ℕ). pasted lines (line_size * b) (cells_of (lines_of o.entry.variable))) (lines_is y l r.before.tally))
+            (omega (arith, (entries_few r.before.fine).1)) r.lines_are
 
-      pub ran_more : Onward i z n rows' lines'
-      ran_more = record {
-        small = omega (arith, o.ident_is, ident_low);
-        further = rows_now;
-        left = left_now;
-        ran = record {
-          read = l ++ v ∷ [];
-          from = from_more bad d m at₀ l at v n r.from entry_fine.fine.left o.added;
-          before = before_now;
-          lines_are = lines_now;
-          next = entry_fine.next;
-          seen_long = length-set seen i 1 ∙ r.seen_long;
-        };
-      }
+        pub ran_more : Onward i z n rows' lines'
+        ran_more = record {
+          small = omega (arith, o.ident_is, ident_low);
+          further = rows_now;
+          left = left_now;
+          ran = record {
+            read = l ++ v ∷ [];
+            from = from_more bad d m at₀ l at v n r.from entry_fine.fine.left o.added;
+            before = before_now;
+            lines_are = lines_now;
+            next = entry_fine.next;
+            seen_long = length-set seen i 1 ∙ r.seen_long;
+          };
+        }
 
-    -- all variables are read
-    module _ (n : ℕ) (e : w ≡ turns.Over n) where
-      over_is : variables bad d m at₀ ≡ Is l n
-      over_is =
-          let q = t.over e in
-          from_over bad d m at₀ l at n r.from rows_few (omega (arith, q.0, r.before.held.counted)) q.1
+      -- all variables are read
+      module _ (n : ℕ) (e : w ≡ turns.Over n) where
+        over_is : variables bad d m at₀ ≡ Is l n
+        over_is =
+            let q = t.over e in
+            from_over bad d m at₀ l at n r.from rows_few (omega (arith, q.0, r.before.held.counted)) q.1
 
-      pub run_over : run.Is y n ≡ run_of (variables bad d m at₀)
-      run_over = ap (λ (z : Tally). run.Is z n) r.before.tally ∙ ap run_of (sym over_is)
+        pub run_over : run.Is y n ≡ run_of (variables bad d m at₀)
+        run_over = ap (λ (z : Tally). run.Is z n) r.before.tally ∙ ap run_of (sym over_is)
 
-      same_all : (a : List XmlEntry) (k : ℕ) → variables bad d m at₀ ≡ Is a k → l ≡ a
-      same_all a k q = let u = sym over_is ∙ q in cc
+        same_all : (a : List XmlEntry) (k : ℕ) → variables bad d m at₀ ≡ Is a k → l ≡ a
+        same_all a k q = let u = sym over_is ∙ q in cc
 
-      pub laid_over : Laid (variables bad d m at₀) rows' lines'
-      laid_over = record {
-        rows-laid = λ {l = a} {n = k} q. rw (← same_all a k q, (t.over e).2) (rw (sym r.before.held.counted) at r.before.held);
-        lines-laid = λ {l = a} {n = k} q. rw (← same_all a k q, (t.over e).3) r.lines_are;
-      }
+        pub laid_over : Laid (variables bad d m at₀) rows' lines'
+        laid_over = record {
+          rows_laid = λ {l = a} {n = k} q. rw (← same_all a k q, (t.over e).2) (rw (sym r.before.held.counted) at r.before.held);
+          lines_laid = λ {l = a} {n = k} q. rw (← same_all a k q, (t.over e).3) r.lines_are;
+        }
 
-    module _ (f : Fault) (e : w ≡ turns.Not f) where
-      not_is : variables bad d m at₀ ≡ Not f
-      not_is = from_fails bad d m at₀ l at f r.from rows_few (t.fails e l r.before)
+      module _ (f : Fault) (e : w ≡ turns.Not f) where
+        not_is : variables bad d m at₀ ≡ Not f
+        not_is = from_fails bad d m at₀ l at f r.from rows_few (t.fails e l r.before)
 
-      pub run_not : run.Not f ≡ run_of (variables bad d m at₀)
-      run_not = ap run_of (sym not_is)
+        pub run_not : run.Not f ≡ run_of (variables bad d m at₀)
+        run_not = ap run_of (sym not_is)
 
-      pub laid_not : Laid (variables bad d m at₀) rows' lines'
-      laid_not = record {
-        rows-laid = λ {l = a} {n = k} q. let u = sym not_is ∙ q in never cc;
-        lines-laid = λ {l = a} {n = k} q. let u = sym not_is ∙ q in never cc;
-      }
+        pub laid_not : Laid (variables bad d m at₀) rows' lines'
+        laid_not = record {
+          rows_laid = λ {l = a} {n = k} q. let u = sym not_is ∙ q in never cc;
+          lines_laid = λ {l = a} {n = k} q. let u = sym not_is ∙ q in never cc;
+        }
 
 -- what the sum of one more name is made of
 module _ (bad : Bool) (d : List ℕ) (m : Manner) (long : length d ≤ 1048576) (at₀ at : ℕ) (y : Tally) (seen : List ℕ) (rows lines : List ℤ)

@@ -107,10 +107,10 @@ module _ (bad : Bool) (d : List ℕ) (m : Manner) (at : ℕ) where
                     read = g
                         ∙ ap (λ (k : ℕ). Is v k) t;
                   };
-                  ident-is = sym a;
-                  tally-is = sym c;
+                  ident_is = sym a;
+                  tally_is = sym c;
                   row_is = j.row l b v o g;
-                  line-is = j.line l b v o g;
+                  line_is = j.line l b v o g;
                 }
             by (Not f) g h = never cc
 
@@ -169,5 +169,6 @@ module _ (bad : Bool) (d : List ℕ) (m : Manner) (at : ℕ) where
       turned_not f s = record {
         more = λ t. never cc;
         over = λ t. never cc;
-        fails = λ {f = g} t l b. let u : f ≡ g = cc in open_fails g l (open_not (within_element bad d RECORD at) (sym found ∙ s) ∙ ap Not u);
+        fails = λ {f = g} t l b. let u : f ≡ g = cc in
+            open_fails g l (open_not (within_element bad d RECORD at) (sym found ∙ s) ∙ ap Not u);
       }

@@ -30,7 +30,8 @@ use Rattle.bridge.specs.Lowest.{never}
 use Rattle.xml_reading.specs.rule.Role.{XmlEntry, variables_of}
 use Rattle.xml_reading.specs.rule.Variable.{Manner}
 use Rattle.xml_reading.specs.rule.Sheet.{XmlSurvey, preface, variables, sheet_closed, sheet}
-use Rattle.xml_reading.specs.rule.Whole.{xml_header, xml_rows, xml_table, XmlOutcome, Refusal, xml_fitting, judge_xml_names, xml_settled, sheet_of}
+use Rattle.xml_reading.specs.rule.Whole.{xml_header, xml_rows, xml_table, XmlOutcome, Refusal, xml_fitting, judge_xml_names, xml_settled}
+use Rattle.xml_reading.specs.rule.Whole.{sheet_of}
 use Rattle.xml_reading.specs.rule.Whole.{xml_outcome}
 use Rattle.laying.specs.declared.Tally.{Tally}
 use Rattle.laying.specs.declared.Rooms.{Rooms}
@@ -154,9 +155,11 @@ module _ (bad : Bool) (d : List ℕ) (long : length d ≤ 1048576) (m : Manner) 
       cells_are : cells_in mark_xml y rows lines ≡ xml_table s.read
       unfolding cells_in header_by tally_of xml_header xml_table header_cells all_lines xml_rows
       cells_are = ap (λ (z : Tally). cells_in mark_xml z rows lines) s.tally ∙ held_parts s.read s.held.held s.lines_are where
-        held_parts : (l : List XmlEntry) → take (row_size * length l) rows ≡ xml_rows 0 l → take (line_size * lines_all (variables_of l)) lines
+        held_parts : (l : List XmlEntry) → take (row_size * length l) rows ≡ xml_rows 0 l
+            → take (line_size * lines_all (variables_of l)) lines
             ≡ all_lines (variables_of l)
-            → header_cells (xml_header l) ++ (take (row_size * length l) rows ++ take (line_size * lines_all (variables_of l)) lines) ≡ xml_table l
+            → header_cells (xml_header l) ++ (take (row_size * length l) rows ++ take (line_size * lines_all (variables_of l)) lines)
+            ≡ xml_table l
         held_parts l a b = rw (a, b) refl
 
       few_here : (y.rows ≤ most_rows) × (y.lines ≤ most_lines) × (y.length ≤ 16384)
@@ -248,6 +251,7 @@ module _ (d : List ℕ) (long : length d ≤ 1048576) (p : Prolog) (says : p ≡
 
   pub whole_here : (latin : Bool) (at q : ℕ) (bad : Bool) (r : Rooms) → p ≡ prolog.Read latin at → q ≡ first_bad latin d at → bad
       ≡ ltb q (length d)
-      → RoomsRead (λ n. xml_settled latin (take q d) n (sheet bad (take q d) latin at)) rows lines r → RoomsRead (xml_outcome d) rows lines r
+      → RoomsRead (λ n. xml_settled latin (take q d) n (sheet bad (take q d) latin at)) rows lines r
+      → RoomsRead (xml_outcome d) rows lines r
   unfolding xml_outcome sheet_of
   whole_here latin at q bad r e f g w = rooms_moved (λ n. rw (le-ltb 1048576 (length d) long, sym says ∙ e, ← f, ← g)) w

@@ -69,7 +69,8 @@ run_of (Not f) = run.Not f
 -- their rows and lines stand at the start of the rooms
 pub record Laid (r : Result (List XmlEntry)) (rows lines : List ℤ) : Type 0 where
   pub rows_laid : {l : List XmlEntry} {n : ℕ} → r ≡ Is l n → RowsOf rows (length l) l
-  pub lines_laid : {l : List XmlEntry} {n : ℕ} → r ≡ Is l n → take (line_size * lines_all (variables_of l)) lines ≡ all_lines (variables_of l)
+  pub lines_laid : {l : List XmlEntry} {n : ℕ} → r ≡ Is l n → take (line_size * lines_all (variables_of l)) lines
+      ≡ all_lines (variables_of l)
 
 -- ---- 9 judged of the variables whose rows the room holds
 pub record NamesSettled (latin : Bool) (d : List ℕ) (standard : Bool) (y : Tally) (rows : List ℤ) (r : Rooms) : Type 0 where

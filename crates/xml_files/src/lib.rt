@@ -123,7 +123,8 @@ fn read_variables(
 ) -> Run
     requires tens { Tens powers.now }
     requires d_len_bound { (length d.now ≤ 1048576) × (from ≤ length d.now) }
-    requires rows_len { (length rows.old ≡ row_size * most_rows) × (length lines.old ≡ line_size * most_lines) × (length marks.old ≡ 16384) }
+    requires rows_len { (length rows.old ≡ row_size * most_rows) × (length lines.old ≡ line_size * most_lines)
+        × (length marks.old ≡ 16384) }
     requires seen_value { seen.old ≡ zeros 10000 }
     ensures value { result ≡ run_of (variables bad d.now (rule_of m) from) }
     ensures laid { Laid (variables bad d.now (rule_of m) from) rows.new lines.new }
@@ -206,7 +207,8 @@ fn read_body(
     requires classes { Classes classes.now }
     requires tens { Tens powers.now }
     requires d_len_bound { (length d.now ≤ 1048576) × (at ≤ length d.now) }
-    requires rows_len { (length rows.old ≡ row_size * most_rows) × (length lines.old ≡ line_size * most_lines) × (length marks.old ≡ 16384) }
+    requires rows_len { (length rows.old ≡ row_size * most_rows) × (length lines.old ≡ line_size * most_lines)
+        × (length marks.old ≡ 16384) }
     requires seen_value { seen.old ≡ zeros 10000 }
     ensures { RoomsRead (λ n. xml_settled latin d.now n (body_of bad d.now (rule_of m) at)) rows.new
         lines.new result }
@@ -242,7 +244,8 @@ fn read_sheet(
     requires classes { Classes classes.now }
     requires tens { Tens powers.now }
     requires d_len_bound { (length d.now ≤ 1048576) × (at ≤ length d.now) }
-    requires rows_len { (length rows.old ≡ row_size * most_rows) × (length lines.old ≡ line_size * most_lines) × (length marks.old ≡ 16384) }
+    requires rows_len { (length rows.old ≡ row_size * most_rows) × (length lines.old ≡ line_size * most_lines)
+        × (length marks.old ≡ 16384) }
     requires seen_value { seen.old ≡ zeros 10000 }
     ensures { RoomsRead (λ n. xml_settled latin d.now n (sheet bad d.now latin at)) rows.new
         lines.new result }
@@ -271,7 +274,8 @@ pub fn read_in(
     requires classes { Classes classes.now }
     requires tens { Tens powers.now }
     requires d_len_bound { length d.now ≤ 1048576 }
-    requires rows_len { (length rows.old ≡ row_size * most_rows) × (length lines.old ≡ line_size * most_lines) × (length marks.old ≡ 16384) }
+    requires rows_len { (length rows.old ≡ row_size * most_rows) × (length lines.old ≡ line_size * most_lines)
+        × (length marks.old ≡ 16384) }
     requires seen_value { seen.old ≡ zeros 10000 }
     ensures { RoomsRead (xml_outcome d.now) rows.new lines.new result }
 {

@@ -1,7 +1,8 @@
 use mathlib.Core.Path.{◌≡◌, refl}
 use native.Mathlib.Omega.{arith}
 use Rattle.value_fields.specs.Numeral.{digits_one}
-use Rattle.value_fields.specs.Stretch.{stretch_none, stretch_set, stretch_clear, stretch_over}
+use Rattle.value_fields.specs.Stretch.{stretch_none}
+use Rattle.value_fields.proofs.Stretch.{stretch_set, stretch_clear, stretch_over}
 use Rattle.value_fields.proofs.put_ones.Goals as goal
 
 pub returns-then-w-i : goal.returns-then-w-i

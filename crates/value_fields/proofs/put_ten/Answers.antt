@@ -4,7 +4,8 @@ use Prim.Native.Nat.{ℕ, ◌+◌, ◌-◌, ◌*◌}
 use native.Mathlib.Nat.{add-zero}
 use lib.ListN.{get_or}
 use Rattle.value_fields.specs.Numeral.{digits_two}
-use Rattle.value_fields.specs.Stretch.{stretch_none, stretch_set, stretch_clear, stretch_over}
+use Rattle.value_fields.specs.Stretch.{stretch_none}
+use Rattle.value_fields.proofs.Stretch.{stretch_set, stretch_clear, stretch_over}
 use Rattle.value_fields.proofs.put_ten.Goals as goal
 
 pub returns-then-w-n : goal.returns-then-w-n

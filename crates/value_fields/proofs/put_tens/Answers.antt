@@ -1,6 +1,7 @@
 use mathlib.Core.Path.{◌≡◌}
 use native.Mathlib.Omega.{arith}
-use Rattle.value_fields.specs.Stretch.{stretch_none, stretch_over, stretch_then}
+use Rattle.value_fields.specs.Stretch.{stretch_none}
+use Rattle.value_fields.proofs.Stretch.{stretch_over, stretch_then}
 use Rattle.value_fields.proofs.put_tens.Goals as goal
 
 pub returns-then-w-t : goal.returns-then-w-t

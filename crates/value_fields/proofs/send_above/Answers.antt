@@ -2,7 +2,7 @@ use mathlib.Core.Path.{refl, ap}
 use native.Mathlib.Omega.{arith}
 use Rattle.sink.specs.Sent.{all_owed, less_owed, none_owed, owed_as, sent_as}
 use Rattle.value_fields.specs.rule.Values.{codes_behind}
-use Rattle.value_fields.specs.Legal.{count_code}
+use Rattle.value_fields.proofs.Legal.{count_code}
 use Rattle.value_fields.specs.Few.{above_from, next_more, from_some, from_none}
 use Rattle.value_fields.proofs.send_above.Goals as goal
 

@@ -1,7 +1,7 @@
 -- `value_fields::send_amount` meets its contract.
 use native.Mathlib.Omega.{arith}
 use native.Mathlib.Nat.{div-le_self}
-use Rattle.value_fields.specs.Values.{amount_none, amount_parts}
+use Rattle.value_fields.proofs.Values.{amount_none, amount_parts}
 use Rattle.widths.specs.Width.{ten_some}
 use Rattle.sink.specs.Sent.{sent_as, then}
 use Rattle.value_fields.proofs.send_amount.Goals as goal

@@ -3,7 +3,8 @@ use mathlib.Core.Path.{sym, ap, ◌∙◌}
 use native.Mathlib.Omega.{arith}
 use Rattle.sink.specs.Sent.{sent_as, then}
 use Rattle.value_fields.specs.rule.Values.{set_text}
-use Rattle.value_fields.specs.Legal.{bits_over, text_set, count_code, below_of}
+use Rattle.value_fields.specs.Legal.{bits_over, text_set, below_of}
+use Rattle.value_fields.proofs.Legal.{count_code}
 use Rattle.value_fields.proofs.send_checked.Goals as goal
 
 pub returns-then-c-w : goal.returns-then-c-w

@@ -2,7 +2,7 @@
 use mathlib.Core.Path.{◌≡◌, ap, ◌∙◌}
 use mir.Facts.{to_z-of_z}
 use Rattle.cells.specs.rule.Cell.{signed_of}
-use Rattle.value_fields.specs.Values.{code_count}
+use Rattle.value_fields.proofs.Values.{code_count}
 use Rattle.sink.specs.Sent.{sent_as}
 use mir.Syntax.{w64}
 use Rattle.value_fields.proofs.send_code.Goals as goal

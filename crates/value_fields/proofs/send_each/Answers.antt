@@ -1,7 +1,7 @@
 -- `value_fields::send_each` meets its contract: missing, none, or the categories that are set.
 use native.Mathlib.Omega.{arith}
 use Rattle.sink.specs.Sent.{sent_as, nothing_sent}
-use Rattle.value_fields.specs.Legal.{each_missing, each_members}
+use Rattle.value_fields.proofs.Legal.{each_missing, each_members}
 use Rattle.value_fields.proofs.send_each.Goals as goal
 
 pub returns-then-bytes-p-eq32 : goal.returns-then-bytes-p-eq32

@@ -19,8 +19,10 @@ use Rattle.listing.specs.RowLaws.{row_stands, row_ready}
 use Rattle.sink.specs.Sent.{sent_as, then}
 use Rattle.few_codes.specs.Few.{all_zero, spread_entries}
 use Rattle.widths.specs.rule.Width.{decimals_of}
-use Rattle.value_fields.specs.Legal.{count_code, row_legal, row_text}
-use Rattle.value_fields.specs.Few.{first_next, held_text}
+use Rattle.value_fields.specs.Legal.{row_legal, row_text}
+use Rattle.value_fields.proofs.Legal.{count_code}
+use Rattle.value_fields.specs.Few.{first_next}
+use Rattle.value_fields.proofs.Few.{held_text}
 use Rattle.value_fields.proofs.send_few.Goals as goal
 use Rattle.value_fields.proofs.send_few.Goals.{After-read-row}
 

@@ -2,7 +2,7 @@
 use mathlib.Core.Path.{◌≡◌, ap, ◌∙◌}
 use mir.Facts.{to_z-of_z}
 use Rattle.cells.specs.rule.Cell.{signed_of}
-use Rattle.value_fields.specs.Values.{number_minus, number_amount}
+use Rattle.value_fields.proofs.Values.{number_minus, number_amount}
 use Rattle.sink.specs.Sent.{sent_as, then}
 use mir.Syntax.{w64}
 use Rattle.value_fields.proofs.send_number.Goals as goal

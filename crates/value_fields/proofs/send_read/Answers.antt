@@ -1,7 +1,8 @@
 -- `value_fields::send_read` meets its contract.
 use mathlib.Core.Path.{sym, ◌∙◌}
 use Rattle.listing.specs.RowLaws.{row_stands, row_ready, row_listable}
-use Rattle.value_fields.specs.Rows.{row_decimals, row_empty, row_field_lem}
+use Rattle.value_fields.proofs.Rows.{row_empty, row_field_lem}
+use Rattle.value_fields.proofs.Rows.{row_decimals}
 use Rattle.sink.specs.Sent.{sent_as, nothing_sent}
 use Rattle.value_fields.proofs.send_read.Goals as goal
 

@@ -4,7 +4,8 @@ use native.Mathlib.Omega.{arith}
 use Prim.Native.Nat.{◌+◌, ◌≤◌}
 use lib.ListN.{length-set}
 use Rattle.value_fields.specs.Legal.{bits_from}
-use Rattle.value_fields.specs.Stretch.{stretch_then, none_set, some_set}
+use Rattle.value_fields.specs.Stretch.{none_set, some_set}
+use Rattle.value_fields.proofs.Stretch.{stretch_then}
 use Rattle.value_fields.proofs.send_roomy.Goals as goal
 
 pub returns-then-end-before : goal.returns-then-end-before

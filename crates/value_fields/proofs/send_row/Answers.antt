@@ -23,8 +23,9 @@ use Rattle.readings.proofs.Laws.{as_single, as_bits, as_quantity, as_text, as_tr
 use Rattle.listing.specs.RowLaws.{row_stands, row_ready}
 use Rattle.sink.specs.Sent.{sent_as}
 use Rattle.widths.specs.rule.Width.{decimals_of}
-use Rattle.value_fields.specs.Legal.{each_field, told_of, row_fits, row_small, row_legal, row_text}
-use Rattle.value_fields.specs.Bare.{well_of}
+use Rattle.value_fields.specs.Legal.{each_field, row_fits, row_small, row_legal, row_text}
+use Rattle.value_fields.proofs.Legal.{told_of}
+use Rattle.value_fields.proofs.Bare.{well_of}
 use Rattle.value_fields.proofs.send_row.Goals as goal
 
 -- a bitstring of which every category is one

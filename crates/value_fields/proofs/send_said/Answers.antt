@@ -9,7 +9,7 @@ use Rattle.fields.specs.rule.Number.{says}
 use Rattle.numbers.specs.Numeral.{said_of}
 use Rattle.sink.specs.Sent.{sent_as, nothing_sent}
 use Rattle.value_fields.specs.rule.Values.{export_number}
-use Rattle.value_fields.specs.Legal.{said_blank, said_zero, said_number, said_wrong}
+use Rattle.value_fields.proofs.Legal.{said_blank, said_zero, said_number, said_wrong}
 use Rattle.value_fields.proofs.send_said.Goals as goal
 use Rattle.value_fields.proofs.send_said.Goals.{After-same, In-Says}
 

@@ -2,7 +2,8 @@ use mathlib.Core.Path.{refl, ap}
 use native.Mathlib.Omega.{arith}
 use Rattle.sink.specs.Sent.{all_owed, less_owed, none_owed, owed_as, sent_as}
 use Rattle.value_fields.specs.rule.Values.{codes_behind}
-use Rattle.value_fields.specs.Legal.{bit_clear, codes_set, bits_over, count_code}
+use Rattle.value_fields.specs.Legal.{bit_clear, codes_set, bits_over}
+use Rattle.value_fields.proofs.Legal.{count_code}
 use Rattle.value_fields.proofs.send_set_bits.Goals as goal
 
 pub loop-i-init : goal.loop-i-init

@@ -9,7 +9,8 @@ use Rattle.numbers.proofs.Laws.{rest_is, short_rest, quantity_none, quantity_pla
 use Rattle.readings.specs.Answer.{numeral_field}
 use Rattle.sink.specs.Sent.{sent_as, nothing_sent}
 use Rattle.bare_digits.specs.Bare.{unled_spaces}
-use Rattle.value_fields.specs.Bare.{form_of, amount_small, quantity_bare, quantity_empty}
+use Rattle.value_fields.proofs.Bare.{amount_small, quantity_bare}
+use Rattle.value_fields.proofs.Bare.{form_of, quantity_empty}
 use Rattle.value_fields.proofs.send_signed.Goals as goal
 use Rattle.value_fields.proofs.send_signed.Goals.{After-leading-p, Else-s-p-eq45}
 

@@ -6,7 +6,7 @@ use Rattle.fields.specs.rule.Number.{unspaced}
 use Rattle.readings.proofs.Laws.{last_bytes}
 use Rattle.sink.specs.Sent.{sent_as}
 use Rattle.bare_digits.specs.Bare.{unled}
-use Rattle.value_fields.specs.Bare.{single_bare}
+use Rattle.value_fields.proofs.Bare.{single_bare}
 use Rattle.value_fields.proofs.send_single.Goals as goal
 
 pub returns : goal.returns

@@ -8,7 +8,9 @@ use lib.ListN.{length}
 use lib.Seq.{length-take-le}
 use Rattle.widths.specs.rule.Width.{tail_of}
 use Rattle.sink.specs.Sent.{sent_as, then}
-use Rattle.value_fields.specs.Bare.{amount_room, end_reach, size_some, size_none}
+use Rattle.value_fields.specs.Bare.{end_reach}
+use Rattle.value_fields.proofs.Bare.{size_some, size_none}
+use Rattle.value_fields.proofs.Bare.{amount_room}
 use Rattle.value_fields.proofs.send_size.Goals as goal
 use Rattle.value_fields.proofs.send_size.Goals.{After-text_end-e}
 

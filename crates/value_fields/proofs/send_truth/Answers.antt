@@ -1,6 +1,6 @@
 -- `value_fields::send_truth` meets its contract: nothing, or the byte.
 use Rattle.sink.specs.Sent.{sent_as, nothing_sent}
-use Rattle.value_fields.specs.Legal.{truth_none, truth_byte}
+use Rattle.value_fields.proofs.Legal.{truth_none, truth_byte}
 use Rattle.value_fields.proofs.send_truth.Goals as goal
 
 pub returns-then-b-eq32 : goal.returns-then-b-eq32

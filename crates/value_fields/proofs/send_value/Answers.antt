@@ -5,7 +5,7 @@ use mir.Syntax.{w64}
 use mir.Val.{to_z, of_z}
 use Rattle.lines.specs.Lines.{Listable, number_listed, set_listed, text_listed}
 use Rattle.value_fields.specs.rule.Values.{export_number}
-use Rattle.value_fields.specs.Values.{missing_field, number_field, set_field, text_field_lem, truth_field_lem}
+use Rattle.value_fields.proofs.Values.{missing_field, number_field, set_field, text_field_lem, truth_field_lem}
 use Rattle.sink.specs.Sent.{sent_as, nothing_sent}
 use Rattle.value_fields.proofs.send_value.Goals as goal
 use Rattle.value_fields.proofs.send_value.Goals.{In-Number}

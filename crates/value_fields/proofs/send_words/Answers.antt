@@ -7,7 +7,8 @@ use Rattle.places.specs.Laws.{pick_run}
 use Rattle.commas.specs.rule.Csv.{field_bytes}
 use Rattle.sink.specs.Sent.{sent_as}
 use Rattle.value_fields.specs.Values.{part_is}
-use Rattle.value_fields.specs.Legal.{words_field, words_kept}
+use Rattle.value_fields.specs.Legal.{words_kept}
+use Rattle.value_fields.proofs.Legal.{words_field}
 use Rattle.value_fields.proofs.send_words.Goals as goal
 
 pub returns : goal.returns
