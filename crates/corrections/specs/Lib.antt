@@ -2,4 +2,3 @@
 pub mod rule
 pub mod Truth
 pub mod Correction
-pub mod Turns
