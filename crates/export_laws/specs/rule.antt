@@ -1,3 +1,0 @@
--- What the laws say, in reading order. Nothing else stands here.
-pub mod Exactly
-pub mod Quoted

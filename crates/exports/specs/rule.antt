@@ -1,3 +1,0 @@
--- What the contracts of the public calls say, in reading order. Nothing else stands here.
-pub mod Text
-pub mod Export

@@ -1,2 +1,0 @@
-pub mod rule
-pub mod Import

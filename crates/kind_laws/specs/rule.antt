@@ -1,2 +1,0 @@
--- What the theorems say, in reading order. Nothing else stands here.
-pub mod Meet

@@ -1,3 +1,0 @@
--- What the theorems say, in reading order. Nothing else stands here.
-pub mod Alike
-pub mod Exactly
