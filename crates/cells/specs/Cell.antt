@@ -1,6 +1,7 @@
 -- What follows from rule/Cell.antt, and what the code keeps.
 use Rattle.std.specs.Prelude.{◌≡◌, refl, true, List, [], ◌++◌, eqb, length, take, drop, ℕ, suc, ◌+◌, ◌-◌, ◌^◌, ◌≤◌, ◌<◌, ℤ, pos, negsuc}
-use Rattle.std.proofs.Common.{sym, ap, ◌∙◌, append_assoc, arith, eqb-true, eq-eqb, ne_eqb, SFits, of_z, length-append, length-take-le, take_at, drop-drop}
+use Rattle.std.proofs.Common.{sym, ap, ◌∙◌, append_assoc, arith, eqb-true, eq-eqb, ne_eqb, SFits, of_z, length-append, length-take-le}
+use Rattle.std.proofs.Common.{take_at, drop-drop}
 use Rattle.std.specs.Int.{w64}
 use Rattle.std.proofs.Math.Seq.{drop-append-add, paste-zero}
 use Rattle.below.specs.Below.{same_bool}

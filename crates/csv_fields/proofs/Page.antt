@@ -11,7 +11,9 @@ use Rattle.below.specs.Below.{holds_not, lt_or_le}
 use Rattle.commas.specs.rule.Csv.{is_special, holds_special}
 use Rattle.csv_fields.specs.rule.Page.{over, torn, more, last, start, fresh, bare, ending, inside, closing}
 use Rattle.csv_fields.specs.rule.Page.{skip, keep, comma, wrong, bare_step, page_step, with_byte, taken, page_at_end, page}
-use Rattle.csv_fields.specs.Page.{BareTo, Bared, Bounded, Closed, InsideTo, QuoteTo, closing_stops, inside_quote, inside_run, part, part_join, part_more, part_none, part_rest, plain_more, special_quote, stop_page, with_bytes, with_join, with_torn}
+use Rattle.csv_fields.specs.Page.{BareTo, Bared, Bounded, Closed, InsideTo, QuoteTo, closing_stops, inside_quote, inside_run, part}
+use Rattle.csv_fields.specs.Page.{part_join, part_more, part_none, part_rest, plain_more, special_quote, stop_page, with_bytes, with_join}
+use Rattle.csv_fields.specs.Page.{with_torn}
 
 pub bare_keeps : (b : ℕ) (s : List ℕ) → is_special b ≡ false → page bare (b ∷ s) ≡ with_byte b (page bare s)
 unfolding page page_step bare_step taken

@@ -42,11 +42,13 @@ module _ (d : List ℕ) (i : ℕ) where
   unfolding terminator_of
   found_cr h e = rw (drop-cons d i 0 h, eq-eqb (get_or d i 0) 13 e, add-one i)
 
-  pub found_lf : i < length d → (get_or d i 0 ≡ 13 → ⊥) → get_or d i 0 ≡ 10 → terminator_of (drop i d) ≡ terminator_at 10 13 (drop (i + 1) d)
+  pub found_lf : i < length d → (get_or d i 0 ≡ 13 → ⊥) → get_or d i 0 ≡ 10 → terminator_of (drop i d)
+      ≡ terminator_at 10 13 (drop (i + 1) d)
   unfolding terminator_of
   found_lf h n e = rw (drop-cons d i 0 h, ne_eqb (get_or d i 0) 13 n, eq-eqb (get_or d i 0) 10 e, add-one i)
 
-  pub found_on : i < length d → (get_or d i 0 ≡ 13 → ⊥) → (get_or d i 0 ≡ 10 → ⊥) → terminator_of (drop i d) ≡ terminator_of (drop (i + 1) d)
+  pub found_on : i < length d → (get_or d i 0 ≡ 13 → ⊥) → (get_or d i 0 ≡ 10 → ⊥) → terminator_of (drop i d)
+      ≡ terminator_of (drop (i + 1) d)
   unfolding terminator_of
   found_on h n m = rw (drop-cons d i 0 h, ne_eqb (get_or d i 0) 13 n, ne_eqb (get_or d i 0) 10 m, add-one i)
 

@@ -177,7 +177,8 @@ module _ (d : List ℕ) (w : Terminator) (start : ℕ) where
   unends : (k i : ℕ) → length d - i ≡ k → start ≤ i → i ≤ length d → start < length d → {a e : ℕ}
       → end_from w start i (drop i d) ≡ Unended a e → UnendedAt (cut w 0 (part d start i) (drop i d)) a e
   unends zero i z h l m q = unends_at i (omega arith) m q
-  unends (suc k) i z h l m {a} {e} q = go (begins_at w (drop i d)) refl (λ p. unends k (i + 1) (omega arith) (omega arith) (omega arith) m p)
+  unends (suc k) i z h l m {a} {e} q = go (begins_at w (drop i d)) refl
+      (λ p. unends k (i + 1) (omega arith) (omega arith) (omega arith) m p)
     where
       go : (b : Bool) → begins_at w (drop i d) ≡ b
           → (end_from w start (i + 1) (drop (i + 1) d) ≡ Unended a e → UnendedAt (cut w 0 (part d start (i + 1)) (drop (i + 1) d)) a e)
@@ -232,7 +233,8 @@ module _ (d : List ℕ) (w : Terminator) (from size : ℕ) where
   byte_there : (j : ℕ) → from ≤ j → j < from + size → get_or (part d from (from + size)) (j - from) 0 ≡ get_or d j 0
   byte_there j a b =
       let q : from + (j - from) ≡ j = omega arith in
-      get_or-take (from + size - from) (drop from d) (j - from) 0 (omega arith) ∙ get_or-drop from d (j - from) 0 ∙ ap (λ (x : ℕ). get_or d x 0) q
+      get_or-take (from + size - from) (drop from d) (j - from) 0 (omega arith) ∙ get_or-drop from d (j - from) 0
+      ∙ ap (λ (x : ℕ). get_or d x 0) q
 
   part_length : from + size < length d → length (part d from (from + size)) ≡ size
   part_length h = rw (length-take, length-drop) (omega arith)

@@ -148,7 +148,8 @@ empty_present c = (refl, refl)
 
 -- a column's summary stands at its place among the summaries
 summary_at : (t : List ℤ) (v : ℕ) (rs : List (List ℕ)) (cs : List Column) (k : ℕ) (rest : List ℕ) → k < length cs
-    → take 24 (drop (24 * k) (summaries_of t v rs cs ++ rest)) ≡ summary_bytes (summary_of (present_of (column_entries t v (column_at cs k) rs)))
+    → take 24 (drop (24 * k) (summaries_of t v rs cs ++ rest))
+    ≡ summary_bytes (summary_of (present_of (column_entries t v (column_at cs k) rs)))
 unfolding summaries_of
 summary_at t v rs [] k rest h = absurd (omega arith)
 summary_at t v rs (c ∷ cs) zero rest h =

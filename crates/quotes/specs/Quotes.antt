@@ -102,16 +102,17 @@ unmarked_next f s from i c e h = unmarked_more f s from i 1 c (sym (among_more f
     i_zero i = omega arith
 
 -- what no byte but a mark changes is the same at both ends
-module _ {A : Type 0} (f : ℕ → Bool) (s : List ℕ) (g : ℕ → A) (step : (i : ℕ) → i < length s → mark_at f s i ≡ false → g i ≡ g (i + 1)) where
-  same_over : (n i to : ℕ) → i + n ≡ to → Unmarked f s i to → g i ≡ g to
-  same_over zero i to q u = let e : i ≡ to = omega arith in rw e
-  same_over (suc n) i to q u =
-      step i (u.within i (omega arith) (omega arith)) (u.plain i (omega arith) (omega arith)) ∙
-      same_over n (i + 1) to (omega arith) (record {
-        on = omega arith;
-        within = λ j a b. u.within j (omega arith) b;
-        plain = λ j a b. u.plain j (omega arith) b;
-      })
+module _ {A : Type 0} (f : ℕ → Bool) (s : List ℕ) (g : ℕ → A) (step : (i : ℕ) → i < length s → mark_at f s i ≡ false → g i ≡ g (i + 1))
+  where
+    same_over : (n i to : ℕ) → i + n ≡ to → Unmarked f s i to → g i ≡ g to
+    same_over zero i to q u = let e : i ≡ to = omega arith in rw e
+    same_over (suc n) i to q u =
+        step i (u.within i (omega arith) (omega arith)) (u.plain i (omega arith) (omega arith)) ∙
+        same_over n (i + 1) to (omega arith) (record {
+          on = omega arith;
+          within = λ j a b. u.within j (omega arith) b;
+          plain = λ j a b. u.plain j (omega arith) b;
+        })
 
-  pub unmarked_same : (i to : ℕ) → Unmarked f s i to → g i ≡ g to
-  unmarked_same i to u = same_over (to - i) i to (omega (arith, u.on)) u
+    pub unmarked_same : (i to : ℕ) → Unmarked f s i to → g i ≡ g to
+    unmarked_same i to u = same_over (to - i) i to (omega (arith, u.on)) u

@@ -1,6 +1,7 @@
 -- Theorems of specs/Exact.antt, kept here: a wrong definition is refused by them.
 use Rattle.std.specs.Prelude.{◌≡◌, refl, Bool, true, false, cond, ℕ, suc, ◌*◌, ◌^◌, ◌≤◌, ◌<◌, ℤ, pos, negsuc, nat_abs, T, eqb, Float}
-use Rattle.std.proofs.Common.{sym, ap, ◌∙◌, subst, true≢false, le_trans, mul-one, mul_assoc, mul_comm, mul_left_comm, mul-pos, zero-mul, lt_irrefl, arith, eqb→eq, le→leb, lt→ltb, lit≤}
+use Rattle.std.proofs.Common.{sym, ap, ◌∙◌, subst, true≢false, le_trans, mul-one, mul_assoc, mul_comm, mul_left_comm, mul-pos, zero-mul}
+use Rattle.std.proofs.Common.{lt_irrefl, arith, eqb→eq, le→leb, lt→ltb, lit≤}
 use Rattle.std.specs.Float.{nan, inf, fin, Format, binary64}
 use Rattle.std.specs.Float.Ieee.{up, down, unlike, round, div, of_int, in_float, to_signed}
 use Rattle.std.specs.Float.Ieee.Fits.{down_pos}

@@ -1,6 +1,9 @@
 -- Theorems of specs/Order.antt, kept here: a wrong definition is refused by them.
 use Rattle.std.specs.Prelude.{◌≡◌, refl, Bool, true, false, not, ℤ, pos, negsuc, nat_abs, T, ltb, Float}
-use Rattle.std.proofs.Common.{sym, ap, ◌∙◌, true≢false, inl, inr, le_trans, le_refl, le_of_lt, le_antisymm, le_of_eq, eq-or-lt_of_le, le_of_mul-le-mul_right, lt_of_mul-lt-mul_right, le-mul_of_pos_right, mul_assoc, mul_comm, mul_right_comm, add-mul, zero-mul, mul-pos, mul-le-mul_right, mul-lt-mul_of_pos_right, arith, lt-ltb, le-ltb, ltb-true, ltb-false, lit≤, pow_pos}
+use Rattle.std.proofs.Common.{sym, ap, ◌∙◌, true≢false, inl, inr, le_trans, le_refl, le_of_lt, le_antisymm, le_of_eq, eq-or-lt_of_le}
+use Rattle.std.proofs.Common.{le_of_mul-le-mul_right, lt_of_mul-lt-mul_right, le-mul_of_pos_right, mul_assoc, mul_comm, mul_right_comm}
+use Rattle.std.proofs.Common.{add-mul, zero-mul, mul-pos, mul-le-mul_right, mul-lt-mul_of_pos_right, arith, lt-ltb, le-ltb, ltb-true}
+use Rattle.std.proofs.Common.{ltb-false, lit≤, pow_pos}
 use Prim.Native.Nat.{ℕ, suc, ◌+◌, ◌*◌, ◌^◌, ◌≤◌, ◌<◌}
 use Rattle.std.specs.Int.Signed.{lt_z}
 use Rattle.std.proofs.Math.Dec.{leb-suc-suc}

@@ -2,7 +2,9 @@
 -- `grid` is a rounded fraction in units of the smallest float, 2 ^ -1074. It misses the fraction by half a step at most, and a step is at
 -- most 2 ^ -52 of the fraction, while two fractions n / p and m / p differ by 1 / p at least. Assumes nothing.
 use Rattle.std.specs.Prelude.{◌≡◌, refl, not, ℤ, pos, T, eqb}
-use Rattle.std.proofs.Common.{sym, ap, ◌∙◌, subst, le_trans, le_refl, le_of_lt, le_of_eq, lt_of_not-le, le_of_mul-le-mul_right, le-div_iff_mul-le, mod-lt, mul-one, one-mul, suc-mul, mul_assoc, mul_comm, mul_left_comm, mul_right_comm, add-mul, mul-pos, mul-le-mul_right, div-add-mod', arith, leb→le, eqb→eq, lit≤, pow-add, pow_pos}
+use Rattle.std.proofs.Common.{sym, ap, ◌∙◌, subst, le_trans, le_refl, le_of_lt, le_of_eq, lt_of_not-le, le_of_mul-le-mul_right}
+use Rattle.std.proofs.Common.{le-div_iff_mul-le, mod-lt, mul-one, one-mul, suc-mul, mul_assoc, mul_comm, mul_left_comm, mul_right_comm}
+use Rattle.std.proofs.Common.{add-mul, mul-pos, mul-le-mul_right, div-add-mod', arith, leb→le, eqb→eq, lit≤, pow-add, pow_pos}
 use Prim.Native.Nat.{ℕ, zero, suc, ◌+◌, ◌*◌, ◌/◌, ◌%◌, ◌^◌, ◌≤◌, ◌<◌, compare, Ordering}
 use Rattle.std.proofs.Math.Dec.{is_le, compare_is_eq, nleb→lt, eqb_refl}
 use Rattle.std.proofs.Math.Arith.{lt_of_le-ne}
@@ -25,7 +27,8 @@ Cmp Ordering.gt a b = b < a
 compared : (a b : ℕ) → Cmp (compare a b) a b
 compared a b = go (compare a b) (leb→le a b) (nleb→lt a b) (eqb→eq a b) (λ (e : a ≡ b). subst (λ (x : ℕ). T (eqb a x)) e (eqb_refl a))
   where
-    go : (o : Ordering) → (T (is_le o) → a ≤ b) → (T (not (is_le o)) → b < a) → (T (compare_is_eq o) → a ≡ b) → (a ≡ b → T (compare_is_eq o)) → Cmp o a b
+    go : (o : Ordering) → (T (is_le o) → a ≤ b) → (T (not (is_le o)) → b < a) → (T (compare_is_eq o) → a ≡ b)
+        → (a ≡ b → T (compare_is_eq o)) → Cmp o a b
     go Ordering.lt h k e n = lt_of_le-ne (h tt) n
     go Ordering.eq h k e n = e tt
     go Ordering.gt h k e n = k tt

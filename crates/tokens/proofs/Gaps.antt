@@ -115,10 +115,12 @@ all_four true true true false e = let z : ◌≡◌ {A = ℕ} 0 1 = cc in absurd
 all_four true true true true e = (refl, refl, refl, refl)
 
 pub gap_four : (d : List ℕ) (n : ℕ) → n + 4 ≤ length d
-    → (eqb (get_or d n 0) 32 && (eqb (get_or d (n + 1) 0) 32 && (eqb (get_or d (n + 2) 0) 32 && eqb (get_or d (n + 3) 0) 32))) ≡ true → gap_at d n
+    → (eqb (get_or d n 0) 32 && (eqb (get_or d (n + 1) 0) 32 && (eqb (get_or d (n + 2) 0) 32 && eqb (get_or d (n + 3) 0) 32))) ≡ true
+    → gap_at d n
     ≡ gap_at d (n + 4)
 gap_four d n h e =
-    let all = all_four (eqb (get_or d n 0) 32) (eqb (get_or d (n + 1) 0) 32) (eqb (get_or d (n + 2) 0) 32) (eqb (get_or d (n + 3) 0) 32) e in
+    let all = all_four (eqb (get_or d n 0) 32) (eqb (get_or d (n + 1) 0) 32) (eqb (get_or d (n + 2) 0) 32) (eqb (get_or d (n + 3) 0) 32)
+    e in
     let a : get_or d n 0 ≡ 32 = eqb-true _ _ all.0 in
     let b : get_or d (n + 1) 0 ≡ 32 = eqb-true _ _ all.1 in
     let f : get_or d (n + 2) 0 ≡ 32 = eqb-true _ _ all.2 in

@@ -34,7 +34,8 @@ overflow_add-row c = let h = high c.count_of-c.result c.args.row.lines c.if-c-ro
 
 pub base-at-requires : goal.base-at-requires
 base-at-requires c =
-    let p = c.requires in let h = high c.count_of-c.result c.args.row.lines c.if-c-row.true in let f = p.few_lines in (p.few_rows, omega arith)
+    let p = c.requires in let h = high c.count_of-c.result c.args.row.lines c.if-c-row.true in
+    let f = p.few_lines in (p.few_rows, omega arith)
 
 pub offset_bounds-t-at : goal.offset_bounds-t-at
 offset_bounds-t-at c =
@@ -43,7 +44,8 @@ offset_bounds-t-at c =
 
 pub bounds-t-at : goal.bounds-t-at
 bounds-t-at c =
-    let p = c.requires in let l = low c.count_of-c.result c.args.row.lines c.if-c-row.true in let h = high c.count_of-c.result c.args.row.lines c.if-c-row.true in
+    let p = c.requires in let l = low c.count_of-c.result c.args.row.lines c.if-c-row.true in
+    let h = high c.count_of-c.result c.args.row.lines c.if-c-row.true in
     let f = p.stand in rw c.base-at.ensures (omega arith)
 
 pub returns-then-c-row : goal.returns-then-c-row

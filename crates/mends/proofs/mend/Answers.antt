@@ -53,11 +53,13 @@ measured s = rw s.read-h.ensures at s.measure-z.ensures
 counted : (s : Else-not-has_room) → Counts (table s) (file s) (e s) (z s)
 counted s = counts (table s) (file s) (e s) (z s) (ends s) (measured s)
 
-room : (s : Else-not-has_room) → leb (3 * ((z s).others + (z s).short)) (length (list s)) && leb ((z s).kept * ((z s).width + (e s).size)) (length (out s))
+room : (s : Else-not-has_room) → leb (3 * ((z s).others + (z s).short)) (length (list s))
+    && leb ((z s).kept * ((z s).width + (e s).size)) (length (out s))
     ≡ true
 room s = sym s.has_room.ensures ∙ s.if-not-has_room.false
 
-both : (s : Else-not-has_room) → (3 * ((z s).others + (z s).short) ≤ length (list s)) × ((z s).kept * ((z s).width + (e s).size) ≤ length (out s))
+both : (s : Else-not-has_room) → (3 * ((z s).others + (z s).short) ≤ length (list s))
+    × ((z s).kept * ((z s).width + (e s).size) ≤ length (out s))
 both s = room_both (3 * ((z s).others + (z s).short)) (length (list s)) ((z s).kept * ((z s).width + (e s).size)) (length (out s)) (room s)
 
 entries_fit : (s : Else-not-has_room) → (z s).others + (z s).short < 18446744073709551616

@@ -1,0 +1,3 @@
+-- What the theorems say, in reading order. Nothing else stands here.
+pub mod Singles
+pub mod Outcomes

@@ -1,0 +1,3 @@
+pub mod Demands
+pub mod Carried
+pub mod Sheets

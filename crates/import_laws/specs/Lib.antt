@@ -1,0 +1,10 @@
+pub mod rule
+pub mod Built
+pub mod Round
+pub mod Again
+pub mod Equal
+pub mod Trip
+pub mod File
+pub mod Accepted
+pub mod Exactly
+pub mod Calls

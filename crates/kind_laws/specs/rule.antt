@@ -1,0 +1,2 @@
+-- What the theorems say, in reading order. Nothing else stands here.
+pub mod Meet

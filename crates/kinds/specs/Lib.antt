@@ -1,0 +1,5 @@
+pub mod rule
+pub mod Code
+pub mod Plain
+pub mod Other
+pub mod Settled

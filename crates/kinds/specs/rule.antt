@@ -1,0 +1,3 @@
+-- What the contracts of the public calls say, in reading order. Nothing else stands here.
+pub mod Definition
+pub mod Against

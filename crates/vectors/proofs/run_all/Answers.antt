@@ -1,0 +1,8 @@
+use lib.ListN.{length-take}
+use native.Mathlib.Omega.{arith}
+use Rattle.vectors.proofs.run_all.Goals as goal
+
+pub slice_bounds-write_all-end-2 : goal.slice_bounds-write_all-end-2
+slice_bounds-write_all-end-2 c =
+    let h = c.bounded-last.ensures in
+    simp length-take (omega arith)
