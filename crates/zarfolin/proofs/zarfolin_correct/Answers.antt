@@ -7,21 +7,21 @@ use Rattle.zarfolin.proofs.zarfolin_correct.Goals as goal
 pub offset_bounds-list-i : goal.offset_bounds-list-i
 offset_bounds-list-i c =
     let e : c.turns-n.result ≡ turns c.args.table.now c.args.list.now c.args.bytes.now =
-        c.turns-n.ensures ∙ ap (λ (w : ℕ). turns_of w (length c.args.list.now)) c.admit-answer.ensures in
+    c.turns-n.ensures ∙ ap (λ (w : ℕ). turns_of w (length c.args.list.now)) c.admit-answer.ensures in
     let m = turns_most c.args.table.now c.args.list.now c.args.bytes.now in
     omega arith
 
 pub slice_copy_out-correct : goal.slice_copy_out-correct
 slice_copy_out-correct c =
     let e : c.turns-n.result ≡ turns c.args.table.now c.args.list.now c.args.bytes.now =
-        c.turns-n.ensures ∙ ap (λ (w : ℕ). turns_of w (length c.args.list.now)) c.admit-answer.ensures in
+    c.turns-n.ensures ∙ ap (λ (w : ℕ). turns_of w (length c.args.list.now)) c.admit-answer.ensures in
     let m = turns_most c.args.table.now c.args.list.now c.args.bytes.now in
     omega arith
 
 pub correct-requires : goal.correct-requires
 correct-requires c =
     let e : c.turns-n.result ≡ turns c.args.table.now c.args.list.now c.args.bytes.now =
-        c.turns-n.ensures ∙ ap (λ (w : ℕ). turns_of w (length c.args.list.now)) c.admit-answer.ensures in
+    c.turns-n.ensures ∙ ap (λ (w : ℕ). turns_of w (length c.args.list.now)) c.admit-answer.ensures in
     let v = c.loop-i.invariant in
     let s : State c.args.table.now c.args.list.now c.args.bytes.now = record {
       i = c.loop-i.i;
@@ -40,21 +40,21 @@ correct-requires c =
 pub offset_bounds-list-i-in-loop-i : goal.offset_bounds-list-i-in-loop-i
 offset_bounds-list-i-in-loop-i c =
     let e : c.turns-n.result ≡ turns c.args.table.now c.args.list.now c.args.bytes.now =
-        c.turns-n.ensures ∙ ap (λ (w : ℕ). turns_of w (length c.args.list.now)) c.admit-answer.ensures in
+    c.turns-n.ensures ∙ ap (λ (w : ℕ). turns_of w (length c.args.list.now)) c.admit-answer.ensures in
     let m = turns_most c.args.table.now c.args.list.now c.args.bytes.now in
     omega arith
 
 pub bounds-list-i : goal.bounds-list-i
 bounds-list-i c =
     let e : c.turns-n.result ≡ turns c.args.table.now c.args.list.now c.args.bytes.now =
-        c.turns-n.ensures ∙ ap (λ (w : ℕ). turns_of w (length c.args.list.now)) c.admit-answer.ensures in
+    c.turns-n.ensures ∙ ap (λ (w : ℕ). turns_of w (length c.args.list.now)) c.admit-answer.ensures in
     let m = turns_most c.args.table.now c.args.list.now c.args.bytes.now in
     omega arith
 
 pub loop-i-preserved : goal.loop-i-preserved
 loop-i-preserved c =
     let e : c.turns-n.result ≡ turns c.args.table.now c.args.list.now c.args.bytes.now =
-        c.turns-n.ensures ∙ ap (λ (w : ℕ). turns_of w (length c.args.list.now)) c.admit-answer.ensures in
+    c.turns-n.ensures ∙ ap (λ (w : ℕ). turns_of w (length c.args.list.now)) c.admit-answer.ensures in
     let v = c.loop-i.invariant in
     let s : State c.args.table.now c.args.list.now c.args.bytes.now = record {
       i = c.loop-i.i;
@@ -77,7 +77,7 @@ loop-i-preserved c =
 pub returns : goal.returns
 returns c =
     let e : c.turns-n.result ≡ turns c.args.table.now c.args.list.now c.args.bytes.now =
-        c.turns-n.ensures ∙ ap (λ (w : ℕ). turns_of w (length c.args.list.now)) c.admit-answer.ensures in
+    c.turns-n.ensures ∙ ap (λ (w : ℕ). turns_of w (length c.args.list.now)) c.admit-answer.ensures in
     let v = c.loop-i.invariant in
     let s : State c.args.table.now c.args.list.now c.args.bytes.now = record {
       i = c.loop-i.i;
