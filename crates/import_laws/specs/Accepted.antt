@@ -145,7 +145,7 @@ module _ {t : List ℤ} (g : Table t) where
 
   fields_left : {s : List ℕ} {i : ℕ} {fs : List (List ℕ)} → AllLeft t s i fs → FieldsLeft t i (each (row_field t s) i (length fs)) fs
   unfolding each
-  fields_left again.AllLeft.None-more = no_field
+  fields_left again.AllLeft.none_more = no_field
   fields_left {s} {i} (again.AllLeft.one_more {fs = fs} l k) =
       and_field l (subst (λ (j : ℕ). FieldsLeft t (i + 1) (each (row_field t s) j (length fs)) fs) (add-one i) (fields_left k))
 
@@ -207,6 +207,8 @@ module _ {t : List ℤ} (g : Table t) where
       let v = left_value r i f x q l in
       let w = left_built r legal n (i + 1) fs (written_of t (rows_of t) (row_at t i) x s) (omega arith) (rw (← add-one i) at k) in
       rw ((value_exactly (row_facts t g.formed i b) f x).1 v) w)
+  left_built r legal zero i (f ∷ fs) s h k = elim k [ ]
+  left_built r legal (suc n) i [] s h k = elim k [ ]
 
   left_many : {i : ℕ} {es fs : List (List ℕ)} → FieldsLeft t i es fs → length es ≡ length fs
   left_many no_field = refl
@@ -237,6 +239,8 @@ module _ {t : List ℤ} (g : Table t) where
       let b = line_some r q fs x in
       let w = lines_taken rs a ms (k + 1) y in
       record { records = b.bytes ∷ w.records; is = rw (b.is, w.is) }
+  lines_taken [] a (fs ∷ ms) k x = elim x [ ]
+  lines_taken (r ∷ rs) (one_more l q a) [] k x = elim x [ ]
 
   text_taken : (names : List (List ℕ)) (s : List ℕ) (ms : List (List (List ℕ))) → IsText (names ∷ ms) s → Taken (lines_say t 2 (all_of ms))
       → Taken (text_says t names s)

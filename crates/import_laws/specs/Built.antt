@@ -80,7 +80,7 @@ module _ {t : List ℤ} (g : Table t) where
           others_read t (rows_of t) (row_at t i) x s (row_at t j) (earlier_apart j i k h) ∙ r.reads j k
 
   -- ---- the line of a record whose rows are legal
-  module _ (r : List ℕ) (legal-rows : (i : ℕ) → i < rows_of t → is_illegal (reading_at t i r) ≡ false) where
+  module _ (r : List ℕ) (legal_rows : (i : ℕ) → i < rows_of t → is_illegal (reading_at t i r) ≡ false) where
     pub record Built (says : LineSays) : Type 0 where
       pub bytes : List ℕ
       pub is : says ≡ builds bytes
@@ -92,7 +92,7 @@ module _ {t : List ℤ} (g : Table t) where
     rows_built zero i s e k = let q : i ≡ rows_of t = omega arith in record { bytes = s; is = refl; reads = rw q at k }
     rows_built (suc n) i s e k =
         let h : i < rows_of t = omega arith in
-        held_value (reading_at t i r) (legal-rows i h) (λ x q.
+        held_value (reading_at t i r) (legal_rows i h) (λ x q.
         let v = own_field t r i x q in
         let w = rows_built n (i + 1) (written_of t (rows_of t) (row_at t i) x s) (omega arith) (one_read k h x q v.accepted) in
         rw (field_taken t g i h (row_field t r i) x v, ← add-one i) w)

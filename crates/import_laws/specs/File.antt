@@ -101,7 +101,7 @@ module _ {t : List ℤ} (g : Table t) where
 
   all_legal : {s : List ℕ} {i : ℕ} {fs : List (List ℕ)} → AllRead t s i fs → (j : ℕ) → i ≤ j → j < i + length fs
       → is_illegal (reading_at t j s) ≡ false
-  all_legal again.AllRead.None-more j h l = absurd (omega arith)
+  all_legal again.AllRead.none_more j h l = absurd (omega arith)
   all_legal {s} {i} (again.AllRead.one_more x e k r) j h l =
       ⊎_elim (λ m. all_legal r j (omega arith) (omega arith)) (λ m. let q : j ≡ i = omega arith in rw q (held_legal (reading_at t i s) e))
       (lt_or_le i j)
@@ -122,7 +122,7 @@ module _ {t : List ℤ} (g : Table t) where
             (record {
               long = omega (arith, a.size);
               plain = high_get h;
-              legal-rows = λ i l. all_legal a.reads i (omega arith)
+              legal_rows = λ i l. all_legal a.reads i (omega arith)
                   (omega (arith, a.many));
             });
         high = h;
