@@ -1,7 +1,7 @@
 -- A TEXT IS ACCEPTED EXACTLY WHEN it is, needless quotes and cut zeros aside, the export of some sound file of records of L bytes; and
 -- exporting what an accepted text builds gives the text again, these aside.
 -- Assumes nothing.
-use Rattle.std.specs.Prelude.{◌≡◌, ◌↔◌, Bool, true, false, cond, ◌&&◌, eqb, ℤ}
+use Rattle.std.specs.Prelude.{◌≡◌, ◌↔◌, Bool, true, false, cond, eqb, ℤ}
 use Rattle.std.proofs.Math.Path.{refl, sym, ap}
 use Rattle.std.proofs.Common.{subst, ◌∙◌, eqb-true, eq-eqb}
 use mathlib.Core.List.{List, [], ◌∷◌}
@@ -25,20 +25,18 @@ use Rattle.normal_laws.specs.Turns.{held_value}
 use Rattle.files.specs.rule.File.{sound_with, file_verdict}
 use Rattle.file_laws.specs.rule.Files.{records_before, AllSound, none_yet, one_more}
 use Rattle.commas.specs.rule.Csv.{each}
-use Rattle.csv_fields.specs.rule.Page.{Page, torn, start, fresh, page, page_at_end, Lines, done, broken, line, page_lines}
+use Rattle.csv_fields.specs.rule.Page.{start, fresh, page, page_at_end, Lines, done, broken, line, page_lines}
 use Rattle.csv_fields.proofs.Page.{start_fresh}
 use Rattle.csv_laws.specs.rule.Grammar.{IsText, all_of}
 use Rattle.csv_laws.specs.Complete.{text_read_fresh}
 use Rattle.csv_laws.specs.Sound.{text_exactly}
-use Rattle.value_fields.specs.rule.Values.{export_value, export_field, row_field}
+use Rattle.value_fields.specs.rule.Values.{export_field, row_field}
 use Rattle.widths.specs.rule.Width.{decimals_of}
 use Rattle.record_lines.specs.rule.Lines as rows
 use Rattle.field_values.specs.rule.Value.{Left, IsValue}
-use Rattle.field_values.specs.rule.Read.{value_from}
 use Rattle.field_values.specs.Exactly.{value_exactly}
 use Rattle.name_line.specs.rule.Names.{name_line}
 use Rattle.name_line.specs.Names.{name_at}
-use Rattle.exports.specs.rule.Text.{export_lines}
 use Rattle.import_rule.specs.rule.Line.{LineSays, builds, faulty, on_field, record_from, line_says}
 use Rattle.import_rule.specs.rule.Text.{TextSays, accepts, refuses, and_record, after_line, lines_say, same_bytes, differ_at, names_then}
 use Rattle.import_rule.specs.rule.Text.{names_say}
@@ -50,7 +48,7 @@ use Rattle.import_laws.specs.rule.Trip.{Table}
 use Rattle.import_laws.specs.Round.{none_differ}
 use Rattle.import_laws.specs.Again.{AllLeft, all_left, line_again}
 use Rattle.import_laws.specs.Again as again
-use Rattle.import_laws.specs.File.{SoundLine, line_sound, AllLines, no_more, and_more, file_cut, file_sound}
+use Rattle.import_laws.specs.File.{line_sound, AllLines, no_more, and_more, file_cut, file_sound}
 use Rattle.import_laws.specs.Trip.{sound_before, sound_lines}
 
 -- ---- names that don't differ are the same

@@ -1,38 +1,35 @@
 -- A record built from L spaces by ordinary writes in row order reads as what was written, where no two rows share a value place; and a
 -- sound record's own line builds such a record.
-use Rattle.std.specs.Prelude.{◌≡◌, Bool, true, false, cond, List, [], ◌∷◌, ◌++◌, eqb, ℤ, length}
+use Rattle.std.specs.Prelude.{◌≡◌, false, List, eqb, ℤ, length}
 use Rattle.std.proofs.Math.Path.{refl, ap}
-use Rattle.std.proofs.Common.{sym, ◌∙◌, ⊎_elim}
-use Prim.Native.Nat.{ℕ, zero, suc, ◌+◌, ◌≤◌, ◌<◌}
+use Rattle.std.proofs.Common.{sym, ◌∙◌}
+use Prim.Native.Nat.{ℕ, zero, suc, ◌+◌, ◌<◌}
 use Rattle.std.proofs.Math.Numerals.{add-one}
 use native.Mathlib.Omega.{arith}
 use borrow.Author.Tests.{eq-eqb, eqb-true, eqb-false}
-use Rattle.below.specs.Below.{lt_or_le}
 use Rattle.places.specs.rule.Places.{Apart}
 use Rattle.layout.specs.rule.Row.{row_at}
-use Rattle.layout.specs.declared.Row.{Row}
-use Rattle.fields.specs.rule.Field.{Value, Field, holds, illegal, spaces}
-use Rattle.fields.specs.rule.Row.{reading_of, fits, fit_of, written_of}
+use Rattle.fields.specs.rule.Field.{Value, Field, holds, spaces}
+use Rattle.fields.specs.rule.Row.{fits, fit_of, written_of}
 use Rattle.fieldlaws.specs.TextLaws.{length_spaces}
 use Rattle.fieldlaws.specs.Corrections.{written_length, others_read, reads_back, read_fits}
 use Rattle.sets.specs.rule.Sets.{is_illegal}
-use Rattle.sound.specs.rule.Sound.{well_formed}
 use Rattle.sound.specs.rule.Rows.{rows_of, length_of}
 use Rattle.sound.specs.Rows.{row_facts}
 use Rattle.records.specs.rule.Value.{reading_at}
 use Rattle.laws.specs.Tops.{row_topped}
 use Rattle.sharing.specs.rule.Sharing.{places_at}
 use Rattle.sharing.specs.Claims.{by_cases}
-use Rattle.sharing.specs.Pairs.{apart_rows, apart_turn, apart_is, is_apart}
+use Rattle.sharing.specs.Pairs.{apart_rows}
 use Rattle.normal_laws.specs.Turns.{held_value}
 use Rattle.commas.specs.rule.Csv.{each}
-use Rattle.value_fields.specs.rule.Values.{export_value, export_field, row_field}
+use Rattle.value_fields.specs.rule.Values.{export_field, row_field}
 use Rattle.widths.specs.rule.Width.{decimals_of}
 use Rattle.record_lines.specs.rule.Lines.{record_line}
-use Rattle.field_values.specs.rule.Value.{Left, whole, IsValue}
+use Rattle.field_values.specs.rule.Value.{whole, IsValue}
 use Rattle.field_values.specs.rule.Read.{value_from}
 use Rattle.field_values.specs.Exactly.{value_exactly}
-use Rattle.import_rule.specs.rule.Line.{LineSays, builds, faulty, on_field, record_from, line_says}
+use Rattle.import_rule.specs.rule.Line.{LineSays, builds, on_field, record_from, line_says}
 use Rattle.import_laws.specs.rule.Trip.{Table}
 
 -- a field that is a value is taken
