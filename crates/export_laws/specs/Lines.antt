@@ -1,7 +1,7 @@
 -- AS MANY LINES as records before the first fault, and one for the names; and which line is which record's.
 -- Assumes nothing.
-use Rattle.std.specs.Prelude.{◌≡◌, refl, true, List, [], ◌∷◌, ℕ, zero, suc, ◌+◌, ◌-◌, ◌≤◌, ◌<◌, ℤ, length, get_or}
-use Rattle.std.proofs.Common.{sym, ap, ◌∙◌, arith}
+use Rattle.std.specs.Prelude.{◌≡◌, refl, true, List, [], ℕ, zero, suc, ◌+◌, ◌-◌, ◌≤◌, ◌<◌, ℤ, length, get_or}
+use Rattle.std.proofs.Common.{ap, arith}
 use Rattle.cuts.specs.rule.Records.{Records, over, unended, record_and, records_of}
 use Rattle.sound.specs.rule.Sound.{well_formed}
 use Rattle.records.specs.rule.Verdict.{Verdict, sound, refused, low_byte, bad_field}

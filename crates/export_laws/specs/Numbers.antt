@@ -1,8 +1,8 @@
 -- THE FORM OF AN EXPORTED NUMBER: "Numbers have a digit or more before the point without needless zeros, their decimals, and no point where
 -- there are none" (document 02, C-16).
-use Rattle.std.specs.Prelude.{◌≡◌, refl, Bool, true, false, cond, List, [], ◌∷◌, ◌++◌, ℕ, zero, suc, ◌+◌, ◌-◌, ◌*◌, ◌/◌, ◌%◌, ◌^◌, ◌≤◌, ◌<◌}
+use Rattle.std.specs.Prelude.{◌≡◌, refl, true, cond, List, [], ◌∷◌, ◌++◌, ℕ, zero, suc, ◌/◌, ◌%◌, ◌^◌, ◌≤◌, ◌<◌}
 use Rattle.std.specs.Prelude.{eqb, ℤ, length, get_or}
-use Rattle.std.proofs.Common.{sym, ap, ◌∙◌, mod-eq_of_lt, le-div_iff_mul-le, div-lt_iff_lt-mul, div-le_self, lt_of_le_of_lt, one-mul, arith}
+use Rattle.std.proofs.Common.{mod-eq_of_lt, le-div_iff_mul-le, div-lt_iff_lt-mul, div-le_self, lt_of_le_of_lt, one-mul, arith}
 use Rattle.std.proofs.Common.{⊎_elim}
 use Rattle.std.proofs.Math.Nat.{pow-succ'}
 use Rattle.below.specs.Below.{lt_or_le}

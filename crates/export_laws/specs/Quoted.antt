@@ -1,7 +1,7 @@
 -- QUOTED EXACTLY WHEN it holds one of the four bytes: then the field stands in quotes with its own doubled, else as it is.
 -- Assumes nothing.
 use Rattle.std.specs.Prelude.{◌≡◌, refl, Bool, true, false, ◌||◌, List, [], ◌∷◌, ◌++◌, ℕ, eqb}
-use Rattle.std.proofs.Common.{sym, ap, ◌∙◌, arith, eqb-true}
+use Rattle.std.proofs.Common.{sym, arith, eqb-true}
 use Rattle.commas.specs.rule.Csv.{is_special, holds_special, doubled, field_bytes}
 use Rattle.commas.specs.Csv.{field_quoted, field_plain}
 use Rattle.export_laws.specs.rule.Quoted.{Special, comma, quote, cr, lf, AmongBytes, here, there, HoldsOne}

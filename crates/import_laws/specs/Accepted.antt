@@ -1,7 +1,7 @@
 -- A TEXT IS ACCEPTED EXACTLY WHEN it is, needless quotes and cut zeros aside, the export of some sound file of records of L bytes; and
 -- exporting what an accepted text builds gives the text again, these aside.
 -- Assumes nothing.
-use Rattle.std.specs.Prelude.{◌≡◌, ◌↔◌, Bool, true, false, cond, ◌&&◌, eqb, ℤ}
+use Rattle.std.specs.Prelude.{◌≡◌, ◌↔◌, Bool, true, false, cond, eqb, ℤ}
 use Rattle.std.proofs.Math.Path.{refl, sym, ap}
 use Rattle.std.proofs.Common.{subst, ◌∙◌, eqb-true, eq-eqb}
 use mathlib.Core.List.{List, [], ◌∷◌}
@@ -25,20 +25,18 @@ use Rattle.normal_laws.specs.Turns.{held_value}
 use Rattle.files.specs.rule.File.{sound_with, file_verdict}
 use Rattle.file_laws.specs.rule.Files.{records_before, AllSound, none_yet, one_more}
 use Rattle.commas.specs.rule.Csv.{each}
-use Rattle.csv_fields.specs.rule.Page.{Page, torn, start, fresh, page, page_at_end, Lines, done, broken, line, page_lines}
+use Rattle.csv_fields.specs.rule.Page.{start, fresh, page, page_at_end, Lines, done, broken, line, page_lines}
 use Rattle.csv_fields.proofs.Page.{start_fresh}
 use Rattle.csv_laws.specs.rule.Grammar.{IsText, all_of}
 use Rattle.csv_laws.specs.Complete.{text_read_fresh}
 use Rattle.csv_laws.specs.Sound.{text_exactly}
-use Rattle.value_fields.specs.rule.Values.{export_value, export_field, row_field}
+use Rattle.value_fields.specs.rule.Values.{export_field, row_field}
 use Rattle.widths.specs.rule.Width.{decimals_of}
 use Rattle.record_lines.specs.rule.Lines as rows
 use Rattle.field_values.specs.rule.Value.{Left, IsValue}
-use Rattle.field_values.specs.rule.Read.{value_from}
 use Rattle.field_values.specs.Exactly.{value_exactly}
 use Rattle.name_line.specs.rule.Names.{name_line}
 use Rattle.name_line.specs.Names.{name_at}
-use Rattle.exports.specs.rule.Text.{export_lines}
 use Rattle.import_rule.specs.rule.Line.{LineSays, builds, faulty, on_field, record_from, line_says}
 use Rattle.import_rule.specs.rule.Text.{TextSays, accepts, refuses, and_record, after_line, lines_say, same_bytes, differ_at, names_then}
 use Rattle.import_rule.specs.rule.Text.{names_say}
@@ -50,7 +48,7 @@ use Rattle.import_laws.specs.rule.Trip.{Table}
 use Rattle.import_laws.specs.Round.{none_differ}
 use Rattle.import_laws.specs.Again.{AllLeft, all_left, line_again}
 use Rattle.import_laws.specs.Again as again
-use Rattle.import_laws.specs.File.{SoundLine, line_sound, AllLines, no_more, and_more, file_cut, file_sound}
+use Rattle.import_laws.specs.File.{line_sound, AllLines, no_more, and_more, file_cut, file_sound}
 use Rattle.import_laws.specs.Trip.{sound_before, sound_lines}
 
 -- ---- names that don't differ are the same
@@ -145,7 +143,7 @@ module _ {t : List ℤ} (g : Table t) where
 
   fields_left : {s : List ℕ} {i : ℕ} {fs : List (List ℕ)} → AllLeft t s i fs → FieldsLeft t i (each (row_field t s) i (length fs)) fs
   unfolding each
-  fields_left again.AllLeft.None-more = no_field
+  fields_left again.AllLeft.none_more = no_field
   fields_left {s} {i} (again.AllLeft.one_more {fs = fs} l k) =
       and_field l (subst (λ (j : ℕ). FieldsLeft t (i + 1) (each (row_field t s) j (length fs)) fs) (add-one i) (fields_left k))
 
@@ -207,6 +205,8 @@ module _ {t : List ℤ} (g : Table t) where
       let v = left_value r i f x q l in
       let w = left_built r legal n (i + 1) fs (written_of t (rows_of t) (row_at t i) x s) (omega arith) (rw (← add-one i) at k) in
       rw ((value_exactly (row_facts t g.formed i b) f x).1 v) w)
+  left_built r legal zero i (f ∷ fs) s h k = elim k [ ]
+  left_built r legal (suc n) i [] s h k = elim k [ ]
 
   left_many : {i : ℕ} {es fs : List (List ℕ)} → FieldsLeft t i es fs → length es ≡ length fs
   left_many no_field = refl
@@ -237,6 +237,8 @@ module _ {t : List ℤ} (g : Table t) where
       let b = line_some r q fs x in
       let w = lines_taken rs a ms (k + 1) y in
       record { records = b.bytes ∷ w.records; is = rw (b.is, w.is) }
+  lines_taken [] a (fs ∷ ms) k x = elim x [ ]
+  lines_taken (r ∷ rs) (one_more l q a) [] k x = elim x [ ]
 
   text_taken : (names : List (List ℕ)) (s : List ℕ) (ms : List (List (List ℕ))) → IsText (names ∷ ms) s → Taken (lines_say t 2 (all_of ms))
       → Taken (text_says t names s)

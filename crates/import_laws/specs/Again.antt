@@ -1,10 +1,10 @@
 -- EXPORTING WHAT WAS IMPORTED gives it again, but for needless quotes and cut zeros: each row of a record that a line builds reads as the
 -- value that the line's field is, so that what export writes for it is the field, or the field with its zeros.
-use Rattle.std.specs.Prelude.{◌≡◌, Bool, ℕ, zero, suc, ◌+◌, ◌≤◌, ◌<◌, min, ℤ}
+use Rattle.std.specs.Prelude.{◌≡◌, Bool, ℕ, suc, ◌+◌, ◌≤◌, ◌<◌, min, ℤ}
 use Rattle.std.proofs.Math.Path.{refl, ap}
 use Rattle.std.proofs.Common.{sym, ◌∙◌}
 use Rattle.std.proofs.Math.Bool.{true, false, cond}
-use mathlib.Core.List.{List, [], ◌∷◌, ◌++◌}
+use mathlib.Core.List.{List, [], ◌∷◌}
 use native.Mathlib.Omega.{arith}
 use borrow.Author.Tests.{eqb-true}
 use Rattle.std.proofs.Math.Dec.{eqb}
@@ -18,12 +18,12 @@ use Rattle.sound.specs.rule.Rows.{rows_of, length_of}
 use Rattle.sound.specs.Rows.{row_facts}
 use Rattle.records.specs.rule.Value.{reading_at}
 use Rattle.laws.specs.Tops.{row_topped}
-use Rattle.value_fields.specs.rule.Values.{export_value, export_field, row_field}
+use Rattle.value_fields.specs.rule.Values.{export_field, row_field}
 use Rattle.widths.specs.rule.Width.{decimals_of}
 use Rattle.field_values.specs.rule.Value.{Left, IsValue}
 use Rattle.field_values.specs.rule.Read.{value_from}
 use Rattle.field_values.specs.Exactly.{value_exactly}
-use Rattle.import_rule.specs.rule.Line.{LineSays, builds, faulty, on_field, record_from, line_says}
+use Rattle.import_rule.specs.rule.Line.{builds, faulty, on_field, record_from, line_says}
 use Rattle.import_laws.specs.rule.Trip.{Table}
 use Rattle.import_laws.specs.Built.{earlier_apart}
 

@@ -1,38 +1,35 @@
 -- A record built from L spaces by ordinary writes in row order reads as what was written, where no two rows share a value place; and a
 -- sound record's own line builds such a record.
-use Rattle.std.specs.Prelude.{◌≡◌, Bool, true, false, cond, List, [], ◌∷◌, ◌++◌, eqb, ℤ, length}
+use Rattle.std.specs.Prelude.{◌≡◌, false, List, eqb, ℤ, length}
 use Rattle.std.proofs.Math.Path.{refl, ap}
-use Rattle.std.proofs.Common.{sym, ◌∙◌, ⊎_elim}
-use Prim.Native.Nat.{ℕ, zero, suc, ◌+◌, ◌≤◌, ◌<◌}
+use Rattle.std.proofs.Common.{sym, ◌∙◌}
+use Prim.Native.Nat.{ℕ, zero, suc, ◌+◌, ◌<◌}
 use Rattle.std.proofs.Math.Numerals.{add-one}
 use native.Mathlib.Omega.{arith}
 use borrow.Author.Tests.{eq-eqb, eqb-true, eqb-false}
-use Rattle.below.specs.Below.{lt_or_le}
 use Rattle.places.specs.rule.Places.{Apart}
 use Rattle.layout.specs.rule.Row.{row_at}
-use Rattle.layout.specs.declared.Row.{Row}
-use Rattle.fields.specs.rule.Field.{Value, Field, holds, illegal, spaces}
-use Rattle.fields.specs.rule.Row.{reading_of, fits, fit_of, written_of}
+use Rattle.fields.specs.rule.Field.{Value, Field, holds, spaces}
+use Rattle.fields.specs.rule.Row.{fits, fit_of, written_of}
 use Rattle.fieldlaws.specs.TextLaws.{length_spaces}
 use Rattle.fieldlaws.specs.Corrections.{written_length, others_read, reads_back, read_fits}
 use Rattle.sets.specs.rule.Sets.{is_illegal}
-use Rattle.sound.specs.rule.Sound.{well_formed}
 use Rattle.sound.specs.rule.Rows.{rows_of, length_of}
 use Rattle.sound.specs.Rows.{row_facts}
 use Rattle.records.specs.rule.Value.{reading_at}
 use Rattle.laws.specs.Tops.{row_topped}
 use Rattle.sharing.specs.rule.Sharing.{places_at}
 use Rattle.sharing.specs.Claims.{by_cases}
-use Rattle.sharing.specs.Pairs.{apart_rows, apart_turn, apart_is, is_apart}
+use Rattle.sharing.specs.Pairs.{apart_rows}
 use Rattle.normal_laws.specs.Turns.{held_value}
 use Rattle.commas.specs.rule.Csv.{each}
-use Rattle.value_fields.specs.rule.Values.{export_value, export_field, row_field}
+use Rattle.value_fields.specs.rule.Values.{export_field, row_field}
 use Rattle.widths.specs.rule.Width.{decimals_of}
 use Rattle.record_lines.specs.rule.Lines.{record_line}
-use Rattle.field_values.specs.rule.Value.{Left, whole, IsValue}
+use Rattle.field_values.specs.rule.Value.{whole, IsValue}
 use Rattle.field_values.specs.rule.Read.{value_from}
 use Rattle.field_values.specs.Exactly.{value_exactly}
-use Rattle.import_rule.specs.rule.Line.{LineSays, builds, faulty, on_field, record_from, line_says}
+use Rattle.import_rule.specs.rule.Line.{LineSays, builds, on_field, record_from, line_says}
 use Rattle.import_laws.specs.rule.Trip.{Table}
 
 -- a field that is a value is taken
@@ -80,7 +77,7 @@ module _ {t : List ℤ} (g : Table t) where
           others_read t (rows_of t) (row_at t i) x s (row_at t j) (earlier_apart j i k h) ∙ r.reads j k
 
   -- ---- the line of a record whose rows are legal
-  module _ (r : List ℕ) (legal-rows : (i : ℕ) → i < rows_of t → is_illegal (reading_at t i r) ≡ false) where
+  module _ (r : List ℕ) (legal_rows : (i : ℕ) → i < rows_of t → is_illegal (reading_at t i r) ≡ false) where
     pub record Built (says : LineSays) : Type 0 where
       pub bytes : List ℕ
       pub is : says ≡ builds bytes
@@ -92,7 +89,7 @@ module _ {t : List ℤ} (g : Table t) where
     rows_built zero i s e k = let q : i ≡ rows_of t = omega arith in record { bytes = s; is = refl; reads = rw q at k }
     rows_built (suc n) i s e k =
         let h : i < rows_of t = omega arith in
-        held_value (reading_at t i r) (legal-rows i h) (λ x q.
+        held_value (reading_at t i r) (legal_rows i h) (λ x q.
         let v = own_field t r i x q in
         let w = rows_built n (i + 1) (written_of t (rows_of t) (row_at t i) x s) (omega arith) (one_read k h x q v.accepted) in
         rw (field_taken t g i h (row_field t r i) x v, ← add-one i) w)

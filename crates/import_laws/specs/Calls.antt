@@ -1,7 +1,7 @@
 -- THE ROUND TRIP AS TWO CALLS: the text that an export left in its buffer is lent to an import. It is refused for want of room alone, and
 -- what is built reads as the file that was exported.
 -- Assumes nothing.
-use Rattle.std.specs.Prelude.{◌≡◌, refl, true, false, List, ℕ, ℤ, length, take}
+use Rattle.std.specs.Prelude.{◌≡◌, true, false, List, ℕ, ℤ, length, take}
 use Rattle.std.proofs.Common.{sym, ◌∙◌, arith}
 use Rattle.std.proofs.Math.Path.{ap}
 use Rattle.files.specs.rule.File.{FileVerdict, sound_with, file_verdict}
@@ -11,7 +11,7 @@ use Rattle.exports.specs.rule.Text as export
 use Rattle.exports.specs.rule.Export.{Exported}
 use Rattle.export_laws.specs.rule.Exactly as exporting
 use Rattle.export_laws.specs.Exactly.{export_named, export_stands}
-use Rattle.import_rule.specs.rule.Text.{TextSays, accepts, refuses, file_bytes, data_of}
+use Rattle.import_rule.specs.rule.Text.{accepts, refuses, file_bytes, data_of}
 use Rattle.imports.specs.rule.Import.{ImportVerdict, refused, written, import_says, Imported}
 use Rattle.import_laws.specs.rule.Exactly.{ImportOutcome, bad_table_lem, other_table, shared_place, refused_text, short_room, all_built}
 use Rattle.import_laws.specs.rule.Trip.{Table, Returned, CameBack}

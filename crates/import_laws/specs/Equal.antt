@@ -1,7 +1,7 @@
 -- EQUAL LINES ONLY FOR EQUAL READINGS (document 02, C-16): two sound records of one table whose exported lines are the same bytes read the
 -- same in every row.
 -- Assumes nothing.
-use Rattle.std.specs.Prelude.{◌≡◌, refl, true, List, ℕ, ◌<◌, ℤ}
+use Rattle.std.specs.Prelude.{◌≡◌, true, List, ℕ, ◌<◌, ℤ}
 use Rattle.std.proofs.Common.{sym, ap, ◌∙◌}
 use Rattle.layout.specs.rule.Row.{row_at}
 use Rattle.fields.specs.rule.Field.{holds}

@@ -1,6 +1,6 @@
 -- EXACT REFUSALS of an import, one outcome, and what the output then holds.
 -- Assumes nothing.
-use Rattle.std.specs.Prelude.{◌≡◌, Bool, cond, ℕ, zero, suc, ◌+◌, ◌≤◌, ◌<◌, min, ℤ, length, take, drop}
+use Rattle.std.specs.Prelude.{◌≡◌, Bool, cond, ℕ, ◌+◌, ◌≤◌, min, ℤ, length, take, drop}
 use Rattle.std.proofs.Math.Path.{refl, ap}
 use Rattle.std.proofs.Common.{sym, ◌∙◌, arith}
 use Rattle.std.proofs.Math.Bool.{true, false}
@@ -9,7 +9,7 @@ use borrow.Author.Tests.{leb-true, leb-false, le-leb, lt-leb, eqb-true, eqb-fals
 use Rattle.std.proofs.Math.Dec.{eqb, leb}
 use Rattle.std.proofs.Math.Seq.{take-append_seam, drop-append_seam}
 use Rattle.layout.specs.rule.Row.{row_at}
-use Rattle.fields.specs.rule.Field.{Value, Field, holds, illegal, spaces}
+use Rattle.fields.specs.rule.Field.{Field, holds, illegal, spaces}
 use Rattle.fields.specs.rule.Row.{written_of}
 use Rattle.sound.specs.rule.Sound.{well_formed}
 use Rattle.sound.specs.rule.Rows.{rows_of, length_of}

@@ -2,7 +2,7 @@
 -- Assumes nothing.
 use Rattle.std.specs.Prelude.{◌≡◌, Bool, ℕ, zero, suc, ◌+◌, ◌≤◌, ◌<◌, min, ℤ, length, get_or, set}
 use Rattle.std.proofs.Math.Path.{refl, ap}
-use Rattle.std.proofs.Common.{sym, ◌∙◌, ⊎_elim, arith}
+use Rattle.std.proofs.Common.{◌∙◌, ⊎_elim, arith}
 use Rattle.std.proofs.Math.Bool.{true, false, cond}
 use mathlib.Core.List.{List, [], ◌∷◌, ◌++◌, append-nil, append_assoc}
 use borrow.Author.Tests.{ne_eqb, eqb-true}
@@ -10,12 +10,11 @@ use Rattle.std.proofs.Math.Dec.{eqb}
 use Rattle.below.specs.Below.{lt_or_le}
 use Rattle.places.specs.rule.Places.{put}
 use Rattle.cuts.specs.rule.Cut.{two_bytes, begins_with, terminator_at, terminator_of, whole_at, begins_at}
-use Rattle.cuts.specs.rule.Records.{Records, over, record_and, at_end, cut, records_of, length_of_first}
+use Rattle.cuts.specs.rule.Records.{over, record_and, at_end, cut, records_of, length_of_first}
 use Rattle.layout.specs.rule.Row.{row_at}
 use Rattle.fields.specs.rule.Field.{Value, Field, holds, illegal, spaces}
-use Rattle.fields.specs.rule.Row.{places_of, bytes_of, written_of}
+use Rattle.fields.specs.rule.Row.{places_of, written_of}
 use Rattle.sets.specs.rule.Sets.{is_illegal}
-use Rattle.sound.specs.rule.Sound.{well_formed}
 use Rattle.sound.specs.rule.Rows.{rows_of, length_of}
 use Rattle.sound.specs.Rows.{row_facts}
 use Rattle.records.specs.rule.Value.{reading_at}
@@ -23,11 +22,11 @@ use Rattle.records.specs.rule.Verdict.{verdict_of, sound}
 use Rattle.read_laws.specs.Refused.{passes_sound}
 use Rattle.normal_laws.specs.PlainBytes.{High, none, more, high_bytes}
 use Rattle.files.specs.rule.File.{sound_with, file_verdict}
-use Rattle.file_laws.specs.rule.Files.{records_before, AllSound, none_yet, one_more, SoundBefore, all_sound}
+use Rattle.file_laws.specs.rule.Files.{records_before, AllSound, none_yet, one_more, all_sound}
 use Rattle.file_laws.specs.Files.{file_only}
 use Rattle.field_values.specs.rule.Read.{value_from}
 use Rattle.field_values.specs.Exactly.{value_exactly}
-use Rattle.import_rule.specs.rule.Line.{LineSays, builds, faulty, on_field, record_from, line_says}
+use Rattle.import_rule.specs.rule.Line.{builds, faulty, on_field, record_from, line_says}
 use Rattle.import_rule.specs.rule.Text.{file_bytes}
 use Rattle.import_laws.specs.rule.Trip.{Table}
 use Rattle.import_laws.specs.Again.{AllRead, Again, line_again}
@@ -101,7 +100,7 @@ module _ {t : List ℤ} (g : Table t) where
 
   all_legal : {s : List ℕ} {i : ℕ} {fs : List (List ℕ)} → AllRead t s i fs → (j : ℕ) → i ≤ j → j < i + length fs
       → is_illegal (reading_at t j s) ≡ false
-  all_legal again.AllRead.None-more j h l = absurd (omega arith)
+  all_legal again.AllRead.none_more j h l = absurd (omega arith)
   all_legal {s} {i} (again.AllRead.one_more x e k r) j h l =
       ⊎_elim (λ m. all_legal r j (omega arith) (omega arith)) (λ m. let q : j ≡ i = omega arith in rw q (held_legal (reading_at t i s) e))
       (lt_or_le i j)
@@ -122,7 +121,7 @@ module _ {t : List ℤ} (g : Table t) where
             (record {
               long = omega (arith, a.size);
               plain = high_get h;
-              legal-rows = λ i l. all_legal a.reads i (omega arith)
+              legal_rows = λ i l. all_legal a.reads i (omega arith)
                   (omega (arith, a.many));
             });
         high = h;

@@ -1,28 +1,27 @@
 -- The round trip by the lines: the text of a table's names and of sound records' lines is accepted, and its records read as those.
-use Rattle.std.specs.Prelude.{◌≡◌, refl, Bool, true, false, cond, ◌&&◌, eqb, ℤ, length}
-use Rattle.std.proofs.Common.{sym, ◌∙◌, arith, eq-eqb}
+use Rattle.std.specs.Prelude.{◌≡◌, refl, true, false, ℤ, length}
+use Rattle.std.proofs.Common.{◌∙◌, arith, eq-eqb}
 use Rattle.std.proofs.Math.Path.{ap}
-use mathlib.Core.List.{List, [], ◌∷◌, ◌++◌}
+use mathlib.Core.List.{List, [], ◌∷◌}
 use Prim.Native.Nat.{ℕ, zero, suc, ◌+◌, ◌≤◌, ◌<◌}
-use Rattle.cuts.specs.rule.Records.{Records, over, unended, record_and, records_of}
+use Rattle.cuts.specs.rule.Records.{Records, over, unended, record_and}
 use Rattle.sets.specs.rule.Sets.{is_illegal}
-use Rattle.sound.specs.rule.Rows.{rows_of, length_of}
+use Rattle.sound.specs.rule.Rows.{rows_of}
 use Rattle.records.specs.rule.Value.{reading_at}
 use Rattle.records.specs.rule.Verdict.{verdict_of, sound}
 use Rattle.read_laws.specs.Refused.{sound_passes}
-use Rattle.file_laws.specs.rule.Files.{records_before, AllSound, none_yet, one_more}
+use Rattle.file_laws.specs.rule.Files.{records_before, AllSound, one_more}
 use Rattle.commas.specs.rule.Csv.{each, csv_bytes}
 use Rattle.value_fields.specs.rule.Values.{row_field}
 use Rattle.record_lines.specs.rule.Lines.{record_line, records_lines}
-use Rattle.csv_fields.specs.rule.Page as csv
 use Rattle.csv_laws.specs.rule.Grammar.{all_of}
 use Rattle.csv_laws.specs.Complete.{text_read_fresh, written_text, Filled, no_more, and_filled}
-use Rattle.import_rule.specs.rule.Line.{LineSays, builds, faulty, line_says}
-use Rattle.import_rule.specs.rule.Text.{TextSays, accepts, refuses, and_record, after_line, lines_say, same_bytes, differ_at, names_then}
+use Rattle.import_rule.specs.rule.Line.{LineSays, builds}
+use Rattle.import_rule.specs.rule.Text.{TextSays, accepts, and_record, after_line, lines_say, same_bytes, differ_at, names_then}
 use Rattle.import_rule.specs.rule.Text.{names_say}
 use Rattle.import_rule.specs.rule.Text.{text_says}
-use Rattle.import_laws.specs.rule.Trip.{Table, ReadAs, none_left, one_by_one, ReadBack}
-use Rattle.import_laws.specs.Built.{Reads, Built, line_built}
+use Rattle.import_laws.specs.rule.Trip.{Table, none_left, one_by_one, ReadBack}
+use Rattle.import_laws.specs.Built.{line_built}
 
 -- ---- the records' lines
 line_accepted : (k : ℕ) (s : List ℕ) {x : TextSays} {ss : List (List ℕ)} → x ≡ accepts ss → after_line k (builds s) x ≡ accepts (s ∷ ss)

@@ -1,21 +1,21 @@
 -- THE ROUND TRIP, by the calls' own words: what the import says of an export's text.
 -- Assumes nothing.
-use Rattle.std.specs.Prelude.{◌≡◌, refl, List, [], ◌∷◌, ℕ, ◌+◌, ℤ, length}
-use Rattle.std.proofs.Common.{sym, ap, ◌∙◌, arith}
-use Rattle.cuts.specs.rule.Records.{Records, over, records_of}
+use Rattle.std.specs.Prelude.{◌≡◌, List, ◌∷◌, ℕ, ℤ, length}
+use Rattle.std.proofs.Common.{arith}
+use Rattle.cuts.specs.rule.Records.{over, records_of}
 use Rattle.sound.specs.rule.Rows.{rows_of}
 use Rattle.sound.specs.Rows.{parts}
-use Rattle.files.specs.rule.File.{FileVerdict, sound_with, bad_table, fault_in, file_verdict}
+use Rattle.files.specs.rule.File.{FileVerdict, sound_with, file_verdict}
 use Rattle.file_laws.specs.rule.Files.{records_before, SoundBefore, FileOutcome, not_formed, all_sound, not_ended, other_length}
 use Rattle.file_laws.specs.rule.Files.{record_fault}
 use Rattle.file_laws.specs.Files.{file_named}
-use Rattle.commas.specs.rule.Csv.{each, csv_bytes}
+use Rattle.commas.specs.rule.Csv.{each}
 use Rattle.name_line.specs.rule.Names.{name_line}
 use Rattle.name_line.specs.Names.{name_at}
 use Rattle.record_lines.specs.rule.Lines as lines
 use Rattle.exports.specs.rule.Text.{lines_with, export_lines, export_text}
 use Rattle.imports.specs.rule.Import.{import_says}
-use Rattle.import_laws.specs.rule.Trip.{Table, ReadBack, Returned}
+use Rattle.import_laws.specs.rule.Trip.{Table, Returned}
 use Rattle.import_laws.specs.Round.{round_trip}
 
 -- the records of a file that was found sound

@@ -1,8 +1,8 @@
 -- What follows from rule/Import.antt, and what the code keeps.
-use Rattle.std.specs.Prelude.{◌≡◌, refl, Bool, cond, List, [], ◌∷◌, ◌++◌, ℕ, ◌+◌, ◌*◌, ◌/◌, ◌≤◌, ◌<◌, eqb, ℤ, drop}
-use Rattle.std.proofs.Common.{sym, ap, ◌∙◌, le-div_iff_mul-le, arith}
+use Rattle.std.specs.Prelude.{◌≡◌, refl, Bool, List, ◌++◌, ℕ, ◌+◌, ◌*◌, ◌/◌, ◌≤◌, ◌<◌, ℤ, drop}
+use Rattle.std.proofs.Common.{sym, ◌∙◌, le-div_iff_mul-le, arith}
 use Rattle.std.proofs.Math.Bool.{true, false}
-use borrow.Author.Tests.{eq-eqb, ne_eqb, le-leb, lt-leb}
+use borrow.Author.Tests.{ne_eqb, le-leb, lt-leb}
 use Rattle.std.proofs.Math.Dec.{leb}
 use Rattle.std.proofs.Math.ListN.{length}
 use Rattle.std.proofs.Math.Logic.{⊎_elim}
@@ -17,7 +17,7 @@ use Rattle.sharing.specs.Known.{TableKnown, table_known}
 use Rattle.kinds.specs.rule.Against.{yields}
 use Rattle.csv_fields.specs.rule.Page.{start, fresh, page, Lines, broken, page_lines}
 use Rattle.name_line.specs.rule.Names.{name_line}
-use Rattle.import_rule.specs.rule.Text.{TextSays, accepts, refuses, lines_say, names_then, names_say, text_says, file_bytes, data_of}
+use Rattle.import_rule.specs.rule.Text.{TextSays, refuses, lines_say, names_then, names_say, text_says, file_bytes, data_of}
 use Rattle.import_names.specs.Names.{SameNames, OtherNames, NamesTaken}
 use Rattle.import_names.specs.declared.NamesEnd.{NamesEnd}
 use Rattle.import_names.specs.declared.NamesEnd.TheVariants.{Same, Differs, Torn}

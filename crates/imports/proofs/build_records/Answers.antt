@@ -1,5 +1,4 @@
 -- `imports::build_records` meets its contract: 60 where the records have no room, else they are built.
-use mathlib.Core.Bool.{true, false}
 use native.Mathlib.Omega.{arith}
 use lib.ListN.{drop}
 use Rattle.csv_fields.specs.rule.Page.{start, page, page_lines}
