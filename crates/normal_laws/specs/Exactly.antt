@@ -42,8 +42,8 @@ share_some t e =
       place = q;
       ordered = h;
       there = l;
-      of-first = is_in q (places_at t (rows_of t) i) o;
-      of-second = is_in q (places_at t (rows_of t) j) p;
+      of_first = is_in q (places_at t (rows_of t) i) o;
+      of_second = is_in q (places_at t (rows_of t) j) p;
     })))
 
 some_share : {t : List ℤ} → TwoShare t → shares_none t (rows_of t) ≡ false

@@ -51,7 +51,7 @@ module _ {t : List ℤ} {s : List ℕ} (e : Accepted t s) where
   passes = sound_passes t well_formed_lem s judged_sound
 
   given : Given t s
-  given = record { formed = well_formed_lem; unshared = unshared; long = passes.long; legal-rows = passes.legal_rows }
+  given = record { formed = well_formed_lem; unshared = unshared; long = passes.long; legal_rows = passes.legal_rows }
 
   all_done : (i : ℕ) → i < rows_of t → ltb i (rows_of t) ≡ true
   all_done i h = lt-ltb i (rows_of t) h
@@ -109,7 +109,7 @@ module _ {t : List ℤ} {s : List ℕ} (e : Accepted t s) where
   form_passes = record {
     long = rw (form_length e) (passes e).long;
     plain = form_plain;
-    legal-rows = λ i h. ap is_illegal (form_reads e i h) ∙ (passes e).legal_rows i h;
+    legal_rows = λ i h. ap is_illegal (form_reads e i h) ∙ (passes e).legal_rows i h;
   }
 
   pub form_sound : Accepted t (normal_form t s)
