@@ -1,8 +1,8 @@
 -- "The same row twice is allowed and the later accepted one counts": the last accepted correction of a row reads back, where no accepted
 -- one
 -- after it touches one of its value places.
-use Rattle.std.specs.Prelude.{◌≡◌, refl, Bool, true, false, cond, eqb, ℤ}
-use Rattle.std.proofs.Common.{sym, ◌∙◌, eqb-true}
+use Rattle.std.specs.Prelude.{◌≡◌, refl, Bool, true, false, eqb, ℤ}
+use Rattle.std.proofs.Common.{◌∙◌, eqb-true}
 use Rattle.std.proofs.Math.Path.{ap}
 use mathlib.Core.List.{List, [], ◌∷◌, ◌++◌}
 use Prim.Native.Nat.{ℕ}
@@ -17,7 +17,7 @@ use Rattle.writes.specs.rule.Public.{refusal_of, record_after, Written}
 use Rattle.laws.specs.Writing.{refused_keeps, others_unchanged, read_back}
 use Rattle.corrections.specs.declared.Correction.{Correction}
 use Rattle.corrections.specs.rule.Correction.{Asked, asks, other_truth, other_kind, asked_of, mark_by, record_by, mark_of, corrected_by}
-use Rattle.corrections.specs.rule.Correction.{written_all, whole_refusal, record_left, ListCorrected}
+use Rattle.corrections.specs.rule.Correction.{written_all, record_left, ListCorrected}
 use Rattle.corrections.specs.Correction.{length_kept}
 use Rattle.correction_laws.specs.rule.Singles.{Clear, over, refused, apart}
 use Rattle.correction_laws.specs.Singles.{length_all}

@@ -10,7 +10,6 @@ use Rattle.layout.specs.rule.Row.{row_at}
 use Rattle.layout.specs.declared.Kind.{Kind}
 use Rattle.layout.specs.declared.Kind.TheVariants.{Single, Multiple, Quantity, Character, Logical}
 use Rattle.layout.specs.declared.Row.{Row}
-use Rattle.layout.specs.declared.Spread.TheVariants.{Bits, Fields}
 use Rattle.fields.specs.rule.Legal.{legal}
 use Rattle.fields.specs.rule.Field.{Value, missing, number, members, text, truth}
 use Rattle.fields.specs.rule.Row.{Fit, fits, other_type, not_legal, too_many, legal_fit, fits_by, fit_of}

@@ -3,11 +3,8 @@
 -- and a refusal that keeps all. One outcome: `list_told_one` (zarfolin/specs/Settled).
 use Rattle.std.specs.Prelude.{◌≡◌, refl, Bool, true, false, cond, List, [], ◌∷◌, map, ℕ, eqb, ℤ, length}
 use Rattle.std.proofs.Common.{sym, ap, ◌∙◌, eqb-true}
-use Rattle.std.proofs.lemmas.Bool.{eqb-false}
-use Rattle.writes.specs.rule.Public.{refusal_of, record_after, Written}
 use Rattle.corrections.specs.declared.Given.{Given}
 use Rattle.corrections.specs.declared.Correction.{Correction}
-use Rattle.corrections.specs.rule.Truth.{bad_truth, NoTruth}
 use Rattle.corrections.specs.rule.Correction.{Asked, asks, other_truth, other_kind, asked_of, mark_by, record_by, mark_of, corrected_by}
 use Rattle.corrections.specs.rule.Correction.{marked_with}
 use Rattle.corrections.specs.rule.Correction.{corrected_all, written_all, whole_refusal, corrections_after, record_left, ListCorrected}

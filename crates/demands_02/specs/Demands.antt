@@ -34,7 +34,6 @@ use Rattle.filters.proofs.Filtering as filtering
 use Rattle.filters.proofs.Keeping as keeping
 use Rattle.filters.proofs.Joining as joining
 use Rattle.definition.specs.rule.Against as sss
-use Rattle.definition.specs.declared.Answer.{Answer}
 use Rattle.definition.specs.declared.Answer.TheVariants as definition
 use Rattle.survey.specs.rule.Table as survey-table
 use Rattle.blind_laws.specs.rule.Blind.{Alike}

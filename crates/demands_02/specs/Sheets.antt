@@ -1,9 +1,9 @@
 -- DEFINITIONS IN XML OVER THE PUBLIC CALL (C-15): it reads one exactly when the file is derived over the table of document 000's elements
 -- with nothing charged, into the table of what is derived; it refuses one exactly where a derivation stops, with that number and place; and
 -- every text of it decodes, by the numbers of the table.
-use Rattle.std.specs.Prelude.{◌≡◌, ◌↔◌, ◌⊎◌, true, cond, ℕ, ◌≤◌, ◌<◌, ℤ}
+use Rattle.std.specs.Prelude.{◌≡◌, ◌↔◌, ◌⊎◌, true, ℕ, ◌≤◌, ◌<◌, ℤ}
 use Rattle.std.proofs.Math.Path.{refl, ap}
-use Rattle.std.proofs.Common.{sym, ◌∙◌}
+use Rattle.std.proofs.Common.{◌∙◌}
 use mathlib.Core.List.{List, Memᴰ}
 use Rattle.std.proofs.Math.ListN.{length}
 use Rattle.bridge.specs.Lowest.{never}

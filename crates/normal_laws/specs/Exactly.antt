@@ -1,5 +1,5 @@
 -- THE REFUSALS OF THE CALL EXACTLY WHEN, over its promise: 20; 90 where two rows share a value place; else as the record is judged.
-use Rattle.std.specs.Prelude.{◌≡◌, refl, Bool, true, false, cond, ◌&&◌, List, [], ◌∷◌, ℕ, zero, suc, ◌<◌, ℤ}
+use Rattle.std.specs.Prelude.{◌≡◌, refl, Bool, false, List, [], ◌∷◌, ℕ, zero, suc, ◌<◌, ℤ}
 use Rattle.std.proofs.Math.Path.{sym, subst}
 use Rattle.std.proofs.Common.{◌∙◌, arith}
 use Rattle.below.specs.rule.Below.{all_below}
@@ -12,7 +12,7 @@ use Rattle.sharing.specs.rule.Sharing.{is_out, are_apart, places_at, shares_none
 use Rattle.sharing.specs.Claims.{by_cases, out_here, out_there}
 use Rattle.sharing.specs.Pairs.{is_out_lem, out_is, is_apart, apart_at, apart_rows, rows_apart}
 use Rattle.normal.specs.rule.Normal.{normal_verdict, Normalised}
-use Rattle.normal_laws.specs.rule.Exactly.{TwoShare, NoTwoShare, NormalOutcome, not_formed, two_share, as_judged}
+use Rattle.normal_laws.specs.rule.Exactly.{TwoShare, NormalOutcome, not_formed, two_share, as_judged}
 
 -- a test that fails somewhere below n
 all_not : {A : Type 0} (f : ℕ → Bool) (n : ℕ) → all_below n f ≡ false → ((k : ℕ) → k < n → f k ≡ false → A) → A
@@ -42,8 +42,8 @@ share_some t e =
       place = q;
       ordered = h;
       there = l;
-      of-first = is_in q (places_at t (rows_of t) i) o;
-      of-second = is_in q (places_at t (rows_of t) j) p;
+      of_first = is_in q (places_at t (rows_of t) i) o;
+      of_second = is_in q (places_at t (rows_of t) j) p;
     })))
 
 some_share : {t : List ℤ} → TwoShare t → shares_none t (rows_of t) ≡ false

@@ -1,18 +1,15 @@
 -- THE LAWS OF NORMAL FORMS, over the public promise: all rows read as before; a second pass changes nothing; two such records of one
 -- length that agree outside the value places have equal normal forms exactly when all rows read equal; bytes outside the value places
 -- are kept; the order of the rows makes no difference; one outcome. The refusals exactly when: Exactly.antt.
-use Rattle.std.specs.Prelude.{◌≡◌, refl, ◌↔◌, Bool, true, false, cond, not, ◌||◌, List, [], ◌∷◌, ℕ, ◌≤◌, ◌<◌, ltb, ℤ, length, get_or}
+use Rattle.std.specs.Prelude.{◌≡◌, refl, ◌↔◌, true, false, not, List, [], ◌∷◌, ℕ, ◌≤◌, ◌<◌, ltb, ℤ, length, get_or}
 use Rattle.std.proofs.Common.{sym, ap, ◌∙◌, arith, lt-ltb}
-use Rattle.below.specs.Below.{holds_not}
 use Rattle.places.specs.rule.Places.{pick, Out}
 use Rattle.places.specs.Places.{Below}
 use Rattle.layout.specs.rule.Row.{row_at}
-use Rattle.fields.specs.rule.Field.{Value, holds}
-use Rattle.fields.specs.rule.Row.{bytes_of, fits, fit_of}
 use Rattle.fieldlaws.specs.Corrections.{read_fits}
 use Rattle.sets.specs.rule.Sets.{is_illegal}
 use Rattle.sound.specs.rule.Sound.{well_formed}
-use Rattle.sound.specs.rule.Rows.{rows_of, length_of}
+use Rattle.sound.specs.rule.Rows.{rows_of}
 use Rattle.records.specs.rule.Value.{reading_at}
 use Rattle.records.specs.rule.Verdict.{Verdict, sound, refused, verdict_of}
 use Rattle.files.specs.rule.File.{is_sound}
@@ -21,11 +18,11 @@ use Rattle.read_laws.specs.rule.Refused.{Passes}
 use Rattle.read_laws.specs.Refused.{passes_sound, sound_passes}
 use Rattle.sharing.specs.rule.Sharing.{is_out, places_at, shares_none}
 use Rattle.sharing.specs.Claims.{by_cases, none_out, out_cases}
-use Rattle.sharing.specs.Pairs.{is_out_lem, out_is}
+use Rattle.sharing.specs.Pairs.{out_is}
 use Rattle.normal.specs.rule.Normal.{normal_form, normal_verdict, normal_after, Normalised}
 use Rattle.normal_laws.specs.rule.Alike.{OutAll, AgreeOutside, ReadAlike, back_all, EveryRow}
-use Rattle.normal_laws.specs.PlainBytes.{High, none, more, high_bytes}
-use Rattle.normal_laws.specs.Turns.{Given, Turned, held_value, turned_none, turned_all, turned_list, same_bytes, out_all}
+use Rattle.normal_laws.specs.PlainBytes.{High, more, high_bytes}
+use Rattle.normal_laws.specs.Turns.{Given, held_value, turned_none, turned_all, turned_list, same_bytes, out_all}
 
 -- ---- what a record that is not refused has
 pub record Accepted (t : List ℤ) (s : List ℕ) : Type 0 where
@@ -51,7 +48,7 @@ module _ {t : List ℤ} {s : List ℕ} (e : Accepted t s) where
   passes = sound_passes t well_formed_lem s judged_sound
 
   given : Given t s
-  given = record { formed = well_formed_lem; unshared = unshared; long = passes.long; legal-rows = passes.legal_rows }
+  given = record { formed = well_formed_lem; unshared = unshared; long = passes.long; legal_rows = passes.legal_rows }
 
   all_done : (i : ℕ) → i < rows_of t → ltb i (rows_of t) ≡ true
   all_done i h = lt-ltb i (rows_of t) h
@@ -109,7 +106,7 @@ module _ {t : List ℤ} {s : List ℕ} (e : Accepted t s) where
   form_passes = record {
     long = rw (form_length e) (passes e).long;
     plain = form_plain;
-    legal-rows = λ i h. ap is_illegal (form_reads e i h) ∙ (passes e).legal_rows i h;
+    legal_rows = λ i h. ap is_illegal (form_reads e i h) ∙ (passes e).legal_rows i h;
   }
 
   pub form_sound : Accepted t (normal_form t s)

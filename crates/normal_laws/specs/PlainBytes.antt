@@ -1,8 +1,8 @@
 -- The bytes of a value that fits are none below 32.
-use Rattle.std.specs.Prelude.{◌≡◌, refl, Bool, true, false, cond, List, [], ◌∷◌, ◌++◌, ℕ, zero, suc, ◌+◌, ◌-◌, ◌/◌, ◌%◌, ◌^◌, ◌≤◌, ◌<◌, eqb}
+use Rattle.std.specs.Prelude.{◌≡◌, Bool, true, false, cond, List, [], ◌∷◌, ◌++◌, ℕ, zero, suc, ◌+◌, ◌-◌, ◌/◌, ◌%◌, ◌^◌, ◌≤◌, eqb}
 use Rattle.std.specs.Prelude.{leb, ℤ, pos, length}
-use Rattle.std.proofs.Common.{sym, ap, ◌∙◌, arith, leb-true, le-leb}
-use Rattle.below.specs.Below.{and_left, and_right, and_true}
+use Rattle.std.proofs.Common.{arith, leb-true}
+use Rattle.below.specs.Below.{and_left, and_right}
 use Rattle.cells.specs.rule.Cell.{signed_of}
 use Rattle.layout.specs.declared.Format.{Format}
 use Rattle.layout.specs.declared.Row.{Row}

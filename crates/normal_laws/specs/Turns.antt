@@ -1,23 +1,23 @@
 -- Rows written back one after the other, in any order: what each turn keeps, and that the bytes in the end are settled by what the rows
 -- read and by the bytes outside the value places.
-use Rattle.std.specs.Prelude.{◌≡◌, Bool, cond, ◌&&◌, ◌||◌, ℤ, length, get_or}
+use Rattle.std.specs.Prelude.{◌≡◌, Bool, ◌&&◌, ◌||◌, ℤ, length, get_or}
 use Rattle.std.proofs.Math.Path.{refl, ap}
-use Rattle.std.proofs.Common.{sym, subst, ◌∙◌, ext_get_or}
+use Rattle.std.proofs.Common.{sym, ◌∙◌, ext_get_or}
 use Rattle.std.proofs.Math.Logic.{⊎_elim}
 use Rattle.std.proofs.Math.Bool.{true, false, not}
 use mathlib.Core.List.{List, [], ◌∷◌}
-use Prim.Native.Nat.{ℕ, zero, suc, ◌+◌, ◌≤◌, ◌<◌}
+use Prim.Native.Nat.{ℕ, zero, suc, ◌≤◌, ◌<◌}
 use native.Mathlib.Omega.{arith}
-use borrow.Author.Tests.{eqb-true, eqb-false, eq-eqb, ltb-true, ltb-false, lt-ltb}
+use borrow.Author.Tests.{eqb-true, eqb-false, eq-eqb, ltb-true, lt-ltb}
 use Rattle.std.proofs.Math.Dec.{eqb, ltb}
-use Rattle.below.specs.rule.Below.{any_below, all_below}
-use Rattle.below.specs.Below.{any_some, any_holds, all_at_lem, all_of, either_true, or_true, holds_not, decided, lt_or_le}
-use Rattle.places.specs.rule.Places.{pick, put, Out, Apart}
+use Rattle.below.specs.rule.Below.{any_below}
+use Rattle.below.specs.Below.{any_some, any_holds, or_true, holds_not, decided, lt_or_le}
+use Rattle.places.specs.rule.Places.{pick, Apart}
 use Rattle.places.specs.Places.{Below}
 use Rattle.places.specs.Laws.{apart}
 use Rattle.layout.specs.rule.Row.{row_at}
 use Rattle.fields.specs.rule.Field.{Value, Field, holds, illegal}
-use Rattle.fields.specs.rule.Row.{places_of, reading_of, fits, fit_of, bytes_of, written_of}
+use Rattle.fields.specs.rule.Row.{fits, fit_of, bytes_of, written_of}
 use Rattle.fieldlaws.specs.BackLaws.{held}
 use Rattle.fieldlaws.specs.Tests.{or_left}
 use Rattle.fieldlaws.specs.Corrections.{written_length, written_keeps, others_read, written_bytes, reads_back, read_fits}
@@ -27,11 +27,11 @@ use Rattle.sound.specs.rule.Rows.{rows_of, length_of}
 use Rattle.sound.specs.Rows.{row_facts}
 use Rattle.records.specs.rule.Value.{reading_at}
 use Rattle.laws.specs.Tops.{row_topped}
-use Rattle.sharing.specs.rule.Sharing.{is_out, are_apart, places_at, shares_none}
+use Rattle.sharing.specs.rule.Sharing.{is_out, places_at, shares_none}
 use Rattle.sharing.specs.Claims.{by_cases, none_out, out_cases}
-use Rattle.sharing.specs.Pairs.{apart_rows, apart_turn, apart_is, is_apart, out_is, is_out_lem}
+use Rattle.sharing.specs.Pairs.{apart_rows, apart_turn, apart_is, is_apart, out_is}
 use Rattle.normal.specs.rule.Normal.{field_back, back_of, settled_row, normal_form}
-use Rattle.normal_laws.specs.rule.Alike.{OutAll, AgreeOutside, ReadAlike, back_all, EveryRow}
+use Rattle.normal_laws.specs.rule.Alike.{OutAll, AgreeOutside, ReadAlike, back_all}
 
 -- a field that is not illegal holds a value
 pub held_value : {A : Type 0} (f : Field) → is_illegal f ≡ false → ((x : Value) → f ≡ holds x → A) → A
