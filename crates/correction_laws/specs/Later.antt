@@ -1,6 +1,5 @@
 -- "The same row twice is allowed and the later accepted one counts": the last accepted correction of a row reads back, where no accepted
--- one
--- after it touches one of its value places.
+-- one after it touches one of its value places.
 use Rattle.std.specs.Prelude.{◌≡◌, refl, Bool, true, false, eqb, ℤ}
 use Rattle.std.proofs.Common.{◌∙◌, eqb-true}
 use Rattle.std.proofs.Math.Path.{ap}

@@ -1,6 +1,5 @@
 -- What the promise of the call gives: single writes in list order, marks that depend on nothing else, a list that is kept but for its
--- marks,
--- and a refusal that keeps all. One outcome: `list_told_one` (zarfolin/specs/Settled).
+-- marks, and a refusal that keeps all. One outcome: `list_told_one` (zarfolin/specs/Settled).
 use Rattle.std.specs.Prelude.{◌≡◌, refl, Bool, true, false, cond, List, [], ◌∷◌, map, ℕ, eqb, ℤ, length}
 use Rattle.std.proofs.Common.{sym, ap, ◌∙◌, eqb-true}
 use Rattle.corrections.specs.declared.Given.{Given}

@@ -393,9 +393,8 @@ part_left_off = parts.left_off
 pub file_numbered : (d : List ℕ) → FileNumber d
 file_numbered = parts.file_number
 
--- a file's verdict, its table tested once, is that of each of its records, found by the next-record call and judged by the record call; by
--- a
--- table that is not well formed it is 20
+-- a file's verdict, its table tested once, is that of each of its records, found by the next-record call and judged by the record call;
+-- by a table that is not well formed it is 20
 pub file_as_each : (t : List ℤ) (d : List ℕ) → well_formed t ≡ true → {v : FileVerdict} → Driven t d 0 0 0 v → file_verdict t d ≡ v
 file_as_each = each.once_as_each
 
@@ -500,9 +499,8 @@ pub truth_laws : {t : List ℤ} {i b : ℕ} {old new : List ℕ} → TruthTold t
 truth_laws = face.truth_written
 
 -- ==== C-18 OF DOCUMENT 02: WHAT IS WRONG WITH A FIELD
--- where a field is refused, its fault is 241, 242 or 243, the record's by a row of the table; and the list is kept. (That a row is refused
--- in
--- the same cases as before is in `read_so` and `record_so`: they go by the reading, as before.)
+-- where a field is refused, its fault is 241, 242 or 243, the record's by a row of the table; and the list is kept. (That a row is
+-- refused in the same cases as before is in `read_so` and `record_so`: they go by the reading, as before.)
 pub judged_fault_told : {t : List ℤ} {bytes : List ℕ} {i : ℕ} {x : Fault} → RecordJudged t bytes (bad_field i x)
     → (i < rows_of t) × Told x (fault_number x)
 judged_fault_told = faults.judged_fault
@@ -770,9 +768,8 @@ module _
     pub calls_room_alone : {k a b : ℕ} → Imported def t (take m out') back back' (import'.refused k a b) → k ≡ 60
     calls_room_alone = calls.room_alone table sound exported
 
--- exporting what a text builds gives the text again, needless quotes and cut zeros aside; and a text is accepted exactly when it is, these
--- aside,
--- the export of some sound file of records of L bytes
+-- exporting what a text builds gives the text again, needless quotes and cut zeros aside; and a text is accepted exactly when it is,
+-- these aside, the export of some sound file of records of L bytes
 module _ {t : List ℤ} (g : Table t) (def s : List ℕ) where
   pub import_again : (rs : List (List ℕ)) → import_says def t s ≡ accepts rs → IsExport def t (file_bytes rs) s
   import_again rs e = (accepted.import_again g def s rs e).3

@@ -1,6 +1,5 @@
 -- FURTHER FINAL THEOREMS of document 02's requests, each restated with its name in the crate that proves it. Demands.antt of crate
--- `demands` has
--- the public calls' own; here stand the grammars beside the state machines, both ways, and what uses and filters mean.
+-- `demands` has the public calls' own; here stand the grammars beside the state machines, both ways, and what uses and filters mean.
 use Rattle.std.specs.Prelude.{◌≡◌, ◌↔◌, Bool, true, false, List, [], ◌∷◌, ◌++◌, ℕ, suc, ◌≤◌, ℤ, length, drop}
 use Rattle.signs.specs.declared.Sign.{Sign}
 use Rattle.utf.specs.rule.Chars.{Cut}
