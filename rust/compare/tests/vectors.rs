@@ -6,9 +6,7 @@ use zarfolin_compare::naive::Naive;
 use zarfolin_compare::vectors::answers;
 
 fn told(face: &dyn Face) {
-    // While crate `vectors` is out of the tree (PORTING-LEFT.md) its cases stand in tests/vectors-left.
-    let top = Path::new(env!("CARGO_MANIFEST_DIR")).join("../..");
-    let folder = [top.join("crates/vectors"), top.join("tests/vectors-left")].into_iter().find(|f| f.is_dir()).unwrap();
+    let folder = Path::new(env!("CARGO_MANIFEST_DIR")).join("../../crates/vectors");
     let cases = std::fs::read(folder.join("stdin")).unwrap();
     let stored = std::fs::read(folder.join("stdout")).unwrap();
     let found = answers(face, &cases);
