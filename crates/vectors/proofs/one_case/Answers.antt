@@ -4,6 +4,6 @@ use lib.ListN.{length-take}
 use Rattle.vectors.proofs.one_case.Goals as goal
 
 pub slice_bounds-run_case-end-3 : goal.slice_bounds-run_case-end-3
-slice_bounds-run_case-end-3 c =
+slice_bounds-run_case-end-3 g c =
     let h = c.bounded-lent.ensures in
     simp length-take (omega arith)

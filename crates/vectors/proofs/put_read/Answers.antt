@@ -4,6 +4,6 @@ use lib.ListN.{length-take}
 use Rattle.vectors.proofs.put_read.Goals as goal
 
 pub slice_bounds-put_table-end : goal.slice_bounds-put_table-end
-slice_bounds-put_table-end c =
+slice_bounds-put_table-end g c =
     let h = c.bounded-used.ensures in
     simp length-take (omega arith)

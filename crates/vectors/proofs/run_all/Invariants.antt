@@ -6,7 +6,7 @@ use lib.ListN.{length}
 use Rattle.vectors.proofs.run_all.Given as goal
 
 abbrev pub invariant-loop-at : goal.invariant-loop-at
-invariant-loop-at l = (l.case ≤ l.at) × (length l.out ≡ length l.initial.out) × (length l.table ≡ length l.initial.table)
+invariant-loop-at g l = (l.case ≤ l.at) × (length l.out ≡ length l.initial.out) × (length l.table ≡ length l.initial.table)
 
 abbrev pub decreases-loop-at : goal.decreases-loop-at
-decreases-loop-at l = length l.text - l.at
+decreases-loop-at g l = length l.text - l.at
