@@ -1,3 +1,4 @@
+-- What a turn of `lister::list_all` asks and keeps, from what `list_on` says of its turn.
 use mathlib.Core.Path.{refl, sym, ◌∙◌}
 use native.Mathlib.Omega.{arith}
 use lib.Seq.{length-take-le}

@@ -1,3 +1,4 @@
+-- `lister::read_whole` is safe and ends: it reads on behind what came, and each turn leaves less room.
 use Rattle.std.proofs.Common.{length, ◌-◌, ◌≤◌}
 use Rattle.lister.proofs.read_whole.Given as goal
 

@@ -1,3 +1,4 @@
+-- `vectors::put_all` meets its contract: it reads within the text and ends.
 use Rattle.std.proofs.Common.{length, ◌-◌}
 use Rattle.vectors.proofs.put_all.Given as goal
 

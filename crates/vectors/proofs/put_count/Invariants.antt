@@ -1,3 +1,4 @@
+-- `vectors::put_count` meets its contract: each digit stands within the twenty.
 use Rattle.std.proofs.Common.{◌≤◌}
 use Rattle.vectors.proofs.put_count.Given as goal
 

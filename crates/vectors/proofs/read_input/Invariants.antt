@@ -1,3 +1,4 @@
+-- `vectors::read_input` meets its contract: what came lies within the room, and each turn leaves less of it.
 use Rattle.std.proofs.Common.{length, ◌-◌, ◌≤◌}
 use Rattle.vectors.proofs.read_input.Given as goal
 

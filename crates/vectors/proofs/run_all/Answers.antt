@@ -1,3 +1,4 @@
+-- The last bytes that `vectors::run_all` writes lie within its buffer.
 use lib.ListN.{length-take}
 use native.Mathlib.Omega.{arith}
 use Rattle.vectors.proofs.run_all.Goals as goal
