@@ -9,7 +9,7 @@ use Rattle.definition.specs.declared.Answer.{Answer}
 use Rattle.definition.specs.declared.Answer.TheVariants as answer
 use Rattle.prologs.specs.rule.Told.{is_xml}
 use Rattle.kinds.specs.rule.Definition.{DefinitionRead}
-use Rattle.kinds.specs.Plain.{plain_read}
+use Rattle.kinds.proofs.Plain.{plain_read}
 use Rattle.kinds.specs.Other.{built_plain}
 use Rattle.grammar_laws.specs.Outcome.{Called, call_exactly}
 use Rattle.text_laws.specs.Tables.{RowDecodes, table_decodes}

@@ -41,7 +41,7 @@ use Rattle.kinds.specs.rule.Against.{yields}
 use Rattle.kind_laws.specs.rule.Meet.{Meet}
 use Rattle.kind_laws.specs.Meet as kind-meet
 use Rattle.kind_laws.specs.Numbers as kind-numbers
-use Rattle.kinds.specs.Plain as plain
+use Rattle.kinds.proofs.Plain as plain
 use Rattle.csv_fields.specs.rule.Page.{page, start, page_lines}
 use Rattle.csv_laws.specs.rule.Grammar.{all_of, IsText}
 use Rattle.csv_laws.specs.Sound as csv

@@ -9,7 +9,7 @@ use Rattle.refusals.specs.Refusals.{refusal_named, refusal_placed, answered}
 use Rattle.prologs.specs.rule.Told.{is_xml}
 use Rattle.xml_reading.specs.rule.Whole as xml
 use Rattle.kinds.specs.rule.Definition.{of_xml, definition_outcome, answer_of, DefinitionRead}
-use Rattle.kinds.specs.Plain.{plain_read}
+use Rattle.kinds.proofs.Plain.{plain_read}
 use Rattle.kind_laws.specs.Leaves.{Free}
 use Rattle.kind_laws.specs.Three.{OutcomeFree, outcome_free}
 

@@ -1,2 +1,3 @@
+pub mod Plain
 pub mod Roads
 pub mod Rooms

@@ -1,5 +1,4 @@
 pub mod rule
 pub mod Code
-pub mod Plain
 pub mod Other
 pub mod Settled

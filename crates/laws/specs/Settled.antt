@@ -19,7 +19,7 @@ use Rattle.xml_reading.specs.rule.Role.{XmlEntry}
 use Rattle.xml_reading.specs.rule.Whole as xml
 use Rattle.xml_files.proofs.Few as few
 use Rattle.kinds.specs.rule.Definition.{of_xml, definition_outcome, answer_of, table_after, DefinitionRead}
-use Rattle.kinds.specs.Plain.{plain_read}
+use Rattle.kinds.proofs.Plain.{plain_read}
 use Rattle.files.specs.declared.Judgement.{Judgement}
 use Rattle.files.specs.declared.Judgement.TheVariants as J
 use Rattle.files.specs.rule.File.{FileVerdict, sound_with, bad_table, fault_in, file_said, FileJudged}
