@@ -276,7 +276,7 @@ module _ (t : List ℤ) (v step : ℕ) where
 
   module _ (rs : List (List ℕ)) where
     -- one row's columns and their summaries more
-    slots_step : (i k f w : ℕ) (o : List ℕ) {o' whole : List ℕ} → i < v → k + length (columns_from t v i (v - i)) ≡ step
+    pub slots_step : (i k f w : ℕ) (o : List ℕ) {o' whole : List ℕ} → i < v → k + length (columns_from t v i (v - i)) ≡ step
         → f + length rs * step ≤ w → 24 + 24 * step ≤ f
         → o' ≡ put_at (put_columns t v step (row_columns t v i) o (f + k) (w + 8 * k) rs) (24 + 24 * k)
         (summaries_of t v rs (row_columns t v i))
@@ -305,7 +305,7 @@ module _ (t : List ℤ) (v step : ℕ) where
         (sym (summaries_append t v rs xs ys) ∙ ap (summaries_of t v rs) (sym (columns_on t v i h)))
         ∙ q
 
-    slots_done : (i a f w : ℕ) {o whole : List ℕ} → v ≤ i
+    pub slots_done : (i a f w : ℕ) {o whole : List ℕ} → v ≤ i
         → put_at (put_columns t v step (columns_from t v i (v - i)) o f w rs) a (summaries_of t v rs (columns_from t v i (v - i))) ≡ whole
         → o
         ≡ whole

@@ -1,4 +1,4 @@
--- DEMAND 2 FOR READING, as one theorem: `read_named` and `read_only_lem`. What the call promises is so exactly when one line of
+-- DEMAND 2 FOR READING, as one theorem: `read_named` and `read_only`. What the call promises is so exactly when one line of
 -- `ReadOutcome`
 -- is: each refusal with what it says, and each value with the form of the bytes that say it (Exactly.antt).
 use Rattle.std.specs.Prelude.{◌≡◌, Bool, true, false, List, ◌++◌, ℕ, ◌-◌, ◌≤◌, ◌<◌, ℤ, length, drop}
