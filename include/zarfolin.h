@@ -1,6 +1,6 @@
 /* Zarfolin: reading, judging and correcting Triple-S survey files: definitions of version 1.1 and in XML 1.2.
  *
- * The face of the verified static library, for C. Link with libzarfolin.a, which `rt staticlib zarfolin` builds
+ * The face of the verified static library, for C. Link with libzarfolin.a, which `tools/build library` builds
  * (target/staticlib) and a release has in lib/:
  *
  *     cc -Wall -Wextra -Werror -I include program.c target/staticlib/libzarfolin.a -o program
