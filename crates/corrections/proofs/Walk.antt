@@ -2,7 +2,7 @@
 --     State        i corrections are taken: the list and the record as they are now, from which the definitions of the whole give the same
 --                  as from the start
 --     start, next  where the loop begins, and where one turn goes
---     still-ready  what a single write asks holds at every turn
+--     still_ready  what a single write asks holds at every turn
 --     ended        at the end the two are what the definitions of the whole say
 use Rattle.std.specs.Prelude.{◌≡◌, ℕ, suc, ◌+◌, ◌<◌, ◌≤◌, Bool, ℤ, List, [], ◌∷◌, ◌++◌, take, drop, set, get_or}
 use Rattle.std.proofs.Math.Path.{refl, sym}

@@ -235,9 +235,8 @@ pub extern "C" fn zarfolin_read_record(
     zarfolin::zarfolin_read_record(table, bytes, out, list, answer)
 }
 
-// Writes a list of corrections into a record, in its order, and marks each. The table is tested once. This loop alone stands outside what
-// Rattle covers, since it is lent a list of structs: it is proved by hand (proofs/zarfolin_correct), and all that judges stands in
-// `corrections`.
+// Writes a list of corrections into a record, in its order, and marks each. The table is tested once. All that
+// judges stands in `corrections`, and what one turn gives in its proofs (Walk).
 #[unsafe(no_mangle)]
 pub extern "C" fn zarfolin_correct(table: &[i64], list: &mut [Correction], bytes: &mut [u8]) -> u64
     ensures { ListCorrected table.now list.old list.new bytes.old bytes.new result }
