@@ -13,7 +13,8 @@ use Rattle.sound.specs.rule.Rows.{length_of}
 use Rattle.pieces.specs.rule.Pieces.{boundary_at, Piece, piece, first_piece, pieces_behind, onto, cut_from, pieces_of}
 use Rattle.pieces.specs.Pieces.{low_count}
 use Rattle.mends.specs.rule.Mend.{ending_of, width_of, same_boundary, mend_entries, width_of_records, list_in}
-use Rattle.mends.specs.Sizes.{Sized, others_in, short_in, length_entries}
+use Rattle.mends.specs.Sizes.{Sized, others_in, short_in}
+use Rattle.mends.proofs.Counted.{length_entries}
 use Rattle.mends.specs.Mend.{ending_some}
 use Rattle.mend_laws.specs.rule.Mended.{NoneLow, nothing, plain}
 

@@ -18,7 +18,8 @@ use Rattle.pieces.specs.Laid.{pieces_laid}
 use Rattle.mends.specs.rule.Mend.{ending_of, plain_byte, width_of, is_empty, mended_record, mended_of, mend_entries, width_of_records}
 use Rattle.mends.specs.rule.Mend.{bytes_in}
 use Rattle.mends.specs.rule.Mend.{list_in}
-use Rattle.mends.specs.Sizes.{width_rest, width_above, length_entries, length_plain, length_spaces}
+use Rattle.mends.specs.Sizes.{width_rest, width_above, length_plain, length_spaces}
+use Rattle.mends.proofs.Counted.{length_entries}
 use Rattle.mends.specs.Whole.{unlisted}
 use Rattle.mend_laws.specs.rule.Mended.{NoneLow, nothing, plain, Shaped, all_ended, ended, SoundLines, kept_of}
 use Rattle.mend_laws.specs.Laid.{Four, four_sized, met, four_met, four_ending, plain_append, laid_all, AllWhole, no_records, whole}

@@ -17,7 +17,7 @@ use Rattle.pieces.specs.Pieces.{low_count}
 use Rattle.mends.specs.declared.Sizes.{Sizes}
 use Rattle.mends.specs.rule.Mend.{plain_byte, width_of, is_empty, mended_record, mended_of, MendEntry, mend_entry, listed_if, byte_entries}
 use Rattle.mends.specs.rule.Mend.{same_boundary}
-use Rattle.mends.specs.rule.Mend.{piece_entries, mend_entries, entry_numbers}
+use Rattle.mends.specs.rule.Mend.{piece_entries, entry_numbers}
 
 abbrev pub one : Bool → ℕ
 one b = cond b 1 0
@@ -199,21 +199,6 @@ length_piece w e n at p = go (is_empty p)
         ≡ cond q 1 (low_count p.bytes + (one (ltb (length p.bytes) w) + cond (same_boundary e p.boundary) 0 1))
     go true = refl
     go false = simp (length-append, length_bytes, length_listed, length_unended) (omega arith)
-
-pub length_entries : (w : ℕ) (e : Terminator) (n at : ℕ) (ps : List Piece) → length (mend_entries w e n at ps) ≡ others_in e ps
-    + short_in w ps
-unfolding mend_entries others_in short_in
-length_entries w e n at [] = refl
-length_entries w e n at (p ∷ ps) =
-    length-append (piece_entries w e n at p) (mend_entries w e (n + 1) (at + length p.bytes + p.boundary.size) ps)
-    ∙ rw (length_piece w e n at p, length_entries w e (n + 1) (at + length p.bytes + p.boundary.size) ps) (go (is_empty p))
-  where
-    go : (q : Bool) → cond q 1 (low_count p.bytes + (one (ltb (length p.bytes) w) + cond (same_boundary e p.boundary) 0 1))
-        + (others_in e ps + short_in w ps)
-        ≡ cond q 1 (low_count p.bytes + cond (same_boundary e p.boundary) 0 1) + others_in e ps
-        + (cond q 0 (one (ltb (length p.bytes) w)) + short_in w ps)
-    go true = omega arith
-    go false = omega arith
 
 pub length_numbers : (l : List MendEntry) → length (entry_numbers l) ≡ 3 * length l
 unfolding entry_numbers

@@ -1,5 +1,5 @@
 use native.Mathlib.Omega.{arith}
-use Rattle.looks.specs.Look.{number_lined}
+use Rattle.looks.proofs.Words.{number_lined}
 use Rattle.looks.proofs.number_line.Goals as goal
 
 pub returns : goal.returns

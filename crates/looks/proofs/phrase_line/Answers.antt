@@ -1,5 +1,5 @@
 use native.Mathlib.Omega.{arith}
-use Rattle.looks.specs.Look.{phrase_lined}
+use Rattle.looks.proofs.Words.{phrase_lined}
 use Rattle.looks.proofs.phrase_line.Goals as goal
 
 pub returns : goal.returns

@@ -3,7 +3,8 @@ use native.Mathlib.Omega.{arith}
 use Prim.Native.Nat.{◌+◌, ◌-◌}
 use Rattle.mends.specs.rule.Mend.{same_boundary}
 use Rattle.mends.specs.Sizes.{tallied}
-use Rattle.mends.specs.Mend.{span_lows, sizes_next, sizes_over, tally_grows}
+use Rattle.mends.specs.Mend.{span_lows, sizes_next, tally_grows}
+use Rattle.mends.proofs.Nexts.{sizes_over}
 use Rattle.mends.proofs.measure.Goals as goal
 
 pub tally-z-requires : goal.tally-z-requires

@@ -16,8 +16,8 @@ use Rattle.pieces.specs.rule.Pieces.{cut_from}
 use Rattle.mends.specs.declared.Sizes.{Sizes}
 use Rattle.mends.specs.rule.Mend.{mended_of, mend_entries, entry_numbers}
 use Rattle.mends.specs.Mend.{Ends, Measured}
-use Rattle.mends.specs.Whole.{Counts, counts, said_bytes, said_list, wide_enough, mends_bad, mends_short, mends_done, mends_stored}
-use Rattle.mends.specs.Whole.{room_both, room_out, room_list, room_copy}
+use Rattle.mends.specs.Whole.{Counts, said_bytes, wide_enough, room_both}
+use Rattle.mends.proofs.Whole.{counts, said_list, mends_bad, mends_short, mends_done, mends_stored, room_out, room_list, room_copy}
 use Rattle.mends.proofs.mend.Goals as goal
 use Rattle.mends.proofs.mend.Goals.{Else-not-has_room}
 

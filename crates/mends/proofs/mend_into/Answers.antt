@@ -4,8 +4,10 @@ use Prim.Native.Nat.{◌+◌, ◌<◌}
 use lib.ListN.{length, drop}
 use lib.Seq.{sets}
 use Rattle.pieces.specs.rule.Pieces.{cut_from}
-use Rattle.mends.specs.Mend.{stored_on, stored_length, mended_next, mended_length, entries_next, entries_length, width_next}
-use Rattle.mends.specs.Mend.{mended_over, entries_over, left_within, piece_length_rest, piece_stored}
+use Rattle.mends.specs.Mend.{stored_on, stored_length}
+use Rattle.mends.proofs.Nexts.{mended_next, mended_length, entries_next, entries_length, width_next}
+use Rattle.mends.specs.Mend.{piece_length_rest, piece_stored}
+use Rattle.mends.proofs.Nexts.{mended_over, entries_over, left_within}
 use Rattle.mends.proofs.mend_into.Goals as goal
 
 pub loop-i-init : goal.loop-i-init
