@@ -1,4 +1,5 @@
--- Words of letters that begin no note: where one stands just so it is found there, alone, as the first of two, and with a number or a string on its line.
+-- Words of letters that begin no note: where one stands just so it is found there, alone, first of two, and with a number or a string
+-- on its line.
 use Rattle.std.specs.Prelude.{◌≡◌, refl, Bool, true, false, not, ◌&&◌, ◌||◌, List, [], ◌∷◌, ◌++◌, ℕ, suc, ◌+◌, ◌-◌, ◌≤◌, ◌<◌}
 use Rattle.std.specs.Prelude.{eqb, leb, ltb}
 use Rattle.std.proofs.Common.{sym, ◌∙◌, leb-true, ltb-true, eqb-true, eq-eqb}

@@ -21,7 +21,8 @@ use Rattle.looks.specs.declared.Pair.{Pair}
 use Rattle.looks.specs.Figures.{Paired}
 use Rattle.looks.specs.Each.{ValueAt}
 use Rattle.looks.specs.Look.{opens, letters, Lined, Opened, ValueLine, SpecialLine, value_quiet, value_range, blank_stands, found_not}
-use Rattle.looks.proofs.Words.{opens_quiet, statement_stands, found_stands, first_past, first_found, second_past, second_found, second_other}
+use Rattle.looks.proofs.Words.{opens_quiet, statement_stands, found_stands}
+use Rattle.looks.proofs.Words.{first_past, first_found, second_past, second_found, second_other}
 use Rattle.pages.specs.declared.LineParts.{LineParts}
 use Rattle.pages.specs.declared.Places.{Places}
 use Rattle.pages.specs.declared.Position.{Position}
