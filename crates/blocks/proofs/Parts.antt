@@ -1,5 +1,6 @@
 -- The readers of ranges and lines, part by part: what the code makes of a tag, of what follows it and of the judgement is what the rule
 -- says.
+use Rattle.std.specs.Prelude.{Ok, Err}
 use mathlib.Core.Path.{◌≡◌, refl, ◌∙◌, ap}
 use mathlib.Core.Bool.{Bool, true, false, cond}
 use mathlib.Core.List.{List, [], ◌∷◌, ◌++◌}
@@ -30,7 +31,6 @@ use Rattle.bridge.specs.Lowest as charges
 use Rattle.bridge.specs.Lowest.{never, Clear, clear, fine, faulty, judged_view}
 use Rattle.elements.specs.declared.Body as held
 use Rattle.elements.specs.declared.Passed.TheVariants as passed
-use Rattle.elements.specs.declared.Bodied.TheVariants as bodied
 use Rattle.elements.specs.Code.{Slot, found_of, ruled, Numbered, passed_of, bodied_of}
 use Rattle.elements.proofs.Ranking.{found_behind, judged_ruled}
 use Rattle.elements.proofs.Bodies.{passed_is, passed_refused, nothing_numbered, body_is, body_refused, body_numbered}
@@ -146,7 +146,7 @@ module _ (bad : Bool) (d : List ℕ) (languages : Bool) (p e : ℕ) (l : e ≤ l
     pub value_next : m ≤ length d
     value_next = (tag_tells d 2 0 0 bad p e CODE [] [] 1 t).next
 
-    pub value_found : {b : held.Body} → bodied_of (body bad d VALUE (rich languages) em m) ≡ bodied.Is b
+    pub value_found : {b : held.Body} → bodied_of (body bad d VALUE (rich languages) em m) ≡ Ok b
         → word_of d h b ≡ worded_of (wording bad d languages p e)
     unfolding wording word_of
     value_found {b} f =
@@ -154,7 +154,7 @@ module _ (bad : Bool) (d : List ℕ) (languages : Bool) (p e : ℕ) (l : e ≤ l
         let num = body_numbered bad d VALUE (rich languages) em m i.reads in
         rw (t, i.reads, found_behind h.unknown i.body.charges num, i.text, i.found)
 
-    pub value_not : {f : Fault} → bodied_of (body bad d VALUE (rich languages) em m) ≡ bodied.Not f
+    pub value_not : {f : Fault} → bodied_of (body bad d VALUE (rich languages) em m) ≡ Err f
         → worded.Not f ≡ worded_of (wording bad d languages p e)
     unfolding wording
     value_not g = rw (t, body_refused (body bad d VALUE (rich languages) em m) g)

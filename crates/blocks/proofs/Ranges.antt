@@ -1,4 +1,5 @@
 -- A range judged by the code is judged as the rule says, in whichever order its values stand.
+use Rattle.std.specs.Prelude.{Ok, Err}
 use mathlib.Core.Path.{◌≡◌, refl, ◌∙◌, ap}
 use mathlib.Core.Bool.{Bool, true, false, cond, not, ◌&&◌, ◌||◌}
 use mathlib.Core.List.{List, [], ◌∷◌}
@@ -8,10 +9,8 @@ use lib.Dec.{eqb, ltb, leb}
 use lib.Signed.{lt_z}
 use borrow.Author.Tests.{le-leb, lt-leb, ltb-true, ltb-false, eqb-true, not-false}
 use Rattle.scan.specs.Number.{capped}
-use Rattle.tokens.specs.rule.Gap.{fault}
+use Rattle.tokens.specs.rule.Gap.{fault, Read}
 use Rattle.values.specs.declared.Block as books
-use Rattle.values.specs.declared.Judged.{Judged}
-use Rattle.values.specs.declared.Judged.TheVariants as judgment
 use Rattle.values.specs.Value.{scaled_of, point_of, points_of}
 use Rattle.values.specs.Range.{limit_range, judge_range}
 use Rattle.survey.specs.rule.Survey.{Amount, Range}
@@ -23,6 +22,7 @@ use Rattle.bridge.specs.Blocks.{form_same, large_same, small, Kept}
 use Rattle.xml_reading.specs.rule.Block.{pair_charges}
 use Rattle.blocks.specs.Code.{held_as, turned, pair_of, block_of, range_block, judged_of}
 use Rattle.blocks.proofs.Charges.{judged_split}
+use Rattle.values.specs.declared.Block.{Block}
 
 -- ---- what a range says, in the books
 abbrev made : Amount → Amount → books.Block
@@ -127,13 +127,13 @@ module _ (quantity below : Bool) (x y : Amount) (n : ℕ) where
   abbrev b : ℕ
   b = y.place
 
-  abbrev refused : ℕ → ℕ → Judged
-  refused k p = judgment.Bad (fault k p)
+  abbrev refused : ℕ → ℕ → Read Block
+  refused k p = Err (fault k p)
 
-  abbrev limit : Bool → Bool → Judged
-  limit g h = cond g (refused 8 a) (cond h (refused 8 b) (judgment.Good (made x y)))
+  abbrev limit : Bool → Bool → Read Block
+  limit g h = cond g (refused 8 a) (cond h (refused 8 b) (Ok (made x y)))
 
-  abbrev judge : Bool → Bool → Bool → Bool → Bool → Bool → Judged
+  abbrev judge : Bool → Bool → Bool → Bool → Bool → Bool → Read Block
   judge p q e v g h = cond p (cond q (cond e (cond v (refused 6 b) (limit g h)) (refused 6 b)) (refused 6 b)) (refused 6 a)
 
   judge_is : judge_range below quantity (held_as x) (held_as y)
@@ -161,8 +161,8 @@ module _ (quantity below : Bool) (x y : Amount) (n : ℕ) where
       (omega arith, (omega arith, (omega arith, (omega arith, tt)))) (refl, (refl, tt)) good n
 
   stands : (g h : Bool) → large quantity x ≡ g → large quantity y ≡ h → g ≡ false → h ≡ false
-      → judgment.Good (made x y) ≡ judgment.Good (block_of (range_block good))
-  stands g h i j e f = ap judgment.Good (made_is x y (small quantity x (i ∙ e)) (small quantity y (j ∙ f)))
+      → Ok (made x y) ≡ Ok (block_of (range_block good))
+  stands g h i j e f = ap Ok (made_is x y (small quantity x (i ∙ e)) (small quantity y (j ∙ f)))
 
   in_order : leb a b ≡ true → (p q e v g h : Bool) → (p ≡ true → q ≡ true → below ≡ v) → large quantity x ≡ g → large quantity y ≡ h
       → judge p q e below g h ≡ judged_of (bind (judged (sixes a b p q (not e) v) good n) (λ r n. judged (eights a b g h) r n))

@@ -1,4 +1,5 @@
 -- Lines as the rule has them and as the books keep them: their numbers, those that an earlier line says, and how a line is judged.
+use Rattle.std.specs.Prelude.{Ok, Err}
 use mathlib.Core.Path.{◌≡◌, refl, ◌∙◌, sym, ap}
 use mathlib.Core.Bool.{Bool, true, false, cond, not, ◌||◌}
 use mathlib.Core.List.{List, [], ◌∷◌, ◌++◌, map}
@@ -12,10 +13,8 @@ use Rattle.below.specs.rule.Below.{any_below}
 use Rattle.below.specs.Below.{holds_not}
 use Rattle.cells.specs.rule.Cell.{signed_of, eq_z}
 use Rattle.cells.specs.Cell.{same_true}
-use Rattle.tokens.specs.rule.Gap.{fault}
+use Rattle.tokens.specs.rule.Gap.{fault, Read}
 use Rattle.values.specs.declared.Block as books
-use Rattle.values.specs.declared.Verdict.{Verdict}
-use Rattle.values.specs.declared.Verdict.TheVariants as verdict
 use Rattle.values.specs.Value.{scaled_of}
 use Rattle.values.specs.Line as lines
 use Rattle.values.specs.Line.{numbers, number_at, repeated_in, line_fault, judge_line}
@@ -130,8 +129,8 @@ module _ (quantity : Bool) (first : ℕ) (b : books.Block) (c : Block) (kept : K
   unfolding rising line_charges goes_before
   rise = rw (le-leb a.place a.place (omega arith))
 
-  abbrev bad : ℕ → Verdict
-  bad k = verdict.Bad (fault k a.place)
+  abbrev bad : ℕ → Read ℤ
+  bad k = Err (fault k a.place)
 
   abbrev again : Bool
   again = some_of (λ z. eq_z (scaled z.value) (scaled a)) c.lines
@@ -158,17 +157,17 @@ module _ (quantity : Bool) (first : ℕ) (b : books.Block) (c : Block) (kept : K
       (by (form_is quantity a) (some_of (unlike_amounts a) (amounts c)) (large quantity a) refl refl))
     where
       ends : (r e : Bool) → large quantity a ≡ false
-          → cond r (bad 6) (cond e (bad 8) (verdict.Good (scaled_of (held_as a))))
-          ≡ cond r (bad 6) (cond e (bad 8) (verdict.Good (scaled a)))
+          → cond r (bad 6) (cond e (bad 8) (Ok (scaled_of (held_as a))))
+          ≡ cond r (bad 6) (cond e (bad 8) (Ok (scaled a)))
       ends r e g = rw (said g)
 
       by : (q u g : Bool) → some_of (unlike_amounts a) (amounts c) ≡ u → large quantity a ≡ g
           → cond (eqb (cond q (cond u 6 (cond g 8 0)) 6) 0)
           (cond (repeated_in (number_at (told c.lines)) (length c.lines) (scaled_of (held_as a))) (bad 6)
-          (cond (leb 4096 (first + length c.lines)) (bad 8) (verdict.Good (scaled_of (held_as a)))))
-          (verdict.Bad (fault (cond q (cond u 6 (cond g 8 0)) 6) a.place))
+          (cond (leb 4096 (first + length c.lines)) (bad 8) (Ok (scaled_of (held_as a)))))
+          (Err (fault (cond q (cond u 6 (cond g 8 0)) 6) a.place))
           ≡ cond (not q) (bad 6) (cond u (bad 6) (cond again (bad 6) (cond g (bad 8)
-          (cond (leb 4096 (first + length c.lines)) (bad 8) (verdict.Good (scaled a))))))
+          (cond (leb 4096 (first + length c.lines)) (bad 8) (Ok (scaled a))))))
       by true false false i j =
           let t : repeated_in (number_at (told c.lines)) (length c.lines) (scaled_of (held_as a)) ≡ again =
           rw (told_count c.lines) at (told_again j) in

@@ -1,6 +1,6 @@
 -- What the code answers with, for each answer of the rule (crate `xml_reading`, rule/Block): a block by the few numbers that the books of
 -- crate `values` keep of it, its lines by their numbers in a lent room.
-use Rattle.std.specs.Prelude.{◌≡◌, Bool, true, false, cond, ◌&&◌, List, [], ◌∷◌, ℕ, ◌+◌, ◌*◌, ◌-◌, eqb, ltb, ℤ, length, take, drop}
+use Rattle.std.specs.Prelude.{◌≡◌, Bool, true, false, cond, ◌&&◌, List, [], ◌∷◌, ℕ, ◌+◌, ◌*◌, ◌-◌, eqb, ltb, ℤ, length, take, drop, Ok, Err}
 use Rattle.std.proofs.Math.Option.{Option, none, some}
 use Rattle.std.specs.Int.Signed.{lt_z}
 use Rattle.cells.specs.rule.Cell.{number_of, pasted}
@@ -8,15 +8,11 @@ use Rattle.layout.specs.rule.Layout.{line_size}
 use Rattle.spans.specs.rule.Heard.{heard, All}
 use Rattle.amounts.specs.rule.Said.{true_in}
 use Rattle.tokens.specs.declared.Value.{Value}
-use Rattle.tokens.specs.rule.Gap.{fault}
+use Rattle.tokens.specs.rule.Gap.{fault, Read}
 use Rattle.values.specs.declared.Block as books
 use Rattle.values.specs.declared.Said.{Said}
 use Rattle.values.specs.declared.Listed.{Listed}
 use Rattle.values.specs.declared.Listed.TheVariants as listed
-use Rattle.values.specs.declared.Judged.{Judged}
-use Rattle.values.specs.declared.Judged.TheVariants as judgment
-use Rattle.values.specs.declared.Verdict.{Verdict}
-use Rattle.values.specs.declared.Verdict.TheVariants as verdict
 use Rattle.values.specs.Value.{form_of, large_of}
 use Rattle.values.specs.Range.{judge_range}
 use Rattle.values.specs.Line.{grown_by}
@@ -54,15 +50,15 @@ Below d a b r =
     → r ≡ lt_z (number_of b.minus (true_in y)) (number_of a.minus (true_in x))
 
 -- ---- a range, whose second value may stand first: of equal numbers its place goes before then
-abbrev pub turned : Bool → Value → Judged → Judged
-turned quantity b (judgment.Good k) = judgment.Good k
-turned quantity b (judgment.Bad f) =
-    judgment.Bad (cond (eqb f.number 8 && large_of quantity b) (fault 8 b.place) f)
+abbrev pub turned : Bool → Value → Read Block → Read Block
+turned quantity b (Ok k) = Ok k
+turned quantity b (Err f) =
+    Err (cond (eqb f.number 8 && large_of quantity b) (fault 8 b.place) f)
 
-unfoldable pub pair_of : Bool → Bool → Value → Value → Judged
+unfoldable pub pair_of : Bool → Bool → Value → Value → Read Block
 pair_of below quantity a b =
     cond (ltb b.place a.place)
-    (cond (form_of quantity b) (turned quantity b (judge_range below quantity a b)) (judgment.Bad (fault 6 b.place)))
+    (cond (form_of quantity b) (turned quantity b (judge_range below quantity a b)) (Err (fault 6 b.place)))
     (judge_range below quantity a b)
 
 -- ---- a block as the books keep it
@@ -83,9 +79,9 @@ block_of c = record {
 abbrev pub range_block : Range → Block
 range_block r = unlisted (some r)
 
-abbrev pub judged_of : Result Range → Judged
-judged_of (Is r n) = judgment.Good (block_of (range_block r))
-judged_of (Not f) = judgment.Bad f
+abbrev pub judged_of : Result Range → Read Block
+judged_of (Is r n) = Ok (block_of (range_block r))
+judged_of (Not f) = Err f
 
 -- its lines as the books keep them
 abbrev pub said_of : Line → Said
@@ -96,9 +92,9 @@ told [] = []
 told (x ∷ l) = said_of x ∷ told l
 
 -- what is judged of a line, in the books
-abbrev pub verdict_of : Result Line → Verdict
-verdict_of (Is x n) = verdict.Good (scaled x.value)
-verdict_of (Not f) = verdict.Bad f
+abbrev pub verdict_of : Result Line → Read ℤ
+verdict_of (Is x n) = Ok (scaled x.value)
+verdict_of (Not f) = Err f
 
 -- no line is too large
 unfoldable pub Small : Bool → List Line → Type 0
@@ -109,14 +105,14 @@ abbrev pub unless_of : Found → books.Block → ℕ → Lined
 unless_of x b n = cond (eqb x.number 0) (lined.Is b n) (lined.Not (fault x.number x.place))
 
 -- a line that was judged: the block has grown by it
-abbrev pub placed_of : books.Block → Said → Found → Verdict → Lined
-placed_of b s x (verdict.Good z) = unless_of x (grown_by b s.value) s.next
-placed_of b s x (verdict.Bad f) = lined.Not f
+abbrev pub placed_of : books.Block → Said → Found → Read ℤ → Lined
+placed_of b s x (Ok z) = unless_of x (grown_by b s.value) s.next
+placed_of b s x (Err f) = lined.Not f
 
 -- a range that was judged
-abbrev pub ranged_of : Found → ℕ → Judged → Lined
-ranged_of x n (judgment.Good b) = unless_of x b n
-ranged_of x n (judgment.Bad f) = lined.Not f
+abbrev pub ranged_of : Found → ℕ → Read Block → Lined
+ranged_of x n (Ok b) = unless_of x b n
+ranged_of x n (Err f) = lined.Not f
 
 unfoldable pub settled_of : List ℕ → Bool → Held → Found → ℕ → Lined
 settled_of d quantity h x n =

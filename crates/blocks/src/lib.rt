@@ -21,11 +21,11 @@ ghost use Rattle.blocks.specs.Code.{held_as, Below, turned, pair_of, unless_of, 
 ghost use Rattle.blocks.specs.Lines.{range_read, wording, worded_of, lined_of, first_tag, block_read, Lines, Standing, Went, Begun};
 ghost use Rattle.blocks.specs.Lines.{Closed};
 
-use elements::{Bodied, Body, Open, Passed};
+use elements::{Body, Open, Passed};
 use ranks::Found;
 use tags::{Held, Tag};
 use tokens::{Fault, Quoted, Value};
-use values::{Block, Judged, Listed, Said, Verdict};
+use values::{Block, Listed, Said};
 
 // The value that the stretch from v to e says, whose form was asked.
 fn amount_at(d: &[u8], v: usize, e: usize) -> Value
@@ -59,30 +59,30 @@ fn below_in(d: &[u8], a: Value, b: Value) -> bool
 }
 
 // A range whose second value stands first, and has its form: an 8 is at that one, if it has one.
-fn turn(quantity: bool, b: Value, j: Judged) -> Judged
+fn turn(quantity: bool, b: Value, j: Read<Block>) -> Read<Block>
     ensures { result ≡ turned quantity b j }
 {
     match j {
-        Judged::Good(k) => Judged::Good(k),
-        Judged::Bad(f) => {
+        Ok(k) => Ok(k),
+        Err(f) => {
             if (f.number == 8) & values::large(quantity, b) {
-                return Judged::Bad(Fault {
+                return Err(Fault {
                     number: 8,
                     place: b.place,
                 });
             }
-            Judged::Bad(f)
+            Err(f)
         }
     }
 }
 
 // A range from a to b, whose second value may stand first.
-fn judge_pair(below: bool, quantity: bool, a: Value, b: Value) -> Judged
+fn judge_pair(below: bool, quantity: bool, a: Value, b: Value) -> Read<Block>
     ensures { result ≡ pair_of below quantity a b }
 {
     if b.place < a.place {
         if !values::formed(quantity, b) {
-            return Judged::Bad(Fault {
+            return Err(Fault {
                 number: 6,
                 place: b.place,
             });
@@ -173,11 +173,11 @@ fn place_line(
         (judge_line (room_at lines.old first) (last - first) first quantity b s.value) }
 {
     match values::stand_line(quantity, first, s, b, last, lines, marks, stamp) {
-        Verdict::Good(_) => {
+        Ok(_) => {
             let g = grown(b, s.value);
             unless(found, g, s.next)
         }
-        Verdict::Bad(f) => Lined::Not(f),
+        Err(f) => Lined::Not(f),
     }
 }
 
@@ -190,12 +190,12 @@ fn settle_range(d: &[u8], quantity: bool, h: Held, found: Found, next: usize) ->
     let b = amount_at(d, h.b, h.be);
     let below = below_in(d, a, b);
     match judge_pair(below, quantity, a, b) {
-        Judged::Good(block) => {
+        Ok(block) => {
             let own = ranks::fault_at(51, h.unknown);
             let all = ranks::lower(own, found);
             unless(all, block, next)
         }
-        Judged::Bad(f) => Lined::Not(f),
+        Err(f) => Lined::Not(f),
     }
 }
 
@@ -268,8 +268,8 @@ fn read_value(bad: bool, d: &[u8], place: usize, end: usize, languages: bool) ->
             place: _,
             next,
         } => match elements::body_at(bad, d, next, empty, b"value", mode) {
-            Bodied::Is(t) => word(d, held, t),
-            Bodied::Not(f) => Worded::Not(f),
+            Ok(t) => word(d, held, t),
+            Err(f) => Worded::Not(f),
         },
         Tag::Fault { number, place: p } => Worded::Not(Fault { number, place: p }),
     }

@@ -1,5 +1,5 @@
 -- A value, right here: what the code's books gather mark by mark and run by run is what the bytes of its run say.
-use Rattle.std.specs.Prelude.{◌≡◌, Bool, ◌&&◌, ◌||◌, ℕ, suc, ◌+◌, ◌-◌, ◌*◌, ◌≤◌, leb, length}
+use Rattle.std.specs.Prelude.{◌≡◌, Bool, ◌&&◌, ◌||◌, ℕ, suc, ◌+◌, ◌-◌, ◌*◌, ◌≤◌, leb, length, Ok, Err}
 use Rattle.std.proofs.Math.Path.{refl, sym, ap}
 use Rattle.std.proofs.Common.{◌∙◌}
 use Rattle.std.proofs.Math.Bool.{true, false, cond}
@@ -17,12 +17,9 @@ use Rattle.scan.proofs.Texts.{From, at_stop, at_sign, from_text}
 use Rattle.scan.proofs.Orders.{run_ahead}
 use Rattle.scan.proofs.Runs.{held}
 use Rattle.tokens.specs.declared.Fault.{Fault}
-use Rattle.tokens.specs.declared.Reading.TheVariants.{At}
 use Rattle.tokens.specs.declared.Mark.{Mark}
 use Rattle.tokens.specs.declared.Value.{Value}
-use Rattle.tokens.specs.declared.Amount as books
-use Rattle.tokens.specs.declared.Amount.TheVariants as amounted
-use Rattle.tokens.specs.rule.Gap.{fault}
+use Rattle.tokens.specs.rule.Gap.{fault, Read}
 use Rattle.tokens.specs.Token.{mark_of, value_at, of_value, value_here}
 use Rattle.survey.specs.rule.Survey.{Amount}
 use Rattle.reading.specs.rule.Result.{Result, Is, Not}
@@ -44,10 +41,10 @@ written a x y m = record {
   next = m;
 }
 
-pub data Valued (d : List ℕ) (n : ℕ) : books.Amount → Result Amount → Type 0 where
+pub data Valued (d : List ℕ) (n : ℕ) : Read Value → Result Amount → Type 0 where
   valued : {a : Amount} {x y m : ℕ} → value_of d x y ≡ a.size → n ≤ a.place → a.place ≤ m
-      → Valued d n (amounted.Is (written a x y m)) (Is a m)
-  unvalued : {f : Fault} → Valued d n (amounted.Not f) (Not f)
+      → Valued d n (Ok (written a x y m)) (Is a m)
+  unvalued : {f : Fault} → Valued d n (Err f) (Not f)
 
 dot : is_digit 46 ≡ false
 unfolding is_digit class_of
@@ -258,11 +255,11 @@ module _ (d : List ℕ) where
     unfolding amount_read
     ends = run_ahead d is_value (from_text d n)
 
-    pub value_on_lem : Valued d n (value_here d (At n)) (amount d n)
+    pub value_on_lem : Valued d n (value_here d (Ok n)) (amount d n)
     unfolding value_here of_value amount
     value_on_lem = rw (value_is) (rw (run_empty n (from_text d n)) (by (eqb (length (run_bytes is_value (text d n))) 0))) where
       by : (q : Bool) → Valued d n
-          (cond q (amounted.Not (fault 2 n)) (amounted.Is (written (amount_read n end (run_bytes is_value (text d n))) m e end)))
+          (cond q (Err (fault 2 n)) (Ok (written (amount_read n end (run_bytes is_value (text d n))) m e end)))
           (cond q (Not (fault 2 n)) (Is (amount_read n end (run_bytes is_value (text d n))) end))
       by true = unvalued
       by false = valued size_says starts ends

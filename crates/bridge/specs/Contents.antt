@@ -1,5 +1,5 @@
 -- What stands behind the position, by type.
-use Rattle.std.specs.Prelude.{◌≡◌, Bool, List, [], ℕ, ◌≤◌, ◌<◌}
+use Rattle.std.specs.Prelude.{◌≡◌, Bool, List, [], ℕ, ◌≤◌, ◌<◌, Ok}
 use Rattle.std.proofs.Math.Path.{refl}
 use Rattle.std.proofs.Common.{◌∙◌, arith}
 use Rattle.std.proofs.Math.Bool.{true, false}
@@ -9,7 +9,6 @@ use Rattle.scan.specs.rule.Word.{word_at}
 use Rattle.scan.specs.declared.Word.{Word}
 use Rattle.scan.specs.declared.Word.TheVariants as spelled
 use Rattle.tokens.specs.declared.Fault.{Fault}
-use Rattle.tokens.specs.declared.Reading.TheVariants.{At}
 use Rattle.tokens.specs.Token.{of_choice, choice_of}
 use Rattle.statements.specs.rule.Words.{SPREAD}
 use Rattle.statements.specs.Spread.{spread_rest}
@@ -72,11 +71,11 @@ module _ (d : List ℕ) (first : ℕ) (p : Position) (small : room p < 100000000
     by refuses = quits
 
   -- behind SPREAD
-  spread_then_lem : (m : ℕ) (r : Result Spread) → spread_rest d (At m) (room p) ≡ to_spreading (room p) r
+  spread_then_lem : (m : ℕ) (r : Result Spread) → spread_rest d (Ok m) (room p) ≡ to_spreading (room p) r
       → SameTold d (room p) 2 (spread_or d first (to_spreading (room p) r))
       (bind (bind r λ s n. Is (some s) n) λ s n. bind (values d false first n) λ b n. Is (multiple s b) n)
   spread_then_lem m (Is s i) e =
-      let g = spread_good d (At m) (room p) _ some-room e in
+      let g = spread_good d (Ok m) (room p) _ some-room e in
       with_values 2 false (capped s.count.value) (even_or (room p) (capped s.count.value) s.width) (multiple (some s))
       (λ x b k l u v. as_multiple k l (fields u (v ∙ rw u) (rw u g.some) (rw v g.wide))) (Is i i)
   spread_then_lem m (Not f) e = quits
@@ -86,20 +85,20 @@ module _ (d : List ℕ) (first : ℕ) (p : Position) (small : room p < 100000000
       (values d false first n) λ b n. Is (multiple s b) n)
   unfolding choice_of
   multiple_at (Is a k) = by (word_at d k SPREAD) where
-    by : (x : Word) → SameTold d (room p) 2 (optional d first (At k) (room p) (of_choice x))
+    by : (x : Word) → SameTold d (room p) 2 (optional d first (Ok k) (room p) (of_choice x))
         (bind (on_word (λ m. bind (spread d (room p) m) λ s n. Is (some s) n) (λ n. Is none n) k x) λ s n. bind
         (values d false first n) λ b n. Is (multiple s b) n)
     by (spelled.Matched m) = rw (spread_on d (room p) small m) (spread_then_lem m (spread d (room p) m) (spread_on d (room p) small m))
     by spelled.Not = with_values 2 false 0 0 (multiple none) (λ x b k l u v. as_multiple k l (rw (u, v) bits)) (Is k k)
   multiple_at (Not f) = with_values 2 false 0 0 (multiple none) (λ x b k l u v. as_multiple k l (rw (u, v) bits)) {A = ℕ} (Not f)
 
-  size_then : (n : ℕ) (r : Result Figure) → size_on d (At n) ≡ to_number r
+  size_then : (n : ℕ) (r : Result Figure) → size_on d (Ok n) ≡ to_number r
       → SameTold d (room p) 4 (join_size (to_number r)) (bind r λ n m. Is (character n) m)
   unfolding join_size
-  size_then n (Is x m) e = let g = size_good d (At n) _ e in tells (as_character (capped_small x.value (omega (arith, g.1)))) refl
+  size_then n (Is x m) e = let g = size_good d (Ok n) _ e in tells (as_character (capped_small x.value (omega (arith, g.1)))) refl
   size_then n (Not f) e = quits
 
-  pub content_on : (s : Sort) (n : ℕ) → SameTold d (room p) (kind_of s) (rest_of d first (kind_of s) (At n) (room p))
+  pub content_on : (s : Sort) (n : ℕ) → SameTold d (room p) (kind_of s) (rest_of d first (kind_of s) (Ok n) (room p))
       (content d p first s n)
   unfolding rest_of spread_then join_nothing
   content_on Single n = with_values 1 false 0 0 single (λ x b k l u v. as_single k l u v) (Is n n)

@@ -1,10 +1,9 @@
 -- A variable as a whole, from VARIABLE to END VARIABLE, judged for its width behind that.
-use Rattle.std.specs.Prelude.{◌≡◌, refl, Bool, true, false, cond, not, List, [], ◌∷◌, ℕ, ◌≤◌, eqb, length}
+use Rattle.std.specs.Prelude.{◌≡◌, refl, Bool, true, false, cond, not, List, [], ◌∷◌, ℕ, ◌≤◌, eqb, length, Ok}
 use Rattle.std.proofs.Math.Option.{get_or}
 use Rattle.std.proofs.Common.{arith}
 use Rattle.scan.specs.Number.{capped}
 use Rattle.tokens.specs.declared.Fault.{Fault}
-use Rattle.tokens.specs.declared.Reading.TheVariants.{At}
 use Rattle.tokens.specs.rule.Gap.{fault}
 use Rattle.tokens.specs.Token.{word_on, past_number, past_string}
 use Rattle.statements.specs.rule.Words.{NAME, LABEL, END, VARIABLE}
@@ -118,14 +117,14 @@ module _ (d : List ℕ) (before : ℕ) where
     behind name label s p o = bind (content d p before s o) λ c n'. bind (statement d END n') λ a n'. bind (word d VARIABLE n') λ a. held
         (variable_of x name label p c)
 
-    position_then : (name : KeptText) (i : ℕ) (label : KeptText) (j : ℕ) (s : Sort) (k : ℕ) (r : Result Position) → position_on d (At k)
+    position_then : (name : KeptText) (i : ℕ) (label : KeptText) (j : ℕ) (s : Sort) (k : ℕ) (r : Result Position) → position_on d (Ok k)
         ≡ to_stated r
         → SameEntry d (head_then
         (join_head (join_titles (to_number (Is x m)) (to_phrase (Is name i)) (to_phrase (Is label j))) (to_typed (Is s k)) (to_stated r))
         (rest_then d before)) (bind r (behind name label s))
     unfolding join_head join_titles
     position_then name i label j s k (Is p o) e =
-        let g = position_good d (At k) _ e in
+        let g = position_good d (Ok k) _ e in
         let a = g.from_one in
         let b = g.ordered in
         let c = g.low in

@@ -1,5 +1,5 @@
 -- Places rise from token to token; a number's size is its true value, held at 10 ^ 15, and limits below that see the true value.
-use Rattle.std.specs.Prelude.{◌≡◌, Bool, eqb, ltb, length}
+use Rattle.std.specs.Prelude.{◌≡◌, Bool, eqb, ltb, length, Ok, Err}
 use Rattle.std.proofs.Math.Path.{refl}
 use Rattle.std.proofs.Common.{◌∙◌, sym, mod-eq_of_lt, ne_eqb, lt-ltb, ltb-true}
 use Rattle.std.proofs.Math.Bool.{true, false, cond}
@@ -20,11 +20,9 @@ use Rattle.marks.specs.declared.Skip.{Skip}
 use Rattle.marks.specs.declared.Skip.TheVariants.{Past, Unclosed, Bad}
 use Rattle.marks.specs.rule.Marks.{comment_of}
 use Rattle.tokens.specs.declared.Fault.{Fault}
-use Rattle.tokens.specs.declared.Reading.{Reading}
-use Rattle.tokens.specs.declared.Reading.TheVariants.{At, Refused}
 use Rattle.tokens.specs.declared.Choice.{Choice}
 use Rattle.tokens.specs.declared.Choice.TheVariants.{Taken, Left}
-use Rattle.tokens.specs.rule.Gap.{fault, gap_skip, gap_step, gap_at}
+use Rattle.tokens.specs.rule.Gap.{fault, gap_skip, gap_step, gap_at, Read}
 use Rattle.tokens.specs.Gap.{left}
 use Rattle.tokens.specs.Token.{of_choice, choice_of}
 use Rattle.tokens.proofs.Gaps.{gap_less, gap_again, gap_done}
@@ -88,30 +86,30 @@ digits_few t h = below t 4 0 1 (omega arith) h
 
 module _ (d : List ℕ) where
   -- ---- gaps and words lead on
-  step_place : (n : ℕ) (t : Text) {m : ℕ} → n ≤ place_of t → gap_step t ≡ Done (At m) → n ≤ m
+  step_place : (n : ℕ) (t : Text) {m : ℕ} → n ≤ place_of t → gap_step t ≡ Done (Ok m) → n ≤ m
   unfolding gap_step place_of
   step_place n (stop p) {m} h e = let q : p ≡ m = cc in omega arith
   step_place n (sign p b u) {m} h e = by (is_space b) (eqb b 60) (comment_of 1 u) e where
-    by : (x y : Bool) (k : Skip) → cond x (Again (p + 1)) (cond y (gap_skip p k) (Done (At p))) ≡ Done (At m) → n ≤ m
+    by : (x y : Bool) (k : Skip) → cond x (Again (p + 1)) (cond y (gap_skip p k) (Done (Ok p))) ≡ Done (Ok m) → n ≤ m
     by true y k e = never cc
     by false true (Past o) e = never cc
     by false true Unclosed e = never cc
     by false true (Bad o) e = never cc
     by false false k e = let q : p ≡ m = cc in omega arith
 
-  gap_within : (f n : ℕ) → length d - n < f → {m : ℕ} → gap_at d n ≡ At m → n ≤ m
+  gap_within : (f n : ℕ) → length d - n < f → {m : ℕ} → gap_at d n ≡ Ok m → n ≤ m
   gap_within zero n h e = absurd (omega arith)
   gap_within (suc f) n h {m} e = by (gap_step (text d n)) refl (λ k l. gap_within f k l) where
-    by : (s : Next ℕ Reading) → gap_step (text d n) ≡ s → ((k : ℕ) → length d - k < f → gap_at d k ≡ At m → k ≤ m) → n ≤ m
+    by : (s : Next ℕ (Read ℕ)) → gap_step (text d n) ≡ s → ((k : ℕ) → length d - k < f → gap_at d k ≡ Ok m → k ≤ m) → n ≤ m
     by (Again k) i ih = let l = gap_less d (from_text d n) i in let j = ih k (omega arith) (sym (gap_again d n i) ∙ e) in omega arith
     by (Done r) i ih = let q = sym (gap_done d n i) ∙ e in step_place n (text d n) (place_from d n) (rw q at i)
 
-  pub gap_ahead : {n m : ℕ} → gap_at d n ≡ At m → n ≤ m
+  pub gap_ahead : {n m : ℕ} → gap_at d n ≡ Ok m → n ≤ m
   gap_ahead {n} e = gap_within (suc (length d - n)) n (omega arith) e
 
   pub word_ahead : {n m : ℕ} (x : ℕ) (w : List ℕ) → word_at d n (x ∷ w) ≡ spelled.Matched m → n < m
   unfolding choice_of left
-  word_ahead {n} {m} x w e = let l = taken_less d (At n) x w {m = m} (rw e) in omega arith
+  word_ahead {n} {m} x w e = let l = taken_less d (Ok n) x w {m = m} (rw e) in omega arith
 
   -- ---- what is known of a number that was read from n on
   pub record Known (n : ℕ) (x : Figure) (m : ℕ) : Type 0 where
@@ -148,30 +146,30 @@ module _ (d : List ℕ) where
 
   pub number_told : (n : ℕ) → Told n (number d n)
   number_told n = by (gap_at d n) refl where
-    by : (t : Reading) → gap_at d n ≡ t → Told n (bind (passed t) λ a. figure d)
-    by (At m) e = told_on (gap_ahead e) (figure_told m)
-    by (Refused f) e = untold
+    by : (t : Read ℕ) → gap_at d n ≡ t → Told n (bind (passed t) λ a. figure d)
+    by (Ok m) e = told_on (gap_ahead e) (figure_told m)
+    by (Err f) e = untold
 
   -- ---- a word that may stand behind a gap, in the code's books and in the rule
-  pub choose : {A B R : Type 0} (T : R → Result B → Type 0) (m : ℕ) (w : List ℕ) (P Q : Reader A) (old : Reading → Choice → R)
+  pub choose : {A B R : Type 0} (T : R → Result B → Type 0) (m : ℕ) (w : List ℕ) (P Q : Reader A) (old : Read ℕ → Choice → R)
       (K : A → Reader B)
-      → ((f : Fault) → gap_at d m ≡ Refused f → T (old (Refused f) Left) (Not f))
-      → ((k j : ℕ) → gap_at d m ≡ At k → word_at d k w ≡ spelled.Matched j → T (old (At k) (Taken j)) (bind (P j) K))
-      → ((k : ℕ) → gap_at d m ≡ At k → word_at d k w ≡ spelled.Not → T (old (At k) Left) (bind (Q k) K))
+      → ((f : Fault) → gap_at d m ≡ Err f → T (old (Err f) Left) (Not f))
+      → ((k j : ℕ) → gap_at d m ≡ Ok k → word_at d k w ≡ spelled.Matched j → T (old (Ok k) (Taken j)) (bind (P j) K))
+      → ((k : ℕ) → gap_at d m ≡ Ok k → word_at d k w ≡ spelled.Not → T (old (Ok k) Left) (bind (Q k) K))
       → T (old (gap_at d m) (choice_of d (gap_at d m) w)) (bind (bind (gap d m) λ a. either d w P Q) K)
   unfolding choice_of
   choose T m w P Q old K refused taken left = by (gap_at d m) refl where
-    at : (k : ℕ) → gap_at d m ≡ At k → (x : Word) → word_at d k w ≡ x → T (old (At k) (of_choice x)) (bind (on_word P Q k x) K)
+    at : (k : ℕ) → gap_at d m ≡ Ok k → (x : Word) → word_at d k w ≡ x → T (old (Ok k) (of_choice x)) (bind (on_word P Q k x) K)
     at k e (spelled.Matched j) i = taken k j e i
     at k e spelled.Not i = left k e i
 
-    by : (t : Reading) → gap_at d m ≡ t → T (old t (choice_of d t w)) (bind (bind (passed t) λ a. either d w P Q) K)
-    by (At k) e = at k e (word_at d k w) refl
-    by (Refused f) e = refused f e
+    by : (t : Read ℕ) → gap_at d m ≡ t → T (old t (choice_of d t w)) (bind (bind (passed t) λ a. either d w P Q) K)
+    by (Ok k) e = at k e (word_at d k w) refl
+    by (Err f) e = refused f e
 
-  pub choose_on : {A B R : Type 0} (m : ℕ) (w : List ℕ) (P Q : Reader A) (old : Reading → Choice → R) (to : Result B → R) (K : A → Reader B)
-      → ((f : Fault) → old (Refused f) Left ≡ to (Not f))
-      → ((k j : ℕ) → gap_at d m ≡ At k → word_at d k w ≡ spelled.Matched j → old (At k) (Taken j) ≡ to (bind (P j) K))
-      → ((k : ℕ) → gap_at d m ≡ At k → old (At k) Left ≡ to (bind (Q k) K))
+  pub choose_on : {A B R : Type 0} (m : ℕ) (w : List ℕ) (P Q : Reader A) (old : Read ℕ → Choice → R) (to : Result B → R) (K : A → Reader B)
+      → ((f : Fault) → old (Err f) Left ≡ to (Not f))
+      → ((k j : ℕ) → gap_at d m ≡ Ok k → word_at d k w ≡ spelled.Matched j → old (Ok k) (Taken j) ≡ to (bind (P j) K))
+      → ((k : ℕ) → gap_at d m ≡ Ok k → old (Ok k) Left ≡ to (bind (Q k) K))
       → old (gap_at d m) (choice_of d (gap_at d m) w) ≡ to (bind (bind (gap d m) λ a. either d w P Q) K)
   choose_on m w P Q old to K refused taken left = choose (λ x r. x ≡ to r) m w P Q old K (λ f e. refused f) taken (λ k e i. left k e)

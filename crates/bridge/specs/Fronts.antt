@@ -1,5 +1,5 @@
 -- All that stands before the first variable, and the ENDs behind the last.
-use Rattle.std.specs.Prelude.{◌≡◌, refl, List, [], ℕ, suc, length}
+use Rattle.std.specs.Prelude.{◌≡◌, refl, List, [], ℕ, suc, length, Ok, Err}
 use Rattle.std.proofs.Common.{◌∙◌, arith}
 use Rattle.std.proofs.Math.Option.{Option, none, some}
 use Rattle.scan.specs.rule.Text.{text, place_of}
@@ -7,7 +7,6 @@ use Rattle.scan.specs.rule.Word.{word_at}
 use Rattle.scan.specs.declared.Word.{Word}
 use Rattle.scan.specs.declared.Word.TheVariants as spelled
 use Rattle.tokens.specs.declared.Fault.{Fault}
-use Rattle.tokens.specs.declared.Reading.TheVariants.{At, Refused}
 use Rattle.tokens.specs.declared.Quoted.{Quoted}
 use Rattle.tokens.specs.Token.{of_choice, choice_of, letter_on, past_string}
 use Rattle.statements.specs.rule.Words.{SURVEY, TITLE, RECORD}
@@ -33,8 +32,8 @@ use Rattle.bridge.specs.Openings.{opening_on}
 use Rattle.bridge.specs.Headings.{items, given_same, SameEntered, ends, stops, refused, entries_turns}
 
 pub data SameFront : Front → Result Heading → Type 0 where
-  fronts : {o : Front} {h : Heading} {n : ℕ} → o.next ≡ At n → o.heading.standard ≡ h.standard → SameFront o (Is h n)
-  stopped : {o : Front} {f : Fault} → o.next ≡ Refused f → SameFront o (Not f)
+  fronts : {o : Front} {h : Heading} {n : ℕ} → o.next ≡ Ok n → o.heading.standard ≡ h.standard → SameFront o (Is h n)
+  stopped : {o : Front} {f : Fault} → o.next ≡ Err f → SameFront o (Not f)
 
 module _ (d : List ℕ) where
   -- an optional TITLE, RECORD and a letter
@@ -71,14 +70,14 @@ module _ (d : List ℕ) where
     title_at : (r : Result Unit) → SameFront (title_or d h (to_reading r) (choice_of d (to_reading r) TITLE)) (bind r λ a. closing l)
     unfolding choice_of
     title_at (Is a n) = by (word_at d n TITLE) where
-      by : (w : Word) → SameFront (title_or d h (At n) (of_choice w))
+      by : (w : Word) → SameFront (title_or d h (Ok n) (of_choice w))
           (bind (on_word (texted d) (λ n. Is none n) n w) λ o n. bind (statement d RECORD n) λ a n. bind (letter d n) λ c n. Is
           (heading l o c) n)
       by (spelled.Matched m) = rw (string_on_lem d (Is m m)) (title_read (string d m))
       by spelled.Not = record_then no_text (Is none n)
     title_at (Not f) = record_then no_text (Not f)
 
-    survey_at : (k : ℕ) → SameFront (front_of d h (At k)) (bind (here d SURVEY k) λ a n. bind (notes d n) λ a. closing l)
+    survey_at : (k : ℕ) → SameFront (front_of d h (Ok k)) (bind (here d SURVEY k) λ a n. bind (notes d n) λ a. closing l)
     unfolding front_of
     survey_at k = rw (here_on d (Is k k) SURVEY) (by (here d SURVEY k)) where
       by : (s : Result Unit) → SameFront (title_or d h (notes_on d (to_reading s)) (choice_of d (notes_on d (to_reading s)) TITLE))
@@ -86,11 +85,11 @@ module _ (d : List ℕ) where
       by (Is a n) = rw (notes_on_lem d (Is a n)) (title_at (notes d n))
       by (Not f) = rw (notes_on_lem d {A = ℕ} (Not f)) (title_at (Not f))
 
-  record_refused : (f : Fault) → record_on d (Refused f) ≡ Refused f
+  record_refused : (f : Fault) → record_on d (Err f) ≡ Err f
   unfolding record_on
   record_refused f = rw (statement_on_lem d {A = ℕ} (Not f) RECORD) (letter_on_lem d {A = ℕ} (Not f))
 
-  refused_front : (h : books.Heading) (f : Fault) → SameFront (front_of d h (Refused f)) (Not f)
+  refused_front : (h : books.Heading) (f : Fault) → SameFront (front_of d h (Err f)) (Not f)
   unfolding front_of choice_of
   refused_front h f = rw (here_on d {A = ℕ} (Not f) SURVEY) (rw (notes_on_lem d {A = ℕ} (Not f)) (stopped (record_refused f)))
 

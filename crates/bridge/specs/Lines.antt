@@ -1,5 +1,5 @@
 -- The lines of a block, one by one: read, judged by the least charge, and what follows; the turns of both are enough.
-use Rattle.std.specs.Prelude.{◌≡◌, Bool, cond, not}
+use Rattle.std.specs.Prelude.{◌≡◌, Bool, cond, not, Ok, Err}
 use Rattle.std.proofs.Math.Path.{refl, sym}
 use Rattle.std.proofs.Common.{◌∙◌, arith, length-append}
 use Rattle.std.proofs.Math.Bool.{true, false}
@@ -15,17 +15,13 @@ use Rattle.scan.specs.rule.Word.{word_at}
 use Rattle.scan.specs.declared.Word.{Word}
 use Rattle.scan.specs.declared.Word.TheVariants as spelled
 use Rattle.tokens.specs.declared.Fault.{Fault}
-use Rattle.tokens.specs.declared.Reading.TheVariants.{At, Refused}
 use Rattle.tokens.specs.declared.Value.{Value}
-use Rattle.tokens.specs.declared.Amount as token
-use Rattle.tokens.specs.declared.Amount.TheVariants as amounted
-use Rattle.tokens.specs.rule.Gap.{fault}
+use Rattle.tokens.specs.rule.Gap.{fault, Read}
 use Rattle.tokens.specs.Gap.{gap_on}
 use Rattle.tokens.specs.Token.{of_choice, choice_of, value_here, past_value, string_on, past_string}
 use Rattle.statements.specs.rule.Words.{SPECIAL, END, VALUES}
 use Rattle.values.specs.declared.Block as books
 use Rattle.values.specs.declared.Said.{Said}
-use Rattle.values.specs.declared.Verdict.TheVariants as verdict
 use Rattle.values.specs.Line.{Given, state_of, said_of, special_or, line_rest, grown_by, end_of, end_or, more_of, after, judged_step}
 use Rattle.values.specs.Line as given
 use Rattle.values.specs.Order.{paper_line, paper_read, paper_step}
@@ -68,13 +64,13 @@ module _ (d : List ℕ) (quantity : Bool) (first : ℕ) where
   pub data Step (k : ℕ) : Next given.Listing Given → Result (Next Listing Block) → Type 0 where
     on : {a : Amount} {x y m p : ℕ} {b : books.Block} {l : List Said} {c : Block} → Standing a x y m p b l c → k + 1 ≡ length l
         → first + k < 4096
-        → Step k (Again (state_of (amounted.Is (written a x y m)) b l)) (Is (Again (listing c a)) p)
+        → Step k (Again (state_of (Ok (written a x y m)) b l)) (Is (Again (listing c a)) p)
     over : {g : Given} {c : Block} {n : ℕ} → SameGiven d g (Is c n) → Step k (Done g) (Is (Done c) n)
     stuck : {b : books.Block} {l : List Said} {f : Fault} → k + 1 ≡ length l → first + k < 4096
-        → Step k (Again (state_of (amounted.Not f) b l)) (Not f)
+        → Step k (Again (state_of (Err f) b l)) (Not f)
     halt : {f : Fault} → Step k (Done (given.Not f)) (Not f)
 
-  pub value_refused : (f : Fault) → value_here d (Refused f) ≡ amounted.Not f
+  pub value_refused : (f : Fault) → value_here d (Err f) ≡ Err f
   unfolding value_here
   value_refused f = refl
 
@@ -87,7 +83,7 @@ module _ (d : List ℕ) (quantity : Bool) (first : ℕ) where
     abbrev another : Reader (Next Listing Block)
     another i = bind (amount d i) λ a n. Is (Again (listing c a)) n
 
-    value_next : (i : ℕ) {va : token.Amount} {ra : Result Amount} → Valued d i va ra
+    value_next : (i : ℕ) {va : Read Value} {ra : Result Amount} → Valued d i va ra
         → Step k (Again (state_of va b l)) (bind ra λ a n. Is (Again (listing c a)) n)
     value_next i (valued {a = a} {x = x} {y = y} {m = m} e s t) =
         let h : Standing a x y m m b l c = record { says = e; from = refl; kept = kept; lines = lines } in on h count few
@@ -101,7 +97,7 @@ module _ (d : List ℕ) (quantity : Bool) (first : ℕ) where
     follows : (n : ℕ) → Step k (after l (more_of d b n)) (bind (notes d n) λ a. either d END closing another)
     unfolding more_of choice_of
     follows n = rw (notes_on_lem d (Is n n)) (by (notes d n)) where
-      at : (i : ℕ) (w : Word) → Step k (after l (end_or d b (At i) (of_choice w))) (on_word closing another i w)
+      at : (i : ℕ) (w : Word) → Step k (after l (end_or d b (Ok i) (of_choice w))) (on_word closing another i w)
       at i (spelled.Matched e) = rw (word_on_lem d (Is e e) VALUES) (end_next e (word d VALUES e))
       at i spelled.Not = value_next i (value_on_lem d i)
 
@@ -116,7 +112,7 @@ module _ (d : List ℕ) (quantity : Bool) (first : ℕ) where
     v = written a x y m
 
     abbrev S : given.Listing
-    S = state_of (amounted.Is v) b l
+    S = state_of (Ok v) b l
 
     abbrev then : Line → Reader (Next Listing Block)
     then z n =
@@ -148,10 +144,10 @@ module _ (d : List ℕ) (quantity : Bool) (first : ℕ) where
             → some_of (λ z. eq_z (scaled z.value) (scaled a)) c.lines ≡ r → large quantity a ≡ g
             → leb 4096 (first + length c.lines) ≡ e
             → Step (length c.lines) (judged_step d S (said_as a x y m t i s n)
-            (cond q (cond u (verdict.Bad (fault 6 a.place))
-            (cond r (verdict.Bad (fault 6 a.place))
-            (cond g (verdict.Bad (fault 8 a.place)) (cond e (verdict.Bad (fault 8 a.place)) (verdict.Good (scaled a))))))
-            (verdict.Bad (fault 6 a.place))))
+            (cond q (cond u (Err (fault 6 a.place))
+            (cond r (Err (fault 6 a.place))
+            (cond g (Err (fault 8 a.place)) (cond e (Err (fault 8 a.place)) (Ok (scaled a))))))
+            (Err (fault 6 a.place))))
             (bind (cond (not q) (Not (fault 6 a.place))
             (cond u (Not (fault 6 a.place))
             (cond r (Not (fault 6 a.place))
@@ -173,13 +169,13 @@ module _ (d : List ℕ) (quantity : Bool) (first : ℕ) where
     line_step_lem = rw h.from (rw (string_on_lem d (Is m m)) (by (string d m))) where
       by : (r : Result KeptText)
           → Step (length l) (paper_read d quantity first S
-          (special_or (amounted.Is v) (to_phrase r) (gap_on d (past_string (to_phrase r)))
+          (special_or (Ok v) (to_phrase r) (gap_on d (past_string (to_phrase r)))
           (choice_of d (gap_on d (past_string (to_phrase r))) SPECIAL)))
           (bind (bind r λ t n. bind (whether d SPECIAL n) λ s. judged (line_charges quantity first c a) (line_of a t s)) then)
       by (Is t i) =
           rw (bind_bind (whether d SPECIAL i) (λ s. judged (line_charges quantity first c a) (line_of a t s)) then)
           (choose d (Step (length l)) i SPECIAL (λ j. Is true j) (λ j. Is false j)
-          (λ g w. paper_read d quantity first S (special_or (amounted.Is v) (to_phrase (Is t i)) g w))
+          (λ g w. paper_read d quantity first S (special_or (Ok v) (to_phrase (Is t i)) g w))
           (λ s n. bind (judged (line_charges quantity first c a) (line_of a t s) n) then)
           (λ f e. halt) (λ k j e w. line_judged t i true j) (λ k e w. line_judged t i false k))
       by (Not f) = halt
@@ -189,14 +185,14 @@ module _ (d : List ℕ) (quantity : Bool) (first : ℕ) where
   out = given.Not (fault 0 0)
 
   pub no_value : (f : ℕ) (e : Fault) (b : books.Block) (l : List Said) → 0 < f
-      → loop_of (paper_step d quantity first) out f (state_of (amounted.Not e) b l) ≡ given.Not e
+      → loop_of (paper_step d quantity first) out f (state_of (Err e) b l) ≡ given.Not e
   unfolding loop_of paper_step line_rest past_value string_on gap_on past_string choice_of said_of
   no_value zero e b l h = absurd (omega arith)
   no_value (suc f) e b l h = refl
 
   pub lines_turns : (f g : ℕ) (a : Amount) (x y m p : ℕ) (b : books.Block) (l : List Said) (c : Block) → Standing a x y m p b l c
       → 4096 - (first + length l) < f → 4096 - (first + length l) < g
-      → SameGiven d (loop_of (paper_step d quantity first) out f (state_of (amounted.Is (written a x y m)) b l))
+      → SameGiven d (loop_of (paper_step d quantity first) out f (state_of (Ok (written a x y m)) b l))
       (repeat g (listed d quantity first) (listing c a) p)
   unfolding loop_of repeat
   lines_turns zero g a x y m p b l c h i j = absurd (omega arith)
@@ -205,7 +201,7 @@ module _ (d : List ℕ) (quantity : Bool) (first : ℕ) where
     by : {r : Next given.Listing Given} {q : Result (Next Listing Block)} → Step (length l) r q
         → ((a : Amount) (x y m p : ℕ) (b : books.Block) (l : List Said) (c : Block) → Standing a x y m p b l c
         → 4096 - (first + length l) < f → 4096 - (first + length l) < g
-        → SameGiven d (loop_of (paper_step d quantity first) out f (state_of (amounted.Is (written a x y m)) b l))
+        → SameGiven d (loop_of (paper_step d quantity first) out f (state_of (Ok (written a x y m)) b l))
         (repeat g (listed d quantity first) (listing c a) p))
         → SameGiven d (on_next r (loop_of (paper_step d quantity first) out f)) (bind q (reading.turn (repeat g (listed d quantity first))))
     by (on {a = a} {x = x} {y = y} {m = m} {p = p} {b = b} {l = l} {c = c} s e k) ih = ih a x y m p b l c s (omega arith) (omega arith)

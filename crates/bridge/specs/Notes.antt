@@ -1,5 +1,5 @@
 -- Notes and what stands behind them: the turns that both have are enough, since each note leaves less to read.
-use Rattle.std.specs.Prelude.{◌≡◌, List}
+use Rattle.std.specs.Prelude.{◌≡◌, List, Ok, Err}
 use Rattle.std.proofs.Math.Path.{refl}
 use Rattle.std.proofs.Common.{◌∙◌, arith}
 use Prim.Native.Nat.{ℕ, zero, suc, ◌-◌, ◌<◌}
@@ -8,9 +8,7 @@ use Rattle.scan.specs.rule.Loop.{Again, Done}
 use Rattle.scan.specs.rule.Word.{word_at}
 use Rattle.scan.specs.declared.Word.{Word}
 use Rattle.scan.specs.declared.Word.TheVariants as spelled
-use Rattle.tokens.specs.declared.Reading.{Reading}
-use Rattle.tokens.specs.declared.Reading.TheVariants.{At, Refused}
-use Rattle.tokens.specs.rule.Gap.{gap_at}
+use Rattle.tokens.specs.rule.Gap.{gap_at, Read}
 use Rattle.tokens.specs.Gap.{gap_on, left}
 use Rattle.tokens.specs.Token.{choice_of}
 use Rattle.statements.specs.rule.Words.{NOTE}
@@ -28,40 +26,40 @@ module _ (d : List ℕ) where
   unfolding past_note
   past_on m = rw (string_on_lem d (Is m m), past_string_lem (string d m)) (gap_on_lem d (string d m))
 
-  pub notes_refused : (f : Rattle.tokens.specs.declared.Fault.Fault) → notes_here d (Refused f) ≡ Refused f
+  pub notes_refused : (f : Rattle.tokens.specs.declared.Fault.Fault) → notes_here d (Err f) ≡ Err f
   unfolding choice_of
-  notes_refused f = notes_done d (Refused f) refl refl
+  notes_refused f = notes_done d (Err f) refl refl
 
-  turns : (f n : ℕ) → length d - n < f → notes_here d (At n) ≡ to_reading (repeat f (note d) tt n)
+  turns : (f n : ℕ) → length d - n < f → notes_here d (Ok n) ≡ to_reading (repeat f (note d) tt n)
   unfolding repeat left choice_of
   turns zero n h = absurd (omega arith)
   turns (suc f) n h = by (word_at d n NOTE) refl (turns f) where
     on : (r : Result Unit) → left d (to_reading r) < suc (length d - n)
-        → ((k : ℕ) → length d - k < f → notes_here d (At k) ≡ to_reading (repeat f (note d) tt k))
+        → ((k : ℕ) → length d - k < f → notes_here d (Ok k) ≡ to_reading (repeat f (note d) tt k))
         → notes_here d (to_reading r) ≡ to_reading (bind (bind r λ a k. Is (Again tt) k) (turn (repeat f (note d))))
     on (Is a k) l ih = ih k (omega arith)
     on (Not g) l ih = notes_refused g
 
     behind : (m : ℕ) (s : Result KeptText) → past_note d m ≡ to_reading (bind s λ t. gap d) → left d (past_note d m) < suc (length d - n)
-        → ((k : ℕ) → length d - k < f → notes_here d (At k) ≡ to_reading (repeat f (note d) tt k))
+        → ((k : ℕ) → length d - k < f → notes_here d (Ok k) ≡ to_reading (repeat f (note d) tt k))
         → notes_here d (past_note d m) ≡ to_reading (bind (bind s λ t k. bind (gap d k) λ a k. Is (Again tt) k) (turn (repeat f (note d))))
     behind m (Is t k) e l ih = rw e (on (gap d k) (rw e at l) ih)
     behind m (Not g) e l ih = rw e (notes_refused g)
 
-    by : (x : Word) → word_at d n NOTE ≡ x → ((k : ℕ) → length d - k < f → notes_here d (At k) ≡ to_reading (repeat f (note d) tt k))
-        → notes_here d (At n) ≡ to_reading
+    by : (x : Word) → word_at d n NOTE ≡ x → ((k : ℕ) → length d - k < f → notes_here d (Ok k) ≡ to_reading (repeat f (note d) tt k))
+        → notes_here d (Ok n) ≡ to_reading
         (bind (on_word (λ m. bind (string d m) λ t k. bind (gap d k) λ a k. Is (Again tt) k) (λ k. Is (Done tt) k) n x)
         (turn (repeat f (note d))))
     by (spelled.Matched m) e ih =
-        notes_again d (At n) refl (rw e) ∙ behind m (string d m) (past_on m) (note_left d (At n) refl (rw e)) ih
-    by spelled.Not e ih = notes_done d (At n) refl (rw e)
+        notes_again d (Ok n) refl (rw e) ∙ behind m (string d m) (past_on m) (note_left d (Ok n) refl (rw e)) ih
+    by spelled.Not e ih = notes_done d (Ok n) refl (rw e)
 
   pub notes_on_lem : {A : Type 0} (r : Result A) → notes_on d (to_reading r) ≡ to_reading (bind r λ a. notes d)
   unfolding notes_on notes gap_on
   notes_on_lem (Is a n) = by (gap_at d n) where
-    by : (t : Reading) → notes_here d t ≡ to_reading (bind (passed t) λ a. repeat (suc (length d)) (note d) tt)
-    by (At m) = turns (suc (length d)) m (omega arith)
-    by (Refused f) = notes_refused f
+    by : (t : Read ℕ) → notes_here d t ≡ to_reading (bind (passed t) λ a. repeat (suc (length d)) (note d) tt)
+    by (Ok m) = turns (suc (length d)) m (omega arith)
+    by (Err f) = notes_refused f
   notes_on_lem (Not f) = notes_refused f
 
   -- ---- a statement's word, and its text

@@ -1,5 +1,5 @@
 -- SSS VERSION 1.1: a version that is 1.1 as text is a run that spells it to its end.
-use Rattle.std.specs.Prelude.{◌≡◌, Bool, List, [], ◌∷◌, ltb, leb, length}
+use Rattle.std.specs.Prelude.{◌≡◌, Bool, List, [], ◌∷◌, ltb, leb, length, Ok, Err}
 use Rattle.std.proofs.Math.Path.{refl}
 use Rattle.std.proofs.Common.{◌∙◌, sym, arith, eq-eqb, ne_eqb, eqb-true, ltb-false}
 use Rattle.std.proofs.Math.Bool.{true, false, cond, not}
@@ -13,7 +13,6 @@ use Rattle.scan.specs.rule.Word.{word_of, word_at}
 use Rattle.scan.specs.declared.Word.{Word}
 use Rattle.scan.specs.declared.Word.TheVariants as spelled
 use Rattle.scan.proofs.Texts.{From, at_stop, at_sign, from_text}
-use Rattle.tokens.specs.declared.Reading.TheVariants.{At, Refused}
 use Rattle.tokens.specs.rule.Gap.{fault}
 use Rattle.tokens.specs.Gap.{then, spaces_on}
 use Rattle.tokens.specs.Token.{word_here}
@@ -83,12 +82,12 @@ module _ (d : List ℕ) where
       (by (eqb (length (run_bytes is_value (text d n))) 0) (word_of n (text d n) ONE-ONE) (run_of is_value n (text d n))
       (same (run_bytes is_value (text d n)) ONE-ONE) (word_whole (from_text d n) one_one))
     where
-      told : (q : Bool) (e : ℕ) → cond q (At e) (Refused (fault 4 n)) ≡ to_reading (judged (fault 4 n when not q ∷ []) (tt {0}) e)
+      told : (q : Bool) (e : ℕ) → cond q (Ok e) (Err (fault 4 n)) ≡ to_reading (judged (fault 4 n when not q ∷ []) (tt {0}) e)
       told true e = refl
       told false e = refl
 
       by : (q : Bool) (w : Word) (e : ℕ) (s : Bool) → ends e w ≡ s
-          → cond q (Refused (fault 2 n)) (whole n e w)
+          → cond q (Err (fault 2 n)) (whole n e w)
           ≡ to_reading (cond q (Not (fault 2 n)) (judged (fault 4 n when not s ∷ []) (tt {0}) e))
       by true w e s i = refl
       by false (spelled.Matched m) e s i = rw (← i) (told (eqb m e) e)

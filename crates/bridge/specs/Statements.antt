@@ -1,5 +1,5 @@
 -- POSITION, SPREAD and SIZE: what the code's books judge in an order of their own is the least of the paper's charges.
-use Rattle.std.specs.Prelude.{◌≡◌, Bool, true, false, cond, not, List, [], ◌∷◌}
+use Rattle.std.specs.Prelude.{◌≡◌, Bool, true, false, cond, not, List, [], ◌∷◌, Ok, Err}
 use Rattle.std.proofs.Math.Path.{refl}
 use Rattle.std.proofs.Common.{◌∙◌, ap, arith, le-leb}
 use Rattle.std.proofs.Math.Option.{Option, none, some, get_or}
@@ -7,20 +7,14 @@ use Prim.Native.Nat.{ℕ, ◌≤◌, ◌<◌, ◌%◌, ◌/◌}
 use Rattle.std.proofs.Math.Dec.{eqb}
 use Rattle.scan.specs.Number.{capped}
 use Rattle.tokens.specs.declared.Fault.{Fault}
-use Rattle.tokens.specs.declared.Reading.TheVariants.{At, Refused}
 use Rattle.tokens.specs.declared.Figures.{Figures}
-use Rattle.tokens.specs.declared.Number.TheVariants as numbered
-use Rattle.tokens.specs.rule.Gap.{fault}
+use Rattle.tokens.specs.rule.Gap.{fault, Read}
 use Rattle.tokens.specs.Gap.{gap_on}
 use Rattle.tokens.specs.Token.{choice_of, number_on, number_here, past_number}
 use Rattle.statements.specs.rule.Words.{POSITION, TO, OF, SIZE}
 use Rattle.statements.specs.Position.{below_of, judge_position, both_of, position_rest, position_on}
 use Rattle.statements.specs.Spread.{judge_of, judge_even, fields_of, even_of, rest, spread_rest}
 use Rattle.statements.specs.Size.{judge_size, size_on}
-use Rattle.statements.specs.declared.Stated.{Stated}
-use Rattle.statements.specs.declared.Stated.TheVariants as stated
-use Rattle.statements.specs.declared.Spreading.{Spreading}
-use Rattle.statements.specs.declared.Spreading.TheVariants as spreading
 use Rattle.survey.specs.rule.Survey.{Figure, Spread}
 use Rattle.reading.specs.rule.Result.{Result, Is, Not, bind}
 use Rattle.reading.specs.rule.Least.{judged, goes_before}
@@ -31,28 +25,29 @@ use Rattle.bridge.specs.Facts.{capped_limit, capped_zero, capped_mod, gap_ahead,
 use Rattle.bridge.specs.Facts.{choose_on}
 use Rattle.bridge.specs.Tokens.{to_reading, to_number, number_on_lem}
 use Rattle.bridge.specs.Notes.{statement_on_lem}
+use Rattle.statements.specs.declared.Subfields.{Subfields}
 
 abbrev pub figures : Figure → ℕ → Figures
 figures x n = record { size = capped x.value; count = x.digits; place = x.place; next = n }
 
-abbrev pub to_stated : Result Position → Stated
-to_stated (Is p n) = stated.Is (record {
+abbrev pub to_stated : Result Position → Read Position
+to_stated (Is p n) = Ok (record {
   start = capped p.start.value;
   finish = capped (get_or p.finish p.start).value;
   place = p.start.place;
   next = n;
 })
-to_stated (Not f) = stated.Not f
+to_stated (Not f) = Err f
 
 -- for a position of `room` bytes
 abbrev pub even_or : ℕ → ℕ → Option Figure → ℕ
 even_or room n none = room / n
 even_or room n (some w) = capped w.value
 
-abbrev pub to_spreading : ℕ → Result Spread → Spreading
-to_spreading room (Is s n) = spreading.Is
+abbrev pub to_spreading : ℕ → Result Spread → Read Subfields
+to_spreading room (Is s n) = Ok
     (record { count = capped s.count.value; width = even_or room (capped s.count.value) s.width; next = n })
-to_spreading room (Not f) = spreading.Not f
+to_spreading room (Not f) = Err f
 
 swap : {A : Type 0} (q : Bool) (x y : A) → cond q x y ≡ cond (not q) y x
 swap true x y = refl
@@ -71,7 +66,7 @@ module _ (d : List ℕ) where
   position_least x b {m} {e} n k l h =
       let y = get_or b x in
       let p : judge_position (below_of d (figures y e) (figures x m)) (figures x m) (figures y e) n
-      ≡ chain stated.Not (to_stated (Is (placed x b) n)) (position_charges x y) =
+      ≡ chain Err (to_stated (Is (placed x b) n)) (position_charges x y) =
       rw (capped_zero x.value, capped_limit 16384 x.value (omega arith), capped_limit 16384 y.value (omega arith))
       (rw (k.says, l.says)) in
       p ∙ chain_least to_stated (placed x b) n (position_charges x y) (rw (le-leb x.place y.place h))
@@ -96,7 +91,7 @@ module _ (d : List ℕ) where
       finish (Not f) untold h = refl
   position_at k (Not f) untold = refl
 
-  position_refused : (f : Fault) → position_on d (Refused f) ≡ stated.Not f
+  position_refused : (f : Fault) → position_on d (Err f) ≡ Err f
   unfolding position_on both_of past_number number_on number_here gap_on choice_of
   position_refused f = rw (statement_on_lem d {A = ℕ} (Not f) POSITION)
 
@@ -122,9 +117,9 @@ module _ (d : List ℕ) where
     even_least x m n =
         let v = x.value in
         let good = to_spreading room (Is (parts x none) n) in
-        let k : judge_even (figures x m) room n ≡ chain spreading.Not good (spread_charges room x none) =
+        let k : judge_even (figures x m) room n ≡ chain Err good (spread_charges room x none) =
         rw (capped_zero v) (rw (ap (λ y. eqb y 0) (capped_mod room v small))
-        (rw (swap (eqb (room % v) 0) good (spreading.Not (fault 7 x.place))))) in
+        (rw (swap (eqb (room % v) 0) good (Err (fault 7 x.place))))) in
         k ∙ chain_least (to_spreading room) (parts x none) n (spread_charges room x none) (rw (le-leb x.place x.place (omega arith)))
 
     of_least : (x w : Figure) (m n : ℕ) → x.place ≤ w.place
@@ -132,7 +127,7 @@ module _ (d : List ℕ) where
     unfolding judge_of chain spread_charges rising goes_before
     of_least x w m n h =
         let k : judge_of (figures x m) (figures w n) n
-        ≡ chain spreading.Not (to_spreading room (Is (parts x (some w)) n)) (spread_charges room x (some w)) =
+        ≡ chain Err (to_spreading room (Is (parts x (some w)) n)) (spread_charges room x (some w)) =
         rw (capped_zero x.value, capped_zero w.value) in
         k ∙ chain_least (to_spreading room) (parts x (some w)) n (spread_charges room x (some w)) (rw (le-leb x.place w.place h))
 
@@ -157,7 +152,7 @@ module _ (d : List ℕ) where
         finish (Not f) untold h = refl
     spread_at k (Not f) untold = refl
 
-    pub spread_on : (n : ℕ) → spread_rest d (At n) room ≡ to_spreading room (spread d room n)
+    pub spread_on : (n : ℕ) → spread_rest d (Ok n) room ≡ to_spreading room (spread d room n)
     unfolding spread_rest spread
     spread_on n = rw (number_on_lem d (Is n n)) (spread_at n (number d n) (number_told d n))
 
@@ -165,7 +160,7 @@ module _ (d : List ℕ) where
   size_least : (r : Result Figure) → judge_size (to_number r) ≡ to_number (bind r λ n. judged (size_charges n) n)
   unfolding judge_size chain size_charges rising goes_before
   size_least (Is x m) =
-      let k : judge_size (to_number (Is x m)) ≡ chain numbered.Not (to_number (Is x m)) (size_charges x) =
+      let k : judge_size (to_number (Is x m)) ≡ chain Err (to_number (Is x m)) (size_charges x) =
       rw (capped_zero x.value, capped_limit 4096 x.value (omega arith)) in
       k ∙ chain_least to_number x m (size_charges x) refl
   size_least (Not f) = refl

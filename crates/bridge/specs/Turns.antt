@@ -1,6 +1,6 @@
 -- THE TURNS OF A LOOP ARE ENOUGH: what is read again and again (`repeat`) is given a number of turns; more turns change nothing. A note and
 -- a statement of the heading lead on in the file, so that its length bounds them; 4,096 lines and 512 variables bound the others.
-use Rattle.std.specs.Prelude.{◌≡◌, Bool, true, false, cond, List, [], ◌∷◌, ◌++◌}
+use Rattle.std.specs.Prelude.{◌≡◌, Bool, true, false, cond, List, [], ◌∷◌, ◌++◌, Ok}
 use Rattle.std.proofs.Math.Path.{refl}
 use Rattle.std.proofs.Math.Option.{Option, none, some}
 use Prim.Native.Nat.{ℕ, zero, suc, ◌+◌, ◌-◌, ◌≤◌, ◌<◌}
@@ -12,7 +12,6 @@ use Rattle.scan.specs.rule.Word.{word_at}
 use Rattle.scan.specs.declared.Word.{Word}
 use Rattle.scan.specs.declared.Word.TheVariants as spelled
 use Rattle.tokens.specs.declared.Fault.{Fault}
-use Rattle.tokens.specs.declared.Reading.TheVariants.{At}
 use Rattle.tokens.specs.declared.Choice.TheVariants.{Taken}
 use Rattle.tokens.specs.rule.Gap.{fault}
 use Rattle.tokens.specs.Gap.{left}
@@ -193,42 +192,42 @@ module _ (d : List ℕ) where
 
 -- ---- notes and the heading: each leads on in the file
 module _ (d : List ℕ) where
-  string_on_less : (j : ℕ) {t : KeptText} {k : ℕ} → string d j ≡ Is t k → left d (At k) ≤ left d (At j)
+  string_on_less : (j : ℕ) {t : KeptText} {k : ℕ} → string d j ≡ Is t k → left d (Ok k) ≤ left d (Ok j)
   unfolding past_string
-  string_on_less j e = rw (string_on_lem d (Is j j), e) at (string_left d (At j))
+  string_on_less j e = rw (string_on_lem d (Is j j), e) at (string_left d (Ok j))
 
-  notes_on_less : (j : ℕ) {a : Unit {0}} {k : ℕ} → notes d j ≡ Is a k → left d (At k) ≤ left d (At j)
-  notes_on_less j e = rw (notes_on_lem d (Is j j), e) at (notes_left d (At j))
+  notes_on_less : (j : ℕ) {a : Unit {0}} {k : ℕ} → notes d j ≡ Is a k → left d (Ok k) ≤ left d (Ok j)
+  notes_on_less j e = rw (notes_on_lem d (Is j j), e) at (notes_left d (Ok j))
 
-  names_on_less : (j : ℕ) {a : Unit {0}} {k : ℕ} → word d NAMES j ≡ Is a k → left d (At k) ≤ left d (At j)
-  names_on_less j e = rw (word_on_lem d (Is j j) NAMES, e) at (word_left d (At j) 78 (65 ∷ 77 ∷ 69 ∷ 83 ∷ []))
+  names_on_less : (j : ℕ) {a : Unit {0}} {k : ℕ} → word d NAMES j ≡ Is a k → left d (Ok k) ≤ left d (Ok j)
+  names_on_less j e = rw (word_on_lem d (Is j j) NAMES, e) at (word_left d (Ok j) 78 (65 ∷ 77 ∷ 69 ∷ 83 ∷ []))
 
-  chosen : (n : ℕ) {m : ℕ} (w : List ℕ) → word_at d n w ≡ spelled.Matched m → choice_of d (At n) w ≡ Taken m
+  chosen : (n : ℕ) {m : ℕ} (w : List ℕ) → word_at d n w ≡ spelled.Matched m → choice_of d (Ok n) w ≡ Taken m
   unfolding choice_of
   chosen n w e = rw e
 
-  taken_on : (n : ℕ) (x : ℕ) (w : List ℕ) {m : ℕ} → word_at d n (x ∷ w) ≡ spelled.Matched m → left d (At m) < left d (At n)
-  taken_on n x w {m} e = taken_less d (At n) x w {m = m} (chosen n (x ∷ w) e)
+  taken_on : (n : ℕ) (x : ℕ) (w : List ℕ) {m : ℕ} → word_at d n (x ∷ w) ≡ spelled.Matched m → left d (Ok m) < left d (Ok n)
+  taken_on n x w {m} e = taken_less d (Ok n) x w {m = m} (chosen n (x ∷ w) e)
 
   abbrev again_at : Reader (Next Unit Unit)
   again_at k = Is (Again tt) k
 
-  note_less : (s t : Unit {0}) (n m : ℕ) → note d s n ≡ Is (Again t) m → left d (At m) < left d (At n)
+  note_less : (s t : Unit {0}) (n m : ℕ) → note d s n ≡ Is (Again t) m → left d (Ok m) < left d (Ok n)
   note_less s t n m = by (word_at d n NOTE) refl where
-    on : (j : ℕ) (r : Result Unit) → past_note d j ≡ to_reading r → left d (past_note d j) < left d (At n)
-        → bind r (λ a. again_at) ≡ Is (Again t) m → left d (At m) < left d (At n)
+    on : (j : ℕ) (r : Result Unit) → past_note d j ≡ to_reading r → left d (past_note d j) < left d (Ok n)
+        → bind r (λ a. again_at) ≡ Is (Again t) m → left d (Ok m) < left d (Ok n)
     on j (Is a k) p l e = let q : k ≡ m = cc in rw (← q) (rw p at l)
     on j (Not f) p l e = never cc
 
-    text : (j : ℕ) (r : Result KeptText) → past_note d j ≡ to_reading (bind r λ t. gap d) → left d (past_note d j) < left d (At n)
-        → bind r (λ t k. bind (gap d k) λ a. again_at) ≡ Is (Again t) m → left d (At m) < left d (At n)
+    text : (j : ℕ) (r : Result KeptText) → past_note d j ≡ to_reading (bind r λ t. gap d) → left d (past_note d j) < left d (Ok n)
+        → bind r (λ t k. bind (gap d k) λ a. again_at) ≡ Is (Again t) m → left d (Ok m) < left d (Ok n)
     text j (Is x k) p l e = on j (gap d k) p l e
     text j (Not f) p l e = never cc
 
     by : (w : Word) → word_at d n NOTE ≡ w
         → on_word (λ j. bind (string d j) λ t k. bind (gap d k) λ a. again_at) (λ k. Is (Done tt) k) n w ≡ Is (Again t) m
-        → left d (At m) < left d (At n)
-    by (spelled.Matched j) i e = text j (string d j) (past_on d j) (note_left d (At n) refl (chosen n NOTE i)) e
+        → left d (Ok m) < left d (Ok n)
+    by (spelled.Matched j) i e = text j (string d j) (past_on d j) (note_left d (Ok n) refl (chosen n NOTE i)) e
     by spelled.Not i e = never cc
 
   note_on : (s t : Unit {0}) (n m : ℕ) → note d s n ≡ Is (Again t) m → length d - m < length d - n
@@ -241,7 +240,7 @@ module _ (d : List ℕ) where
   -- a statement of the heading
   module _ (l k : List HeadingEntry) (n m : ℕ) where
     abbrev Less : Type 0
-    Less = left d (At m) < left d (At n)
+    Less = left d (Ok m) < left d (Ok n)
 
     abbrev behind_item : ℕ → Reader (Option KeptText) → Reader (Next (List HeadingEntry) (List HeadingEntry))
     behind_item i p = cond (given i l) (λ m. Not (fault 2 n)) (λ m. bind (p m) λ t m. bind (notes d m) λ a m. Is (Again (entry i t ∷ l)) m)
@@ -249,10 +248,10 @@ module _ (d : List ℕ) where
     abbrev onward_at : ℕ → Option KeptText → Reader (Next (List HeadingEntry) (List HeadingEntry))
     onward_at i t o = Is (Again (entry i t ∷ l)) o
 
-    item_less : (i : ℕ) (p : Reader (Option KeptText)) (j : ℕ) → left d (At j) < left d (At n)
-        → ((t : Option KeptText) (o : ℕ) → p j ≡ Is t o → left d (At o) ≤ left d (At j)) → behind_item i p j ≡ Is (Again k) m → Less
+    item_less : (i : ℕ) (p : Reader (Option KeptText)) (j : ℕ) → left d (Ok j) < left d (Ok n)
+        → ((t : Option KeptText) (o : ℕ) → p j ≡ Is t o → left d (Ok o) ≤ left d (Ok j)) → behind_item i p j ≡ Is (Again k) m → Less
     item_less i p j h less = by (given i l) where
-      at_notes : (t : Option KeptText) (o : ℕ) → left d (At o) ≤ left d (At j) → (r : Result Unit) → notes d o ≡ r
+      at_notes : (t : Option KeptText) (o : ℕ) → left d (Ok o) ≤ left d (Ok j) → (r : Result Unit) → notes d o ≡ r
           → bind r (λ a. onward_at i t) ≡ Is (Again k) m → Less
       at_notes t o g (Is a z) q e = let u : z ≡ m = cc in let v = notes_on_less o q in rw (← u) (omega arith)
       at_notes t o g (Not f) q e = never cc
@@ -266,18 +265,18 @@ module _ (d : List ℕ) where
       by true e = never cc
       by false e = at_text (p j) refl e
 
-    texted_less : (j : ℕ) (t : Option KeptText) (o : ℕ) → texted d j ≡ Is t o → left d (At o) ≤ left d (At j)
+    texted_less : (j : ℕ) (t : Option KeptText) (o : ℕ) → texted d j ≡ Is t o → left d (Ok o) ≤ left d (Ok j)
     texted_less j t o = by (string d j) refl where
-      by : (r : Result KeptText) → string d j ≡ r → bind r (λ t m. Is (some t) m) ≡ Is t o → left d (At o) ≤ left d (At j)
+      by : (r : Result KeptText) → string d j ≡ r → bind r (λ t m. Is (some t) m) ≡ Is t o → left d (Ok o) ≤ left d (Ok j)
       by (Is x z) q e = let u : z ≡ o = cc in rw (← u) (string_on_less j q)
       by (Not f) q e = never cc
 
     abbrev none_at : Reader (Option KeptText)
     none_at o = Is none o
 
-    names_less : (j : ℕ) (t : Option KeptText) (o : ℕ) → names d j ≡ Is t o → left d (At o) ≤ left d (At j)
+    names_less : (j : ℕ) (t : Option KeptText) (o : ℕ) → names d j ≡ Is t o → left d (Ok o) ≤ left d (Ok j)
     names_less j t o = by (word d NAMES j) refl where
-      by : (r : Result Unit) → word d NAMES j ≡ r → bind r (λ a. none_at) ≡ Is t o → left d (At o) ≤ left d (At j)
+      by : (r : Result Unit) → word d NAMES j ≡ r → bind r (λ a. none_at) ≡ Is t o → left d (Ok o) ≤ left d (Ok j)
       by (Is a z) q e = let u : z ≡ o = cc in rw (← u) (names_on_less j q)
       by (Not f) q e = never cc
 

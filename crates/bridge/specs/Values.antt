@@ -1,5 +1,5 @@
 -- VALUES as a whole: a range and WITH or none, or lines.
-use Rattle.std.specs.Prelude.{◌≡◌, Bool, cond, not, ◌&&◌, ◌||◌, ℕ, suc, ◌+◌, ◌-◌, ◌≤◌}
+use Rattle.std.specs.Prelude.{◌≡◌, Bool, cond, not, ◌&&◌, ◌||◌, ℕ, suc, ◌+◌, ◌-◌, ◌≤◌, Ok, Err}
 use Rattle.std.proofs.Math.Path.{refl}
 use Rattle.std.proofs.Common.{◌∙◌, arith}
 use Rattle.std.proofs.Math.Bool.{true, false}
@@ -11,19 +11,13 @@ use borrow.Author.Tests.{le-leb, eqb-true, not-false}
 use Rattle.scan.specs.Number.{capped}
 use Rattle.scan.specs.Order.{value_of}
 use Rattle.tokens.specs.declared.Fault.{Fault}
-use Rattle.tokens.specs.declared.Reading.{Reading}
-use Rattle.tokens.specs.declared.Reading.TheVariants.{At, Refused}
 use Rattle.tokens.specs.declared.Value.{Value}
-use Rattle.tokens.specs.declared.Amount as token
-use Rattle.tokens.specs.declared.Amount.TheVariants as amounted
-use Rattle.tokens.specs.rule.Gap.{fault, gap_at}
+use Rattle.tokens.specs.rule.Gap.{fault, gap_at, Read}
 use Rattle.tokens.specs.Gap.{gap_on}
 use Rattle.tokens.specs.Token.{choice_of, word_here, word_on, value_here, value_on, past_value}
 use Rattle.statements.specs.rule.Words.{VALUES, TO, WITH, END}
 use Rattle.statements.specs.Note.{notes_on}
 use Rattle.values.specs.declared.Block as books
-use Rattle.values.specs.declared.Judged.{Judged}
-use Rattle.values.specs.declared.Judged.TheVariants as judgment
 use Rattle.values.specs.declared.Ranged.TheVariants as ranging
 use Rattle.values.specs.Value.{scaled_of, points_of}
 use Rattle.values.specs.Range.{limit_range, reversed_of, judge_range, settled, ranged_of, with_or, range_rest}
@@ -102,18 +96,18 @@ range_kept a b u i j =
 module _ (d : List ℕ) (quantity : Bool) (first : ℕ) where
   -- ---- lines from the first one on
   lines_same : (a : Amount) (x y m p : ℕ) (b : books.Block) (c : Block) → Standing d quantity first a x y m p b [] c
-      → Reached d quantity first (state_of (amounted.Is (written a x y m)) b [])
-      → SameGiven d (lines_from d quantity first (state_of (amounted.Is (written a x y m)) b [])) (lines d quantity first c a p)
+      → Reached d quantity first (state_of (Ok (written a x y m)) b [])
+      → SameGiven d (lines_from d quantity first (state_of (Ok (written a x y m)) b [])) (lines d quantity first c a p)
   unfolding paper_from
   lines_same a x y m p b c h r =
-      rw (paper_lines d quantity first (state_of (amounted.Is (written a x y m)) b []) r)
+      rw (paper_lines d quantity first (state_of (Ok (written a x y m)) b []) r)
       (lines_turns d quantity first (suc (4096 - (first + 0))) (suc 4096) a x y m p b [] c h (omega arith) (omega arith))
 
-  lines_none : (f : Fault) (b : books.Block) → Reached d quantity first (state_of (amounted.Not f) b [])
-      → lines_from d quantity first (state_of (amounted.Not f) b []) ≡ given.Not f
+  lines_none : (f : Fault) (b : books.Block) → Reached d quantity first (state_of (Err f) b [])
+      → lines_from d quantity first (state_of (Err f) b []) ≡ given.Not f
   unfolding paper_from
   lines_none f b r =
-      rw (paper_lines d quantity first (state_of (amounted.Not f) b []) r)
+      rw (paper_lines d quantity first (state_of (Err f) b []) r)
       (no_value d quantity first (suc (4096 - (first + 0))) f b [] (omega arith))
 
   -- ---- behind a range that was judged: the books stand as the reader of lines may find them
@@ -121,7 +115,7 @@ module _ (d : List ℕ) (quantity : Bool) (first : ℕ) where
     abbrev c : Block
     c = unlisted (some r)
 
-    listed_then : {va : token.Amount} {ra : Result Amount} (k : ℕ) → Valued d k va ra → Reached d quantity first (state_of va b [])
+    listed_then : {va : Read Value} {ra : Result Amount} (k : ℕ) → Valued d k va ra → Reached d quantity first (state_of va b [])
         → SameGiven d (lines_from d quantity first (state_of va b [])) (bind ra (lines d quantity first c))
     listed_then k (valued {a = a} {x = x} {y = y} {m = m} e s t) reached =
         let h : Standing d quantity first a x y m m b [] c = record { says = e; from = refl; kept = kept; lines = nothing } in
@@ -153,7 +147,7 @@ module _ (d : List ℕ) (quantity : Bool) (first : ℕ) where
       at (Is a n) = word_at_lem (here d END n)
       at (Not f) = rw (word_on_lem d {A = ℕ} (Not f) VALUES) refuses
 
-    range_then_lem : (w : Bool) (n : ℕ) → Reached d quantity first (state_of (value_here d (notes_on d (At n))) b [])
+    range_then_lem : (w : Bool) (n : ℕ) → Reached d quantity first (state_of (value_here d (notes_on d (Ok n))) b [])
         → SameGiven d (range_then d quantity first (ranging.Is b w n))
         (bind (notes d n) λ a. cond w (λ n. bind (amount d n) (lines d quantity first c)) (λ n. bind (here d END n) λ a. end_values d c))
     unfolding range_then
@@ -178,15 +172,15 @@ module _ (d : List ℕ) (quantity : Bool) (first : ℕ) where
     unfolding rising range_charges goes_before
     charges_rise = rw (le-leb a.place b.place rises, le-leb b.place b.place (omega arith))
 
-    abbrev judge : Bool → Bool → Bool → Bool → Bool → Bool → Judged
+    abbrev judge : Bool → Bool → Bool → Bool → Bool → Bool → Read Block
     judge p q e v g h =
-        cond p (cond q (cond e (cond v (judgment.Bad (fault 6 b.place))
-        (cond g (judgment.Bad (fault 8 a.place)) (cond h (judgment.Bad (fault 8 b.place)) (judgment.Good (said a b)))))
-        (judgment.Bad (fault 6 b.place))) (judgment.Bad (fault 6 b.place))) (judgment.Bad (fault 6 a.place))
+        cond p (cond q (cond e (cond v (Err (fault 6 b.place))
+        (cond g (Err (fault 8 a.place)) (cond h (Err (fault 8 b.place)) (Ok (said a b)))))
+        (Err (fault 6 b.place))) (Err (fault 6 b.place))) (Err (fault 6 a.place))
 
     range_judged : (w : Bool) (n : ℕ)
         → ((k : books.Block) → settled (judge_range (reversed_of d va vb) quantity va vb) w n ≡ ranging.Is k w n
-        → Reached d quantity first (state_of (value_here d (notes_on d (At n))) k []))
+        → Reached d quantity first (state_of (value_here d (notes_on d (Ok n))) k []))
         → SameGiven d (range_then d quantity first (settled (judge_range (reversed_of d va vb) quantity va vb) w n))
         (bind (judged (range_charges quantity a b) (range_from a b) n) (onward w))
     unfolding judge_range limit_range chain range_charges range_then scaled_of
@@ -201,7 +195,7 @@ module _ (d : List ℕ) (quantity : Bool) (first : ℕ) where
             → lt_z (scaled b) (scaled a) ≡ v → large quantity a ≡ g → large quantity b ≡ h
             → judge_range (reversed_of d va vb) quantity va vb ≡ judge p q e v g h
             → ((k : books.Block) → settled (judge_range (reversed_of d va vb) quantity va vb) w n ≡ ranging.Is k w n
-            → Reached d quantity first (state_of (value_here d (notes_on d (At n))) k []))
+            → Reached d quantity first (state_of (value_here d (notes_on d (Ok n))) k []))
             → SameGiven d (range_then d quantity first (settled (judge_range (reversed_of d va vb) quantity va vb) w n))
             (bind (cond (not p) (Not (fault 6 a.place))
             (cond (not q) (Not (fault 6 b.place)) (cond (not e) (Not (fault 6 b.place)) (cond v (Not (fault 6 b.place))
@@ -218,13 +212,13 @@ module _ (d : List ℕ) (quantity : Bool) (first : ℕ) where
         by false q e v g h i1 i2 i3 i4 i5 i6 j reached = rw j refuses
 
   -- ---- behind `a TO`
-  module _ (k₀ : ℕ) (a : Amount) (x y m : ℕ) (here-a : value_here d (At k₀) ≡ amounted.Is (written a x y m))
+  module _ (k₀ : ℕ) (a : Amount) (x y m : ℕ) (here-a : value_here d (Ok k₀) ≡ Ok (written a x y m))
       (says-a : value_of d x y ≡ a.size) (ends-a : a.place ≤ m) where
-    abbrev A : token.Amount
-    A = amounted.Is (written a x y m)
+    abbrev A : Read Value
+    A = Ok (written a x y m)
 
-    second : (j i : ℕ) → m ≤ j → gap_at d j ≡ At i → {vb : token.Amount} {rb : Result Amount} → value_here d (At i) ≡ vb → Valued d i vb rb
-        → SameGiven d (range_then d quantity first (range_rest d quantity A (At j)))
+    second : (j i : ℕ) → m ≤ j → gap_at d j ≡ Ok i → {vb : Read Value} {rb : Result Amount} → value_here d (Ok i) ≡ vb → Valued d i vb rb
+        → SameGiven d (range_then d quantity first (range_rest d quantity A (Ok j)))
         (bind (bind rb λ b n. Is (some b) n) (range_or d quantity first a))
     unfolding range_rest value_on gap_on past_value range ranged_of range_then choice_of
     second j i after e₁ e₂ (valued {a = b} {x = x'} {y = y'} {m = m'} says-b starts-b ends-b) =
@@ -235,13 +229,13 @@ module _ (d : List ℕ) (quantity : Bool) (first : ℕ) where
         (λ k n e w. range_judged a b x y m x' y' m' says-a says-b rises true n (λ c q. reached true n c (rw (e, w)) q))
         (λ k e w. range_judged a b x y m x' y' m' says-a says-b rises false k (λ c q. reached false k c (rw (e, w)) q)))
       where
-        B : token.Amount
-        B = amounted.Is (written b x' y' m')
+        B : Read Value
+        B = Ok (written b x' y' m')
 
         judge : Bool → Reader Block
         judge w n = bind (judged (range_charges quantity a b) (range_from a b) n) (onward w)
 
-        to_with : range_rest d quantity A (At j) ≡ with_or d quantity A B (gap_at d m') (choice_of d (gap_at d m') WITH)
+        to_with : range_rest d quantity A (Ok j) ≡ with_or d quantity A B (gap_at d m') (choice_of d (gap_at d m') WITH)
         to_with = rw (e₁, e₂)
 
         rises : a.place ≤ b.place
@@ -254,30 +248,30 @@ module _ (d : List ℕ) (quantity : Bool) (first : ℕ) where
             → settled (judge_range (reversed_of d (written a x y m) (written b x' y' m')) quantity (written a x y m) (written b x' y' m')) w
             n
             ≡ ranging.Is c w n
-            → Reached d quantity first (state_of (value_here d (notes_on d (At n))) c [])
-        reached w n c p q = behind (At k₀) (At j) {b = c} {w = w} {n = n} (rw here-a (to_with ∙ p ∙ q))
+            → Reached d quantity first (state_of (value_here d (notes_on d (Ok n))) c [])
+        reached w n c p q = behind (Ok k₀) (Ok j) {b = c} {w = w} {n = n} (rw here-a (to_with ∙ p ∙ q))
     second j i after e₁ e₂ unvalued = rw (e₁, e₂) refuses
 
-    range_on : (j : ℕ) → m ≤ j → SameGiven d (range_then d quantity first (range_rest d quantity A (At j)))
+    range_on : (j : ℕ) → m ≤ j → SameGiven d (range_then d quantity first (range_rest d quantity A (Ok j)))
         (bind (bind (value d j) λ b n. Is (some b) n) (range_or d quantity first a))
     unfolding range_rest value_on gap_on past_value ranged_of range_then choice_of value_here
     range_on j after = by (gap_at d j) refl where
-      by : (t : Reading) → gap_at d j ≡ t
-          → SameGiven d (range_then d quantity first (range_rest d quantity A (At j)))
+      by : (t : Read ℕ) → gap_at d j ≡ t
+          → SameGiven d (range_then d quantity first (range_rest d quantity A (Ok j)))
           (bind (bind (bind (passed t) λ a. amount d) λ b n. Is (some b) n) (range_or d quantity first a))
-      by (At i) e = second j i after e refl (value_on_lem d i)
-      by (Refused f) e = rw e refuses
+      by (Ok i) e = second j i after e refl (value_on_lem d i)
+      by (Err f) e = rw e refuses
 
   -- ---- VALUES
-  turn_refused : (g m : ℕ) (f : Fault) (c : Block) (a : Amount) → gap_at d m ≡ Refused f
+  turn_refused : (g m : ℕ) (f : Fault) (c : Block) (a : Amount) → gap_at d m ≡ Err f
       → repeat (suc g) (listed d quantity first) (listing c a) m ≡ Not f
   unfolding repeat listed line
   turn_refused g m f b a e = rw e
 
-  lines_refused : (m : ℕ) (f : Fault) (c : Block) (a : Amount) → gap_at d m ≡ Refused f → lines d quantity first c a m ≡ Not f
+  lines_refused : (m : ℕ) (f : Fault) (c : Block) (a : Amount) → gap_at d m ≡ Err f → lines d quantity first c a m ≡ Not f
   lines_refused m f b a e = turn_refused 4096 m f b a e
 
-  values_at : (i : ℕ) {va : token.Amount} {ra : Result Amount} → value_here d (At i) ≡ va → Valued d i va ra
+  values_at : (i : ℕ) {va : Read Value} {ra : Result Amount} → value_here d (Ok i) ≡ va → Valued d i va ra
       → SameGiven d (to_or d quantity first va (choice_of d (gap_on d (past_value va)) TO))
       (bind ra λ a n. bind (optional d TO (value d) n) (range_or d quantity first a))
   unfolding gap_on past_value choice_of
@@ -288,22 +282,22 @@ module _ (d : List ℕ) (quantity : Bool) (first : ℕ) where
       (λ k j e w. range_on i a x y m e₀ says-a ends-a j (omega (arith, gap_ahead d e, word_ahead d 84 (79 ∷ []) w)))
       (λ k e w. lines_same a x y m k empty_block (unlisted none) (stands k (string_again d m e)) reached)
     where
-      A : token.Amount
-      A = amounted.Is (written a x y m)
+      A : Read Value
+      A = Ok (written a x y m)
 
       reached : Reached d quantity first (state_of A empty_block [])
-      reached = rw (← e₀) (alone (At i))
+      reached = rw (← e₀) (alone (Ok i))
 
       stands : (p : ℕ) → string d p ≡ string d m → Standing d quantity first a x y m p empty_block [] (unlisted none)
       stands p e = record { says = says-a; from = e; kept = empty_kept; lines = nothing }
   values_at i e₀ (unvalued {f = f}) =
-      let reached : Reached d quantity first (state_of (amounted.Not f) empty_block []) = rw (← e₀) (alone (At i)) in
+      let reached : Reached d quantity first (state_of (Err f) empty_block []) = rw (← e₀) (alone (Ok i)) in
       rw (lines_none f empty_block reached) refuses
 
   values_refused : (f : Fault) → SameGiven d
-      (to_or d quantity first (value_here d (Refused f)) (choice_of d (gap_on d (past_value (value_here d (Refused f)))) TO)) (Not f)
+      (to_or d quantity first (value_here d (Err f)) (choice_of d (gap_on d (past_value (value_here d (Err f)))) TO)) (Not f)
   unfolding value_here gap_on past_value choice_of
-  values_refused f = rw (lines_none f empty_block (alone (Refused f))) refuses
+  values_refused f = rw (lines_none f empty_block (alone (Err f))) refuses
 
   pub values_on_lem : {A : Type 0} (r : Result A)
       → SameGiven d (values_on d quantity first (to_reading r)) (bind r λ a. values d quantity first)

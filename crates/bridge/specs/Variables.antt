@@ -1,5 +1,5 @@
 -- VARIABLE id and TYPE; and what stands behind the position, by type.
-use Rattle.std.specs.Prelude.{◌≡◌, Bool, ◌||◌, List, ℕ, ◌<◌, leb, length}
+use Rattle.std.specs.Prelude.{◌≡◌, Bool, ◌||◌, List, ℕ, ◌<◌, leb, length, Ok, Err}
 use Rattle.std.proofs.Math.Path.{refl}
 use Rattle.std.proofs.Common.{◌∙◌, arith, le-leb, lt-ltb, le-ltb, ltb-false}
 use Rattle.std.proofs.Math.Bool.{true, false, cond}
@@ -9,10 +9,7 @@ use Rattle.scan.specs.rule.Word.{word_at}
 use Rattle.scan.specs.declared.Word.{Word}
 use Rattle.scan.specs.declared.Word.TheVariants as spelled
 use Rattle.tokens.specs.declared.Fault.{Fault}
-use Rattle.tokens.specs.declared.Reading.{Reading}
-use Rattle.tokens.specs.declared.Reading.TheVariants.{At, Refused}
-use Rattle.tokens.specs.declared.Number.TheVariants as numbered
-use Rattle.tokens.specs.rule.Gap.{fault, gap_at}
+use Rattle.tokens.specs.rule.Gap.{fault, gap_at, Read}
 use Rattle.tokens.specs.Gap.{gap_on}
 use Rattle.tokens.specs.Token.{of_word, word_here, of_choice, choice_of, number_on}
 use Rattle.statements.specs.rule.Words.{VARIABLE, TYPE, SINGLE, MULTIPLE, QUANTITY, CHARACTER, LOGICAL}
@@ -60,7 +57,7 @@ module _ (d : List ℕ) where
   last_word n (spelled.Matched m) = refl
   last_word n spelled.Not = refl
 
-  type_here_lem : (n : ℕ) → type_here d (At n) ≡ to_typed (five n)
+  type_here_lem : (n : ℕ) → type_here d (Ok n) ≡ to_typed (five n)
   unfolding type_here choice_of word_here
   type_here_lem n =
       or_word n (word_at d n SINGLE) Single _
@@ -72,16 +69,16 @@ module _ (d : List ℕ) where
       (or_word n (word_at d n CHARACTER) Character _ (either d LOGICAL (give Logical) due)
       (last_word n (word_at d n LOGICAL)))))
 
-  type_refused : (f : Fault) → type_here d (Refused f) ≡ typed.Not f
+  type_refused : (f : Fault) → type_here d (Err f) ≡ typed.Not f
   unfolding type_here choice_of word_here
   type_refused f = refl
 
   pub type_on_lem : {A : Type 0} (r : Result A) → type_on d (to_reading r) ≡ to_typed (bind r λ a. type d)
   unfolding type_on type gap_on
   type_on_lem (Is a n) = rw (statement_on_lem d (Is a n) TYPE) (by (statement d TYPE n)) where
-    at : (t : Reading) → type_here d t ≡ to_typed (bind (passed t) λ a. five)
-    at (At m) = type_here_lem m
-    at (Refused f) = type_refused f
+    at : (t : Read ℕ) → type_here d t ≡ to_typed (bind (passed t) λ a. five)
+    at (Ok m) = type_here_lem m
+    at (Err f) = type_refused f
 
     by : (s : Result Unit) → type_here d (gap_on d (to_reading s)) ≡ to_typed (bind s λ a n. bind (gap d n) λ a. five)
     by (Is a k) = at (gap_at d k)
@@ -105,19 +102,19 @@ module _ (d : List ℕ) where
         by (ltb 4 x.digits) refl
         ∙ chain_least to_number x m (ident_charges earlier x) (rw (le-leb x.place x.place (omega arith))) where
           by : (q : Bool) → ltb 4 x.digits ≡ q
-              → judge_ident met (length earlier) (to_number (Is x m)) ≡ chain numbered.Not (to_number (Is x m)) (ident_charges earlier x)
+              → judge_ident met (length earlier) (to_number (Is x m)) ≡ chain Err (to_number (Is x m)) (ident_charges earlier x)
           by true e = rw e (over (eqb x.value 0)) where
-            over : (z : Bool) → numbered.Not (fault 5 x.place)
-                ≡ cond z (numbered.Not (fault 5 x.place)) (numbered.Not (fault 5 x.place))
+            over : (z : Bool) → Err (fault 5 x.place)
+                ≡ cond z (Err (fault 5 x.place)) (Err (fault 5 x.place))
             over true = refl
             over false = refl
           by false e =
               let s = k.few (ltb-false 4 x.digits e) in
               rw (e, small_value x.value s)
               (rw (lt-ltb x.value 10000 s, knows x.value)
-              (one_of (eqb x.value 0) (some_of (λ v. eqb v.ident.value x.value) earlier) (numbered.Not (fault 5 x.place))
-              (cond (leb 512 (length earlier)) (numbered.Not (fault 8 x.place))
-              (numbered.Is (record { size = x.value; count = x.digits; place = x.place; next = m })))))
+              (one_of (eqb x.value 0) (some_of (λ v. eqb v.ident.value x.value) earlier) (Err (fault 5 x.place))
+              (cond (leb 512 (length earlier)) (Err (fault 8 x.place))
+              (Ok (record { size = x.value; count = x.digits; place = x.place; next = m })))))
     ident_least (Not f) untold = refl
 
     pub ident_on_lem : {A : Type 0} (r : Result A) → ident_on d (to_reading r) met (length earlier)

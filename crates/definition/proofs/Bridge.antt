@@ -1,5 +1,6 @@
 -- THE BRIDGE: the code's books of a definition as a whole say what rule/Definition says. The readers below are `bridge`'s; here stand the
 -- variables one after the other, the ENDs, the table and the outcome.
+use Rattle.std.specs.Prelude.{Ok, Err}
 use mathlib.Core.Path.{◌≡◌, refl, sym}
 use mathlib.Core.Bool.{Bool, true, false, cond}
 use mathlib.Core.List.{List, [], ◌∷◌, ◌++◌}
@@ -13,9 +14,7 @@ use Rattle.scan.specs.rule.Word.{word_at}
 use Rattle.scan.specs.declared.Word.{Word}
 use Rattle.scan.specs.declared.Word.TheVariants as spelled
 use Rattle.tokens.specs.declared.Fault.{Fault}
-use Rattle.tokens.specs.declared.Reading.{Reading}
-use Rattle.tokens.specs.declared.Reading.TheVariants.{At, Refused}
-use Rattle.tokens.specs.rule.Gap.{fault}
+use Rattle.tokens.specs.rule.Gap.{fault, Read}
 use Rattle.tokens.specs.Token.{of_choice, choice_of, word_on}
 use Rattle.statements.specs.rule.Words.{END, RECORD, SURVEY, SSS}
 use Rattle.statements.specs.Note.{notes_on, statement_on}
@@ -115,19 +114,19 @@ pub data SameVariables (d : List ℕ) : Variables → Result (List Variable) →
 module _ (d : List ℕ) where
   data Step (k : ℕ) : Next Course Variables → Result (Next (List Variable) (List Variable)) → Type 0 where
     on : {l : List kept.Variable} {m : List Variable} {n : ℕ} → Sames d l m → k + 1 ≡ length l → k < 512
-        → Step k (Again (course (At n) l)) (Is (Again m) n)
+        → Step k (Again (course (Ok n) l)) (Is (Again m) n)
     over : {l : List kept.Variable} {m : List Variable} {n : ℕ} → Sames d l m → Step k (Done (books.Is l n)) (Is (Done m) n)
     stuck : {l : List kept.Variable} {m : List Variable} {f : Fault} → Sames d l m → k + 1 ≡ length l → k < 512
-        → Step k (Again (course (Refused f) l)) (Not f)
+        → Step k (Again (course (Err f) l)) (Not f)
     halt : {f : Fault} → Step k (Done (books.Not f)) (Not f)
 
   -- behind a variable: another one, or END
   follows : (k : ℕ) (l : List kept.Variable) (m : List Variable) → Sames d l m → k + 1 ≡ length l → k < 512 → (n : ℕ)
-      → Step k (end_or l (notes_on d (At n)) (choice_of d (notes_on d (At n)) END))
+      → Step k (end_or l (notes_on d (Ok n)) (choice_of d (notes_on d (Ok n)) END))
       (bind (notes d n) λ a. either d END (λ e. Is (Done m) e) (λ i. Is (Again m) i))
   unfolding choice_of
   follows k l m s count few n = rw (notes_on_lem d (Is n n)) (by (notes d n)) where
-    at : (i : ℕ) (w : Word) → Step k (end_or l (At i) (of_choice w)) (on_word (λ e. Is (Done m) e) (λ i. Is (Again m) i) i w)
+    at : (i : ℕ) (w : Word) → Step k (end_or l (Ok i) (of_choice w)) (on_word (λ e. Is (Done m) e) (λ i. Is (Again m) i) i w)
     at i (spelled.Matched e) = over s
     at i spelled.Not = on s count few
 
@@ -137,7 +136,7 @@ module _ (d : List ℕ) where
     by (Not f) = stuck s count few
 
   -- one variable
-  abbrev entry_in : List kept.Variable → Reading → Entry
+  abbrev entry_in : List kept.Variable → Read ℕ → Entry
   entry_in l t = entry_of d t (kept.ident_met l) (length l) (kept.lines_all l)
 
   entry_same : {A : Type 0} (l : List kept.Variable) (m : List Variable) → Sames d l m → (r : Result A)
@@ -145,14 +144,14 @@ module _ (d : List ℕ) where
   entry_same l m s r = rw (sames_count s, sames_lines s) (entry_on d (kept.ident_met l) m (sames_met s) r)
 
   variable_step_lem : (l : List kept.Variable) (m : List Variable) → Sames d l m → (n : ℕ)
-      → Step (length l) (variable_step d (course (At n) l)) (another_variable d m n)
+      → Step (length l) (variable_step d (course (Ok n) l)) (another_variable d m n)
   unfolding variable_step another_variable
   variable_step_lem l m s n = by refl (entry_same l m s (Is n n)) where
-    by : {e : Entry} {q : Result Variable} → entry_in l (At n) ≡ e → SameEntry d e q
+    by : {e : Entry} {q : Result Variable} → entry_in l (Ok n) ≡ e → SameEntry d e q
         → Step (length l) (entered d l e)
         (bind q λ v n. bind (notes d n) λ a. either d END (λ i. Is (Done (m ++ v ∷ [])) i) (λ i. Is (Again (m ++ v ∷ [])) i))
     by e (reads {v = v} {w = w} {n = i} h) =
-        let few = entry_left d (At n) (kept.ident_met l) (length l) (kept.lines_all l) v i e in
+        let few = entry_left d (Ok n) (kept.ident_met l) (length l) (kept.lines_all l) v i e in
         follows (length l) (l ++ v ∷ []) (m ++ w ∷ []) (sames_more s h) (sym (length-append l (v ∷ []))) few i
     by e stops = halt
 
@@ -163,21 +162,21 @@ module _ (d : List ℕ) where
   out = books.Not (fault 0 0)
 
   no_variable : (g : ℕ) (f : Fault) (l : List kept.Variable) (m : List Variable) → Sames d l m → 0 < g
-      → loop_of (variable_step d) out g (course (Refused f) l) ≡ books.Not f
+      → loop_of (variable_step d) out g (course (Err f) l) ≡ books.Not f
   unfolding loop_of variable_step
   no_variable zero f l m s h = absurd (omega arith)
   no_variable (suc g) f l m s h = rw (refused_entry (entry_same {A = ℕ} l m s (Not f)))
 
   -- as many turns as variables may still come are enough
   variables_turns : (f g : ℕ) (l : List kept.Variable) (m : List Variable) (n : ℕ) → Sames d l m → 512 - length l < f → 512 - length l < g
-      → SameVariables d (loop_of (variable_step d) out f (course (At n) l)) (repeat g (another_variable d) m n)
+      → SameVariables d (loop_of (variable_step d) out f (course (Ok n) l)) (repeat g (another_variable d) m n)
   unfolding loop_of repeat
   variables_turns zero g l m n s i j = absurd (omega arith)
   variables_turns (suc f) zero l m n s i j = absurd (omega arith)
   variables_turns (suc f) (suc g) l m n s i j = by (variable_step_lem l m s n) (variables_turns f g) where
     by : {r : Next Course Variables} {q : Result (Next (List Variable) (List Variable))} → Step (length l) r q
         → ((l : List kept.Variable) (m : List Variable) (n : ℕ) → Sames d l m → 512 - length l < f → 512 - length l < g
-        → SameVariables d (loop_of (variable_step d) out f (course (At n) l)) (repeat g (another_variable d) m n))
+        → SameVariables d (loop_of (variable_step d) out f (course (Ok n) l)) (repeat g (another_variable d) m n))
         → SameVariables d (on_next r (loop_of (variable_step d) out f)) (bind q (reading.turn (repeat g (another_variable d))))
     by (on {l = l} {m = m} {n = n} s e k) ih = ih l m n s (omega arith) (omega arith)
     by (over s) ih = gives s
@@ -219,12 +218,12 @@ held_in (books.Built l) t = cond (begins_table (kept.table_of l) t) against.Same
 held_in (books.Refusal k p) t = against.Refused k p
 
 module _ (d : List ℕ) where
-  variables_from_lem : (n : ℕ) (t : Reading) → t ≡ At n
+  variables_from_lem : (n : ℕ) (t : Read ℕ) → t ≡ Ok n
       → SameVariables d (variables_from d (course t [])) (repeat (suc 512) (another_variable d) [] n)
   unfolding variables_from
   variables_from_lem n t e = rw e (variables_turns d (suc (512 - 0)) (suc 512) [] [] n none (omega arith) (omega arith))
 
-  variables_none : (f : Fault) (t : Reading) → t ≡ Refused f → SameVariables d (variables_from d (course t [])) (Not f)
+  variables_none : (f : Fault) (t : Read ℕ) → t ≡ Err f → SameVariables d (variables_from d (course t [])) (Not f)
   unfolding variables_from
   variables_none f t e = rw e (rw (no_variable d (suc (512 - 0)) f [] [] none (omega arith)) refuses)
 

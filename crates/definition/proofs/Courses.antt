@@ -1,4 +1,5 @@
 -- The variables one after the other: what the code keeps of them, and what one more adds.
+use Rattle.std.specs.Prelude.{Ok, Err}
 use mathlib.Core.Path.{◌≡◌, refl, ap}
 use mathlib.Core.Bool.{Bool, true, false, cond, ◌||◌}
 use mathlib.Core.List.{List}
@@ -10,13 +11,9 @@ use lib.ListN.{length}
 use Rattle.scan.specs.rule.Loop.{Again, Done}
 use Rattle.scan.proofs.Loops.{loop_again, loop_done}
 use Rattle.tokens.specs.declared.Figures.{Figures}
-use Rattle.tokens.specs.declared.Number.{Number}
-use Rattle.tokens.specs.declared.Number.TheVariants as number
-use Rattle.tokens.specs.declared.Reading.{Reading}
-use Rattle.tokens.specs.declared.Reading.TheVariants.{At}
 use Rattle.tokens.specs.declared.Choice.{Choice}
 use Rattle.tokens.specs.declared.Choice.TheVariants.{Taken, Left}
-use Rattle.tokens.specs.rule.Gap.{fault}
+use Rattle.tokens.specs.rule.Gap.{fault, Read}
 use Rattle.tokens.specs.Token.{choice_of, number_on}
 use Rattle.statements.specs.rule.Words.{END, VARIABLE}
 use Rattle.statements.specs.Note.{notes_on, statement_on}
@@ -34,7 +31,7 @@ none : {A : Type 0} → ◌≡◌ {A = ℕ} 0 1 → A
 none e = absurd (omega arith)
 
 -- ---- the idents met are those that are marked
-module _ (d : List ℕ) (t : Reading) (met other : ℕ → Bool) (same : (n : ℕ) → n < 10000 → met n ≡ other n) where
+module _ (d : List ℕ) (t : Read ℕ) (met other : ℕ → Bool) (same : (n : ℕ) → n < 10000 → met n ≡ other n) where
   wrong_same : (x : Figures) → wrong_ident met x ≡ wrong_ident other x
   unfolding wrong_ident
   wrong_same x = by (ltb 4 x.count) (ltb x.size 10000) refl where
@@ -47,9 +44,9 @@ module _ (d : List ℕ) (t : Reading) (met other : ℕ → Bool) (same : (n : �
   ident_same : (count : ℕ) → ident_on d t met count ≡ ident_on d t other count
   unfolding ident_on judge_ident
   ident_same count = by (number_on d (statement_on d t VARIABLE)) where
-    by : (n : Number) → judge_ident met count n ≡ judge_ident other count n
-    by (number.Is x) = rw (wrong_same x)
-    by (number.Not f) = refl
+    by : (n : Read Figures) → judge_ident met count n ≡ judge_ident other count n
+    by (Ok x) = rw (wrong_same x)
+    by (Err f) = refl
 
   pub entry_same : (count before : ℕ) → entry_of d t met count before ≡ entry_of d t other count before
   unfolding entry_of
@@ -63,15 +60,15 @@ module _ (d : List ℕ) where
   falls : (s s' : Course) → variable_step d s ≡ Again s' → 512 - length s'.earlier < 512 - length s.earlier
   unfolding variable_step
   falls s s' = by (next_entry s) refl where
-    choice : (v : Variable) (n : ℕ) (k : Choice) → length s.earlier < 512 → end_or (added s.earlier v) (notes_on d (At n)) k ≡ Again s'
+    choice : (v : Variable) (n : ℕ) (k : Choice) → length s.earlier < 512 → end_or (added s.earlier v) (notes_on d (Ok n)) k ≡ Again s'
         → 512 - length s'.earlier < 512 - length s.earlier
     choice v n (Taken m) h e = none cc
     choice v n Left h e =
-        let j : course (notes_on d (At n)) (added s.earlier v) ≡ s' = cc in
+        let j : course (notes_on d (Ok n)) (added s.earlier v) ≡ s' = cc in
         rw (← j) (omega (arith, length_with s.earlier v))
 
     by : (o : Entry) → next_entry s ≡ o → entered d s.earlier o ≡ Again s' → 512 - length s'.earlier < 512 - length s.earlier
-    by (entry.Is v n) i e = choice v n (choice_of d (notes_on d (At n)) END)
+    by (entry.Is v n) i e = choice v n (choice_of d (notes_on d (Ok n)) END)
         (entry_left d s.at (ident_met s.earlier) (length s.earlier) (lines_all s.earlier) v n i) e
     by (entry.Not f) i e = none cc
 

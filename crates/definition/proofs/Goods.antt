@@ -1,4 +1,5 @@
 -- Every definition that is read gives good variables, one at least: so that the table built is well formed.
+use Rattle.std.specs.Prelude.{Ok, Err}
 use mathlib.Core.Path.{◌≡◌, refl, sym, ◌∙◌}
 use mathlib.Core.Bool.{Bool, true, false, cond}
 use mathlib.Core.List.{List, []}
@@ -9,11 +10,9 @@ use lib.IntN.{ℤ}
 use lib.ListN.{length}
 use borrow.Author.Tests.{ltb-false}
 use Rattle.scan.specs.rule.Loop.{Next, Again, Done, on_next, loop_of}
-use Rattle.tokens.specs.declared.Reading.{Reading}
-use Rattle.tokens.specs.declared.Reading.TheVariants.{At, Refused}
 use Rattle.tokens.specs.declared.Choice.{Choice}
 use Rattle.tokens.specs.declared.Choice.TheVariants.{Taken, Left}
-use Rattle.tokens.specs.rule.Gap.{fault}
+use Rattle.tokens.specs.rule.Gap.{fault, Read}
 use Rattle.tokens.specs.Token.{choice_of}
 use Rattle.statements.specs.rule.Words.{END}
 use Rattle.statements.specs.Note.{notes_on}
@@ -67,19 +66,19 @@ module _ (d : List ℕ) (long : length d ≤ 1048576) where
   again : (s s' : Course) → Good s.earlier → variable_step d s ≡ Again s' → Good s'.earlier
   unfolding variable_step
   again s s' g = by (next_entry d s) refl where
-    choice : (v : Variable) (n : ℕ) (k : Choice) → Good (added s.earlier v) → end_or (added s.earlier v) (notes_on d (At n)) k
+    choice : (v : Variable) (n : ℕ) (k : Choice) → Good (added s.earlier v) → end_or (added s.earlier v) (notes_on d (Ok n)) k
         ≡ Again s' → Good s'.earlier
     choice v n (Taken m) h e = none cc
-    choice v n Left h e = let j : course (notes_on d (At n)) (added s.earlier v) ≡ s' = cc in rw (← j) h
+    choice v n Left h e = let j : course (notes_on d (Ok n)) (added s.earlier v) ≡ s' = cc in rw (← j) h
 
     by : (o : Entry) → next_entry d s ≡ o → entered d s.earlier o ≡ Again s' → Good s'.earlier
-    by (entry.Is v n) i e = choice v n (choice_of d (notes_on d (At n)) END) (grown s g v n i) e
+    by (entry.Is v n) i e = choice v n (choice_of d (notes_on d (Ok n)) END) (grown s g v n i) e
     by (entry.Not f) i e = none cc
 
   done : (s : Course) (a : Variables) → Good s.earlier → variable_step d s ≡ Done a → AllGood a
   unfolding variable_step
   done s a g = by (next_entry d s) refl where
-    choice : (v : Variable) (n : ℕ) (k : Choice) → Good (added s.earlier v) → end_or (added s.earlier v) (notes_on d (At n)) k ≡ Done a
+    choice : (v : Variable) (n : ℕ) (k : Choice) → Good (added s.earlier v) → end_or (added s.earlier v) (notes_on d (Ok n)) k ≡ Done a
         → AllGood a
     choice v n Left h e = none cc
     choice v n (Taken m) h e = record { all = λ {l} {m = k} q. same l k (let j : variables.Is (added s.earlier v) m ≡ a = cc in j ∙ q) }
@@ -88,13 +87,13 @@ module _ (d : List ℕ) (long : length d ≤ 1048576) where
         same l k q = let o : added s.earlier v ≡ l = cc in rw (← o) (h, omega (arith, length_with s.earlier v))
 
     by : (o : Entry) → next_entry d s ≡ o → entered d s.earlier o ≡ Done a → AllGood a
-    by (entry.Is v n) i e = choice v n (choice_of d (notes_on d (At n)) END) (grown s g v n i) e
+    by (entry.Is v n) i e = choice v n (choice_of d (notes_on d (Ok n)) END) (grown s g v n i) e
     by (entry.Not f) i e = record {
       all = λ {l} {m} q. let j : variables.Not f
           ≡ variables.Is l m = (let k : variables.Not f ≡ a = cc in k ∙ q) in none cc;
     }
 
-  pub variables_good : (t : Reading) → AllGood (variables_from d (course t []))
+  pub variables_good : (t : Read ℕ) → AllGood (variables_from d (course t []))
   unfolding variables_from
   variables_good t = kept (variable_step d) (variables.Not (fault 0 0)) (λ s. Good s.earlier) AllGood again done
       (record { all = λ {l} {m} q. none cc }) (suc (512 - 0)) (course t []) good.none
@@ -104,10 +103,10 @@ module _ (d : List ℕ) (n : ℕ) (l : List Variable) where
   survey_good : length d ≤ 1048576 → (s : Survey) → survey_of d ≡ Whole s → Good s.variables × (1 ≤ length s.variables)
   unfolding survey_of
   survey_good long s = by (variables_from d (course (front_on d).next [])) refl where
-    ends : (v : List Variable) (r : Reading) → Good v × (1 ≤ length v) → ended (front_on d) v r ≡ Whole s → Good s.variables
+    ends : (v : List Variable) (r : Read ℕ) → Good v × (1 ≤ length v) → ended (front_on d) v r ≡ Whole s → Good s.variables
         × (1 ≤ length s.variables)
-    ends v (At k) g e = let j : record { front = front_on d; variables = v } ≡ s = cc in rw (← j) g
-    ends v (Refused f) g e = none cc
+    ends v (Ok k) g e = let j : record { front = front_on d; variables = v } ≡ s = cc in rw (← j) g
+    ends v (Err f) g e = none cc
 
     by : (v : Variables) → variables_from d (course (front_on d).next []) ≡ v → closed d (front_on d) v ≡ Whole s → Good s.variables
         × (1 ≤ length s.variables)

@@ -1,4 +1,5 @@
 -- What holds whenever the reader of variables stands before another one, and how it is carried on.
+use Rattle.std.specs.Prelude.{Ok}
 use mathlib.Core.Path.{◌≡◌, refl, sym, ap, ◌∙◌}
 use mathlib.Core.Bool.{Bool, true, false, ◌||◌}
 use mathlib.Core.List.{List, []}
@@ -14,8 +15,6 @@ use Rattle.cells.specs.rule.Cell.{pasted}
 use Rattle.cells.specs.Cell.{paste_none}
 use Rattle.layout.specs.rule.Layout.{row_size, line_size}
 use Rattle.tokens.specs.declared.Fault.{Fault}
-use Rattle.tokens.specs.declared.Reading.{Reading}
-use Rattle.tokens.specs.declared.Reading.TheVariants.{At}
 use Rattle.tokens.specs.declared.Choice.{Choice}
 use Rattle.tokens.specs.declared.Choice.TheVariants.{Taken, Left}
 use Rattle.tokens.specs.Token.{choice_of}
@@ -47,6 +46,7 @@ use Rattle.definition.specs.Code.{tally_of, turn_or, followed, turn_after, RowSt
 use Rattle.definition.proofs.Small.{row_ident, row_finish, ident_few}
 use Rattle.definition.proofs.Courses.{next_entry, entry_same, from_again, from_done}
 use Rattle.built.specs.Nth.{few_rows, few_lines}
+use Rattle.tokens.specs.rule.Gap.{Read}
 
 pub none : {A : Type 0} → ◌≡◌ {A = ℕ} 0 1 → A
 none e = absurd (omega arith)
@@ -58,42 +58,42 @@ lacking_kept e f (in_lines h) = in_lines (omega (arith, h, f))
 
 -- ---- what a turn says of the variable before it
 module _ (d : List ℕ) (y : Tally) where
-  pub record More (e : Entry) (ident : ℕ) (z : Tally) (t : Reading) : Type 0 where
+  pub record More (e : Entry) (ident : ℕ) (z : Tally) (t : Read ℕ) : Type 0 where
     pub variable : Variable
     pub place : ℕ
     pub entry_is : e ≡ entry.Is variable place
     pub tally_is : z ≡ tally_with y (columns_in y.lines variable) (y.lines + length (lines_in variable))
-    pub choice : choice_of d (notes_on d (At place)) END ≡ Left
+    pub choice : choice_of d (notes_on d (Ok place)) END ≡ Left
     pub ident_is : ident ≡ (columns_in y.lines variable).ident
-    pub onward : t ≡ notes_on d (At place)
+    pub onward : t ≡ notes_on d (Ok place)
 
   pub record Over (e : Entry) (z : Tally) (m : ℕ) : Type 0 where
     pub variable : Variable
     pub place : ℕ
     pub entry_is : e ≡ entry.Is variable place
     pub tally_is : z ≡ tally_with y (columns_in y.lines variable) (y.lines + length (lines_in variable))
-    pub choice : choice_of d (notes_on d (At place)) END ≡ Taken m
+    pub choice : choice_of d (notes_on d (Ok place)) END ≡ Taken m
 
-  pub more_of_lem : (e : Entry) (ident : ℕ) (z : Tally) (t : Reading) → turn_after d y e ≡ turn.More ident z t → More e ident z t
+  pub more_of_lem : (e : Entry) (ident : ℕ) (z : Tally) (t : Read ℕ) → turn_after d y e ≡ turn.More ident z t → More e ident z t
   unfolding turn_after followed
   more_of_lem (entry.Not f) ident z t i = none cc
-  more_of_lem (entry.Is v n) ident z t i = by (choice_of d (notes_on d (At n)) END) refl i where
-    by : (k : Choice) → choice_of d (notes_on d (At n)) END ≡ k
-        → turn_or (columns_in y.lines v).ident (tally_with y (columns_in y.lines v) (y.lines + length (lines_in v))) (notes_on d (At n)) k
+  more_of_lem (entry.Is v n) ident z t i = by (choice_of d (notes_on d (Ok n)) END) refl i where
+    by : (k : Choice) → choice_of d (notes_on d (Ok n)) END ≡ k
+        → turn_or (columns_in y.lines v).ident (tally_with y (columns_in y.lines v) (y.lines + length (lines_in v))) (notes_on d (Ok n)) k
         ≡ turn.More ident z t → More (entry.Is v n) ident z t
     by (Taken m) e j = none cc
     by Left e j =
         let a : (columns_in y.lines v).ident ≡ ident = cc in
         let b : tally_with y (columns_in y.lines v) (y.lines + length (lines_in v)) ≡ z = cc in
-        let o : notes_on d (At n) ≡ t = cc in
+        let o : notes_on d (Ok n) ≡ t = cc in
         record { variable = v; place = n; entry_is = refl; tally_is = sym b; choice = e; ident_is = sym a; onward = sym o }
 
   pub over_of : (e : Entry) (z : Tally) (m : ℕ) → turn_after d y e ≡ turn.Over z m → Over e z m
   unfolding turn_after followed
   over_of (entry.Not f) z m i = none cc
-  over_of (entry.Is v n) z m i = by (choice_of d (notes_on d (At n)) END) refl i where
-    by : (k : Choice) → choice_of d (notes_on d (At n)) END ≡ k
-        → turn_or (columns_in y.lines v).ident (tally_with y (columns_in y.lines v) (y.lines + length (lines_in v))) (notes_on d (At n)) k
+  over_of (entry.Is v n) z m i = by (choice_of d (notes_on d (Ok n)) END) refl i where
+    by : (k : Choice) → choice_of d (notes_on d (Ok n)) END ≡ k
+        → turn_or (columns_in y.lines v).ident (tally_with y (columns_in y.lines v) (y.lines + length (lines_in v))) (notes_on d (Ok n)) k
         ≡ turn.Over z m → Over (entry.Is v n) z m
     by (Taken o) e j =
         let a : o ≡ m = cc in
@@ -104,9 +104,9 @@ module _ (d : List ℕ) (y : Tally) where
   pub not_of : (e : Entry) (f : Fault) → turn_after d y e ≡ turn.Not f → e ≡ entry.Not f
   unfolding turn_after followed
   not_of (entry.Not g) f i = let o : g ≡ f = cc in ap entry.Not o
-  not_of (entry.Is v n) f i = by (choice_of d (notes_on d (At n)) END) i where
+  not_of (entry.Is v n) f i = by (choice_of d (notes_on d (Ok n)) END) i where
     by : (k : Choice) → turn_or (columns_in y.lines v).ident (tally_with y (columns_in y.lines v) (y.lines + length (lines_in v)))
-        (notes_on d (At n)) k ≡ turn.Not f → entry.Is v n ≡ entry.Not f
+        (notes_on d (Ok n)) k ≡ turn.Not f → entry.Is v n ≡ entry.Not f
     by (Taken m) j = none cc
     by Left j = none cc
 
@@ -115,7 +115,7 @@ or_false true = refl
 or_false false = refl
 
 -- ---- THE INVARIANT
-pub record Ran (d : List ℕ) (t₀ : Reading) (rows₀ lines₀ : List ℤ) (at : Reading) (y : Tally) (seen : List ℕ) (rows lines : List ℤ) : Type 0
+pub record Ran (d : List ℕ) (t₀ : Read ℕ) (rows₀ lines₀ : List ℤ) (at : Read ℕ) (y : Tally) (seen : List ℕ) (rows lines : List ℤ) : Type 0
   where
     pub read : List Variable
     pub same : variables_from d (course t₀ []) ≡ variables_from d (course at read)
@@ -126,7 +126,7 @@ pub record Ran (d : List ℕ) (t₀ : Reading) (rows₀ lines₀ : List ℤ) (at
     pub good : Good read
     pub seen_long : length seen ≡ 10000
 
-pub ran_none : (d : List ℕ) (t : Reading) (rows lines : List ℤ) (seen : List ℕ) (y : Tally) → seen ≡ zeros 10000 → length seen ≡ 10000 → y
+pub ran_none : (d : List ℕ) (t : Read ℕ) (rows lines : List ℤ) (seen : List ℕ) (y : Tally) → seen ≡ zeros 10000 → length seen ≡ 10000 → y
     ≡ tally_of [] → Ran d t rows lines t y seen rows lines
 unfolding ident_met rows_from all_lines
 ran_none d t rows lines seen y e h q = record {
@@ -140,7 +140,7 @@ ran_none d t rows lines seen y e h q = record {
   seen_long = h;
 }
 
-module _ (d : List ℕ) (t₀ : Reading) (rows₀ lines₀ : List ℤ) (at : Reading) (y : Tally) (seen : List ℕ) (rows lines : List ℤ)
+module _ (d : List ℕ) (t₀ : Read ℕ) (rows₀ lines₀ : List ℤ) (at : Read ℕ) (y : Tally) (seen : List ℕ) (rows lines : List ℤ)
     (l : List Variable)
     (same : variables_from d (course t₀ []) ≡ variables_from d (course at l))
     (tally : y ≡ tally_of l)
@@ -181,12 +181,12 @@ module _ (d : List ℕ) (t₀ : Reading) (rows₀ lines₀ : List ℤ) (at : Rea
       unfolding tally_of
       good_more = good.more sound (rw tally at read_good.good) fresh (rw tally at read_good.left)
 
-      pub again_here : choice_of d (notes_on d (At n)) END ≡ Left → variables_from d (course t₀ [])
-          ≡ variables_from d (course (notes_on d (At n)) (added l v))
+      pub again_here : choice_of d (notes_on d (Ok n)) END ≡ Left → variables_from d (course t₀ [])
+          ≡ variables_from d (course (notes_on d (Ok n)) (added l v))
       unfolding variable_step
-      again_here k = same ∙ from_again d (course at l) (course (notes_on d (At n)) (added l v)) (rw (sym entry_here ∙ e, k))
+      again_here k = same ∙ from_again d (course at l) (course (notes_on d (Ok n)) (added l v)) (rw (sym entry_here ∙ e, k))
 
-      pub over_here : (m : ℕ) → choice_of d (notes_on d (At n)) END ≡ Taken m → variables_from d (course t₀ []) ≡ variables.Is (added l v) m
+      pub over_here : (m : ℕ) → choice_of d (notes_on d (Ok n)) END ≡ Taken m → variables_from d (course t₀ []) ≡ variables.Is (added l v) m
       unfolding variable_step
       over_here m k = same ∙ from_done d (course at l) (variables.Is (added l v) m) (rw (sym entry_here ∙ e, k))
 
@@ -236,7 +236,7 @@ module _ (d : List ℕ) (t₀ : Reading) (rows₀ lines₀ : List ℤ) (at : Rea
               rw (get_or-set_other seen i k 1 0 j) (met k h ∙ or_false (ident_met l k))
 
 -- ---- carried on: another variable, the END behind the last, a refusal
-module _ (d : List ℕ) (t₀ : Reading) (rows₀ lines₀ : List ℤ) (at : Reading) (y : Tally) (seen : List ℕ) (rows lines : List ℤ)
+module _ (d : List ℕ) (t₀ : Read ℕ) (rows₀ lines₀ : List ℤ) (at : Read ℕ) (y : Tally) (seen : List ℕ) (rows lines : List ℤ)
     (r : Ran d t₀ rows₀ lines₀ at y seen rows lines)
     (long : length d ≤ 1048576) (rows-kept : length rows ≡ length rows₀) (lines-kept : length lines ≡ length lines₀) where
   abbrev entry_now : Entry
@@ -265,7 +265,7 @@ module _ (d : List ℕ) (t₀ : Reading) (rows₀ lines₀ : List ℤ) (at : Rea
   ran_few = few_here d t₀ rows₀ lines₀ at y seen rows lines r.read r.same r.tally r.met r.rows_are r.lines_are r.good
       r.seen_long
 
-  pub record Onward (ident : ℕ) (z : Tally) (t : Reading) (rows' lines' : List ℤ) : Type 0 where
+  pub record Onward (ident : ℕ) (z : Tally) (t : Read ℕ) (rows' lines' : List ℤ) : Type 0 where
     pub small : ident < 10000
     pub further : z.rows ≡ y.rows + 1
     pub left : y.rows < 512
@@ -273,7 +273,7 @@ module _ (d : List ℕ) (t₀ : Reading) (rows₀ lines₀ : List ℤ) (at : Rea
 
   module _ (w : Turn) (rows' lines' : List ℤ) (says : w ≡ turn_after d y entry_now) (row : RowStored y entry_now rows rows')
       (line : Stored y.lines entry_now lines lines') where
-    pub ran_more : (ident : ℕ) (z : Tally) (t : Reading) → w ≡ turn.More ident z t → Onward ident z t rows' lines'
+    pub ran_more : (ident : ℕ) (z : Tally) (t : Read ℕ) → w ≡ turn.More ident z t → Onward ident z t rows' lines'
     unfolding tally_with
     ran_more ident z t e =
         let m = more_of_lem d y entry_now ident z t (sym says ∙ e) in
@@ -293,7 +293,7 @@ module _ (d : List ℕ) (t₀ : Reading) (rows₀ lines₀ : List ℤ) (at : Rea
             read = added l v;
             same = again_here d t₀ rows₀ lines₀ at y seen rows lines l r.same r.tally r.met r.rows_are r.lines_are r.good
                 r.seen_long v n i long wide many m.choice
-                ∙ ap (λ (q : Reading). variables_from d (course q (added l v))) (sym m.onward);
+                ∙ ap (λ (q : Read ℕ). variables_from d (course q (added l v))) (sym m.onward);
             tally = tally_more d t₀ rows₀ lines₀ at y seen rows lines l r.same r.tally r.met r.rows_are r.lines_are r.good
                 r.seen_long v n i long wide many z m.tally_is;
             met = λ k h. ap (λ (q : ℕ). marked (set seen q 1) k) m.ident_is

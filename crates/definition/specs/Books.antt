@@ -1,6 +1,6 @@
 -- THE CODE'S BOOKS of a definition as a whole, which the contracts inside this crate name: the readers that the crates below promise, one
 -- after the other. proofs/Bridge shows that they say what rule/Definition says, which alone the public call cites.
-use Rattle.std.specs.Prelude.{Bool, cond, List, [], ◌∷◌, ◌++◌, ℕ, zero, suc, ◌-◌, ltb, ℤ, length}
+use Rattle.std.specs.Prelude.{Bool, cond, List, [], ◌∷◌, ◌++◌, ℕ, zero, suc, ◌-◌, ltb, ℤ, length, Ok, Err}
 use Rattle.cells.specs.rule.Cell.{pasted}
 use Rattle.signs.specs.declared.Sign.{Sign}
 use Rattle.scan.specs.rule.Text.{text}
@@ -8,11 +8,9 @@ use Rattle.scan.specs.rule.Loop.{Next, Again, Done, loop_of}
 use Rattle.marks.specs.declared.Inside.TheVariants.{Plain}
 use Rattle.marks.specs.rule.Spelling.{decode_of}
 use Rattle.tokens.specs.declared.Fault.{Fault}
-use Rattle.tokens.specs.declared.Reading.{Reading}
-use Rattle.tokens.specs.declared.Reading.TheVariants.{At, Refused}
 use Rattle.tokens.specs.declared.Choice.{Choice}
 use Rattle.tokens.specs.declared.Choice.TheVariants.{Taken, Left}
-use Rattle.tokens.specs.rule.Gap.{fault}
+use Rattle.tokens.specs.rule.Gap.{fault, Read}
 use Rattle.tokens.specs.Token.{choice_of, word_on}
 use Rattle.statements.specs.rule.Words.{END, RECORD, SURVEY, SSS}
 use Rattle.statements.specs.Note.{notes_on, statement_on}
@@ -33,19 +31,19 @@ pub data Variables : Type 0 where
 
 -- where the reader of variables stands, and those before
 pub record Course : Type 0 where
-  pub at : Reading
+  pub at : Read ℕ
   pub earlier : List Variable
 
-abbrev pub course : Reading → List Variable → Course
+abbrev pub course : Read ℕ → List Variable → Course
 course t l = record { at = t; earlier = l }
 
 -- another variable, or END
-abbrev pub end_or : List Variable → Reading → Choice → Next Course Variables
+abbrev pub end_or : List Variable → Read ℕ → Choice → Next Course Variables
 end_or l t (Taken m) = Done (Is l m)
 end_or l t Left = Again (course t l)
 
 abbrev pub entered : List ℕ → List Variable → Entry → Next Course Variables
-entered d l (entry.Is v n) = end_or (l ++ v ∷ []) (notes_on d (At n)) (choice_of d (notes_on d (At n)) END)
+entered d l (entry.Is v n) = end_or (l ++ v ∷ []) (notes_on d (Ok n)) (choice_of d (notes_on d (Ok n)) END)
 entered d l (entry.Not f) = Done (Not f)
 
 unfoldable pub variable_step : List ℕ → Course → Next Course Variables
@@ -56,9 +54,9 @@ unfoldable pub variables_from : List ℕ → Course → Variables
 variables_from d s = loop_of (variable_step d) (Not (fault 0 0)) (suc (512 - length s.earlier)) s
 
 -- ---- END RECORD, END SURVEY, END SSS, behind the first END
-unfoldable pub ends_on : List ℕ → ℕ → Reading
+unfoldable pub ends_on : List ℕ → ℕ → Read ℕ
 ends_on d m =
-    let recorded = word_on d (At m) RECORD in
+    let recorded = word_on d (Ok m) RECORD in
     let surveyed = word_on d (statement_on d recorded END) SURVEY in
     word_on d (statement_on d surveyed END) SSS
 
@@ -71,9 +69,9 @@ pub data Read : Type 0 where
   Whole : Survey → Read
   Faulty : Fault → Read
 
-abbrev pub ended : Front → List Variable → Reading → Read
-ended f l (At n) = Whole (record { front = f; variables = l })
-ended f l (Refused g) = Faulty g
+abbrev pub ended : Front → List Variable → Read ℕ → Read
+ended f l (Ok n) = Whole (record { front = f; variables = l })
+ended f l (Err g) = Faulty g
 
 abbrev pub closed : List ℕ → Front → Variables → Read
 closed d f (Is l m) = ended f l (ends_on d m)

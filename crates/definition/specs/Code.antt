@@ -1,5 +1,5 @@
 -- What the code keeps of the variables: counts, and their rows and lines in rooms of its own.
-use Rattle.std.specs.Prelude.{◌≡◌, Bool, cond, List, ℕ, ◌+◌, ◌*◌, ◌≤◌, ◌<◌, ltb, ℤ, length, take}
+use Rattle.std.specs.Prelude.{◌≡◌, Bool, cond, List, ℕ, ◌+◌, ◌*◌, ◌≤◌, ◌<◌, ltb, ℤ, length, take, Ok}
 use Rattle.cells.specs.rule.Cell.{cell, count_of, pasted}
 use Rattle.signs.specs.declared.Sign.{Sign}
 use Rattle.scan.specs.rule.Text.{text}
@@ -8,8 +8,6 @@ use Rattle.marks.specs.rule.Spelling.{decode_of}
 use Rattle.layout.specs.rule.Layout.{row_size, line_size, line_base, most_rows, most_lines}
 use Rattle.rows.specs.rule.Cells.{row_cells}
 use Rattle.rows.specs.Cells.{name_column}
-use Rattle.tokens.specs.declared.Reading.{Reading}
-use Rattle.tokens.specs.declared.Reading.TheVariants.{At}
 use Rattle.tokens.specs.declared.Choice.{Choice}
 use Rattle.tokens.specs.declared.Choice.TheVariants.{Taken, Left}
 use Rattle.tokens.specs.Token.{choice_of}
@@ -34,6 +32,7 @@ use Rattle.definition.specs.declared.Answer.{Answer}
 use Rattle.definition.specs.declared.Answer.TheVariants as answer
 use Rattle.definition.specs.declared.Against.{Against}
 use Rattle.definition.specs.declared.Against.TheVariants as against
+use Rattle.tokens.specs.rule.Gap.{Read}
 
 -- ---- rooms: too small for the most rows, or for the most lines
 pub data Lacking (rows lines : List ℤ) : Type 0 where
@@ -45,12 +44,12 @@ unfoldable pub tally_of : List Variable → Tally
 tally_of l = record { rows = length l; lines = lines_all l; length = highest_in l }
 
 -- ---- one variable, and what follows it
-abbrev pub turn_or : ℕ → Tally → Reading → Choice → Turn
+abbrev pub turn_or : ℕ → Tally → Read ℕ → Choice → Turn
 turn_or ident y t (Taken m) = turn.Over y m
 turn_or ident y t Left = turn.More ident y t
 
 unfoldable pub followed : List ℕ → ℕ → Tally → ℕ → Turn
-followed d ident y n = turn_or ident y (notes_on d (At n)) (choice_of d (notes_on d (At n)) END)
+followed d ident y n = turn_or ident y (notes_on d (Ok n)) (choice_of d (notes_on d (Ok n)) END)
 
 unfoldable pub turn_after : List ℕ → Tally → Entry → Turn
 turn_after d y (entry.Is v n) =

@@ -23,7 +23,7 @@ ghost use Rattle.definition.specs.Code.{fill_says, compared_by, Lacking};
 use entries::Stood;
 use laying::{Rooms, Tally};
 use layout::{Header, Row};
-use tokens::{Choice, Fault, Reading};
+use tokens::{Choice, Fault, Read};
 
 // The outcome: how many variables and value lines were read; or the refusal's number and place.
 #[derive(Clone, Copy)]
@@ -38,7 +38,7 @@ pub enum Turn {
     More {
         ident: usize,
         tally: Tally,
-        at: Reading,
+        at: Read<usize>,
     },
     Over {
         tally: Tally,
@@ -51,7 +51,7 @@ fn follow(classes: &[u8; 256], d: &[u8], ident: usize, y: Tally, next: usize) ->
     requires { Classes classes.now }
     ensures { result ≡ followed d.now ident y next }
 {
-    let n = statements::notes_on(classes, d, Reading::At(next));
+    let n = statements::notes_on(classes, d, Ok(next));
     match tokens::perhaps(classes, d, n, b"END") {
         Choice::Taken(m) => Turn::Over { tally: y, next: m },
         Choice::Left => Turn::More {
@@ -67,7 +67,7 @@ fn one_variable(
     classes: &[u8; 256],
     powers: &[u64; 16],
     d: &[u8],
-    at: Reading,
+    at: Read<usize>,
     seen: &[u8],
     y: Tally,
     rows: &mut [i64],
@@ -121,7 +121,7 @@ fn read_variables(
     classes: &[u8; 256],
     powers: &[u64; 16],
     d: &[u8],
-    t: Reading,
+    t: Read<usize>,
     rows: &mut [i64],
     lines: &mut [i64],
     marks: &mut [u16],
@@ -165,11 +165,11 @@ fn read_variables(
 }
 
 // END RECORD, END SURVEY, END SSS, behind the first END.
-fn read_ends(classes: &[u8; 256], d: &[u8], next: usize) -> Reading
+fn read_ends(classes: &[u8; 256], d: &[u8], next: usize) -> Read<usize>
     requires { Classes classes.now }
     ensures { result ≡ ends_on d.now next }
 {
-    let a = tokens::word_on(classes, d, Reading::At(next), b"RECORD");
+    let a = tokens::word_on(classes, d, Ok(next), b"RECORD");
     let b = statements::statement_on(classes, d, a, b"END");
     let c = tokens::word_on(classes, d, b, b"SURVEY");
     let e = statements::statement_on(classes, d, c, b"END");
@@ -249,8 +249,8 @@ pub fn read_in(
     let t = front.next;
     match read_variables(classes, powers, d, t, rows, lines, marks, seen) {
         Run::Is { tally, next } => match read_ends(classes, d, next) {
-            Reading::At(_) => settle(classes, d, h.standard, tally, rows),
-            Reading::Refused(f) => Rooms::Refused {
+            Ok(_) => settle(classes, d, h.standard, tally, rows),
+            Err(f) => Rooms::Refused {
                 number: f.number,
                 place: f.place,
             },

@@ -1,4 +1,5 @@
 -- What the answers of the code say of the rule's: elements that hold nothing, and texts.
+use Rattle.std.specs.Prelude.{Ok, Err}
 use mathlib.Core.Path.{◌≡◌, refl, sym, ap, ◌∙◌}
 use mathlib.Core.Bool.{Bool, true, false, cond}
 use mathlib.Core.List.{List, [], ◌∷◌}
@@ -19,12 +20,11 @@ use Rattle.reading.specs.rule.Least.{Charge, judged}
 use Rattle.xml_reading.specs.rule.Open as rule
 use Rattle.xml_reading.specs.rule.Element as element
 use Rattle.elements.specs.declared.Body.{Body}
-use Rattle.elements.specs.declared.Bodied.{Bodied}
-use Rattle.elements.specs.declared.Bodied.TheVariants as bodied
 use Rattle.elements.specs.declared.Passed.TheVariants as passed
 use Rattle.elements.specs.Code.{found_of, ruled, Numbered, passed_of, bodied_of, phrase_of, Tells}
 use Rattle.elements.proofs.Ranking.{found_behind, judged_ruled}
 use Rattle.elements.proofs.Bounds.{content_within}
+use Rattle.tokens.specs.rule.Gap.{Read}
 
 never : {A : Type 0} → ◌≡◌ {A = ℕ} 0 1 → A
 never z = absurd (omega arith)
@@ -67,7 +67,7 @@ pub record BodyIs (r : Result element.Body) (b : Body) : Type 0 where
 abbrev held_by : element.Body → ℕ → Body
 held_by x n = record { place = x.text.place; length = x.text.length; whole = x.whole; found = found_of x.charges; next = n }
 
-pub body_is : (r : Result element.Body) {b : Body} → bodied_of r ≡ bodied.Is b → BodyIs r b
+pub body_is : (r : Result element.Body) {b : Body} → bodied_of r ≡ Ok b → BodyIs r b
 body_is (Is x n) {b} e = by b inside where
   inside : held_by x n ≡ b
   inside = cc
@@ -76,7 +76,7 @@ body_is (Is x n) {b} e = by b inside where
   by b e = rw (← e) (record { body = x; reads = refl; text = refl; whole = refl; found = refl })
 body_is (Not f) e = never cc
 
-pub body_refused : (r : Result element.Body) {f : Fault} → bodied_of r ≡ bodied.Not f → r ≡ Not f
+pub body_refused : (r : Result element.Body) {f : Fault} → bodied_of r ≡ Err f → r ≡ Not f
 body_refused (Is b n) e = never cc
 body_refused (Not g) {f} e = let i : g ≡ f = cc in ap Not i
 
@@ -111,7 +111,7 @@ behind_found u l {x} {y} h i j = j ∙ sym (found_behind u l h ∙ ap (λ (z : F
 
 -- an element that is only a text
 module _ (bad : Bool) (d w : List ℕ) (m : ℕ) (em : Bool) (n : ℕ) (u : ℕ) (b : Body)
-    (e : bodied_of (element.body bad d w m em n) ≡ bodied.Is b) where
+    (e : bodied_of (element.body bad d w m em n) ≡ Ok b) where
   pub text_said : (y : Found) → y ≡ lower_found (found_at 51 u) b.found
       → phrase_of (ruled y (record { place = b.place; length = b.length }) b.next)
       ≡ phrase_of (bind (element.body bad d w m em n) λ t. judged (rule.unknown_at u ∷ t.charges) t.text)
@@ -130,15 +130,15 @@ abbrev pub Kept : List ℕ → Body → Type 0
 Kept d b = (b.place + b.length ≤ length d) × (b.whole ≡ false → b.length ≡ 0)
 
 pub body_lies : (bad : Bool) (d w : List ℕ) (m : ℕ) (em : Bool) (n : ℕ) {b : Body} → n ≤ length d → bodied_of (element.body bad d w m em n)
-    ≡ bodied.Is b
+    ≡ Ok b
     → Kept d b
 unfolding element.body
 body_lies bad d w m em n {b} h f = by em (content_of bad d m w n) refl f where
-  is : {x : Body} → Kept d x → ◌≡◌ {A = Bodied} (bodied.Is x) (bodied.Is b) → Kept d b
+  is : {x : Body} → Kept d x → ◌≡◌ {A = Read Body} (Ok x) (Ok b) → Kept d b
   is {x} h e = let i : x ≡ b = cc in rw (← i) h
 
   by : (em : Bool) (c : Content) → content_of bad d m w n ≡ c
-      → bodied_of (cond em (Is (element.body_of n n true []) n) (element.on_content n c)) ≡ bodied.Is b → Kept d b
+      → bodied_of (cond em (Is (element.body_of n n true []) n) (element.on_content n c)) ≡ Ok b → Kept d b
   by true c g e = is (omega arith, λ i. omega arith) e
   by false (content.Read e' n' u) g e =
       let t = content_within bad d m w n e' n' u h g in

@@ -1,20 +1,12 @@
 -- What the code answers with, for each answer of the rule (crates `reading` and `xml_reading`). A list of charges is held by the least that
 -- is named: number 0 is none.
-use Rattle.std.specs.Prelude.{◌≡◌, ◌⊎◌, Bool, true, false, cond, List, [], ◌∷◌, ◌++◌, ℕ, ◌+◌, ◌≤◌, ◌<◌, eqb, ltb, length}
+use Rattle.std.specs.Prelude.{◌≡◌, ◌⊎◌, Bool, true, false, cond, List, [], ◌∷◌, ◌++◌, ℕ, ◌+◌, ◌≤◌, ◌<◌, eqb, ltb, length, Ok, Err}
 use Rattle.std.proofs.Math.Option.{Option, get_or}
 use Rattle.tags.specs.rule.Tag.{is_named, stretch_fits}
 use Rattle.tags.specs.declared.Held.{Held}
 use Rattle.tokens.specs.declared.Fault.{Fault}
-use Rattle.tokens.specs.rule.Gap.{fault}
+use Rattle.tokens.specs.rule.Gap.{fault, Read}
 use Rattle.tokens.specs.declared.Figures.{Figures}
-use Rattle.tokens.specs.declared.Number.{Number}
-use Rattle.tokens.specs.declared.Number.TheVariants as number
-use Rattle.statements.specs.declared.Stated.{Stated}
-use Rattle.statements.specs.declared.Stated.TheVariants as stated
-use Rattle.statements.specs.declared.Spreading.{Spreading}
-use Rattle.statements.specs.declared.Spreading.TheVariants as spreading
-use Rattle.tokens.specs.declared.Phrase.{Phrase}
-use Rattle.tokens.specs.declared.Phrase.TheVariants as phrase
 use Rattle.survey.specs.rule.Survey.{Figure, KeptText, Spread}
 use Rattle.ranks.specs.declared.Found.{Found}
 use Rattle.ranks.specs.rule.Rank.{none_found, lower_found}
@@ -32,8 +24,8 @@ use Rattle.elements.specs.declared.Due.TheVariants as due
 use Rattle.elements.specs.declared.Passed.{Passed}
 use Rattle.elements.specs.declared.Passed.TheVariants as passed
 use Rattle.elements.specs.declared.Body as code
-use Rattle.elements.specs.declared.Bodied.{Bodied}
-use Rattle.elements.specs.declared.Bodied.TheVariants as bodied
+use Rattle.statements.specs.declared.Subfields.{Subfields}
+use Rattle.tokens.specs.declared.Quoted.{Quoted}
 
 -- ---- where a tag is due
 abbrev pub open_of : Result rule.Open → Open
@@ -100,19 +92,19 @@ abbrev pub passed_of : Result (List Charge) → Passed
 passed_of (Is l n) = passed.Is (found_of l) n
 passed_of (Not f) = passed.Not f
 
-abbrev pub bodied_of : Result Body → Bodied
-bodied_of (Is b n) = bodied.Is (record {
+abbrev pub bodied_of : Result Body → Read Body
+bodied_of (Is b n) = Ok (record {
   place = b.text.place;
   length = b.text.length;
   whole = b.whole;
   found = found_of b.charges;
   next = n;
 })
-bodied_of (Not f) = bodied.Not f
+bodied_of (Not f) = Err f
 
-abbrev pub phrase_of : Result KeptText → Phrase
-phrase_of (Is t n) = phrase.Is (record { place = t.place; length = t.length; next = n })
-phrase_of (Not f) = phrase.Not f
+abbrev pub phrase_of : Result KeptText → Read Quoted
+phrase_of (Is t n) = Ok (record { place = t.place; length = t.length; next = n })
+phrase_of (Not f) = Err f
 
 -- ---- numbers of a tag
 -- a value of a form that lies inside d
@@ -157,20 +149,20 @@ position_found below a b behind =
     (lower_found (alone (fault 8 a.place) (ltb 16384 a.size))
     (lower_found (alone (fault 8 b.place) (ltb 16384 b.size)) behind)))
 
-abbrev pub located_of : Figures → Figures → ℕ → Found → Stated
+abbrev pub located_of : Figures → Figures → ℕ → Found → Read Position
 located_of a b n x =
-    cond (eqb x.number 0) (stated.Is (record { start = a.size; finish = b.size; place = a.place; next = n }))
-    (stated.Not (fault x.number x.place))
+    cond (eqb x.number 0) (Ok (record { start = a.size; finish = b.size; place = a.place; next = n }))
+    (Err (fault x.number x.place))
 
-abbrev pub shared_of : ℕ → ℕ → ℕ → Found → Spreading
+abbrev pub shared_of : ℕ → ℕ → ℕ → Found → Read Subfields
 shared_of count width n x =
-    cond (eqb x.number 0) (spreading.Is (record { count = count; width = width; next = n }))
-    (spreading.Not (fault x.number x.place))
+    cond (eqb x.number 0) (Ok (record { count = count; width = width; next = n }))
+    (Err (fault x.number x.place))
 
-abbrev pub sized_of : Figures → ℕ → Found → Number
+abbrev pub sized_of : Figures → ℕ → Found → Read Figures
 sized_of x n f =
-    cond (eqb f.number 0) (number.Is (record { size = x.size; count = x.count; place = x.place; next = n }))
-    (number.Not (fault f.number f.place))
+    cond (eqb f.number 0) (Ok (record { size = x.size; count = x.count; place = x.place; next = n }))
+    (Err (fault f.number f.place))
 
 -- a text of the rule, as the code holds it
 pub record Tells (t : Body) (b : code.Body) : Type 0 where

@@ -25,9 +25,9 @@ use contents::Content;
 use markup::Skip;
 use pairs::{Pair, Stand};
 use ranks::Found;
-use statements::{Position, Spreading, Stated, Subfields};
+use statements::{Position, Subfields};
 use tags::{Held, Tag};
-use tokens::{Fault, Figures, Number, Phrase, Quoted};
+use tokens::{Fault, Figures, Quoted, Read};
 
 // What stands inside an element where a tag is due: a start tag, with the place of its < and of its name's end; the end tag of the element
 // around, with the place of its < and the place after it; or what is refused.
@@ -171,15 +171,9 @@ pub struct Body {
     pub next: usize,
 }
 
-#[derive(Clone, Copy)]
-pub enum Bodied {
-    Is(Body),
-    Not(Fault),
-}
-
 // The text of an element w behind its start tag, which is <w/> where `empty`. Mode 0: characters alone; 1: breaks too; 2: texts in other
 // languages too. What cuts it is 51 there, if no attribute before it is unknown.
-pub fn body_at(bad: bool, d: &[u8], at: usize, empty: bool, w: &[u8], mode: usize) -> Bodied
+pub fn body_at(bad: bool, d: &[u8], at: usize, empty: bool, w: &[u8], mode: usize) -> Read<Body>
     requires { at ≤ length d.now }
     ensures { result ≡ bodied_of (body bad d.now w.now mode empty at) }
 {
@@ -189,19 +183,26 @@ pub fn body_at(bad: bool, d: &[u8], at: usize, empty: bool, w: &[u8], mode: usiz
     match contents::read_content(bad, d, mode, w, at) {
         Content::Read { end, next, unknown } => lying(at, end, true, unknown, 0, next),
         Content::Cut { place, unknown } => lying(at, at, false, unknown, place, place),
-        Content::Fault { number, place } => Bodied::Not(Fault { number, place }),
+        Content::Fault { number, place } => Err(Fault { number, place }),
     }
 }
 
 // A text from a place to its end, with two places of 51 in it.
-fn lying(place: usize, end: usize, whole: bool, unknown: usize, cut: usize, next: usize) -> Bodied
+fn lying(
+    place: usize,
+    end: usize,
+    whole: bool,
+    unknown: usize,
+    cut: usize,
+    next: usize,
+) -> Read<Body>
     requires { place ≤ end }
     ensures { result ≡ bodied_of (Is (body_of place end whole (unknown_at unknown ∷ unknown_at cut ∷ [])) next) }
 {
     let first = ranks::fault_at(51, unknown);
     let second = ranks::fault_at(51, cut);
     let found = ranks::lower(first, second);
-    Bodied::Is(Body {
+    Ok(Body {
         place,
         length: end - place,
         whole,
@@ -211,24 +212,24 @@ fn lying(place: usize, end: usize, whole: bool, unknown: usize, cut: usize, next
 }
 
 // A text, if nothing was found in its element.
-fn said(b: Body, found: Found) -> Phrase
+fn said(b: Body, found: Found) -> Read<Quoted>
     ensures { result ≡ phrase_of (ruled found (record { place = b.place; length = b.length }) b.next) }
 {
     if found.number == 0 {
-        return Phrase::Is(Quoted {
+        return Ok(Quoted {
             place: b.place,
             length: b.length,
             next: b.next,
         });
     }
-    Phrase::Not(Fault {
+    Err(Fault {
         number: found.number,
         place: found.place,
     })
 }
 
 // An element w that is only a text, whose < stands at `place` and whose name ends at `end`.
-pub fn text_at(bad: bool, d: &[u8], place: usize, end: usize, w: &[u8], mode: usize) -> Phrase
+pub fn text_at(bad: bool, d: &[u8], place: usize, end: usize, w: &[u8], mode: usize) -> Read<Quoted>
     requires { end ≤ length d.now }
     ensures { result ≡ phrase_of (text bad d.now w.now mode place end) }
 {
@@ -239,14 +240,14 @@ pub fn text_at(bad: bool, d: &[u8], place: usize, end: usize, w: &[u8], mode: us
             place: _,
             next,
         } => match body_at(bad, d, next, empty, w, mode) {
-            Bodied::Is(b) => {
+            Ok(b) => {
                 let inner = b.found;
                 let found = behind_tag(held.unknown, inner);
                 said(b, found)
             }
-            Bodied::Not(f) => Phrase::Not(f),
+            Err(f) => Err(f),
         },
-        Tag::Fault { number, place: p } => Phrase::Not(Fault { number, place: p }),
+        Tag::Fault { number, place: p } => Err(Fault { number, place: p }),
     }
 }
 
@@ -306,25 +307,25 @@ fn locations_fault(below: bool, a: Figures, b: Figures, behind: Found) -> Found
     ranks::lower(zero, wrong)
 }
 
-fn located(a: Figures, b: Figures, next: usize, found: Found) -> Stated
+fn located(a: Figures, b: Figures, next: usize, found: Found) -> Read<Position>
     ensures { result ≡ located_of a b next found }
 {
     if found.number == 0 {
-        return Stated::Is(Position {
+        return Ok(Position {
             start: a.size,
             finish: b.size,
             place: a.place,
             next,
         });
     }
-    Stated::Not(Fault {
+    Err(Fault {
         number: found.number,
         place: found.place,
     })
 }
 
 // A position whose tag was read, before what was found behind it.
-fn locate(d: &[u8], h: Held, behind: Found, next: usize) -> Stated
+fn locate(d: &[u8], h: Held, behind: Found, next: usize) -> Read<Position>
     requires { Numbers d.now h }
     ensures { (l : List Charge) → Numbered l → behind ≡ found_of l → result ≡ to_stated (position_judged d.now h l next) }
 {
@@ -347,7 +348,7 @@ fn behind_tag(unknown: usize, found: Found) -> Found
     ranks::lower(attribute, found)
 }
 
-fn position_held(bad: bool, d: &[u8], h: Held, empty: bool, at: usize) -> Stated
+fn position_held(bad: bool, d: &[u8], h: Held, empty: bool, at: usize) -> Read<Position>
     requires { Numbers d.now h × (at ≤ length d.now) }
     ensures { result ≡ to_stated (position_behind bad d.now h empty at) }
 {
@@ -356,12 +357,12 @@ fn position_held(bad: bool, d: &[u8], h: Held, empty: bool, at: usize) -> Stated
             let behind = behind_tag(h.unknown, found);
             locate(d, h, behind, next)
         }
-        Passed::Not(f) => Stated::Not(f),
+        Passed::Not(f) => Err(f),
     }
 }
 
 // <position start [finish]/>, whose < stands at `place` and whose name ends at `end`.
-pub fn position_at(bad: bool, d: &[u8], place: usize, end: usize) -> Stated
+pub fn position_at(bad: bool, d: &[u8], place: usize, end: usize) -> Read<Position>
     requires { end ≤ length d.now }
     ensures { result ≡ to_stated (position bad d.now place end) }
 {
@@ -372,24 +373,24 @@ pub fn position_at(bad: bool, d: &[u8], place: usize, end: usize) -> Stated
             place: _,
             next,
         } => position_held(bad, d, held, empty, next),
-        Tag::Fault { number, place: p } => Stated::Not(Fault { number, place: p }),
+        Tag::Fault { number, place: p } => Err(Fault { number, place: p }),
     }
 }
 
-fn shared(count: u64, width: u64, next: usize, found: Found) -> Spreading
+fn shared(count: u64, width: u64, next: usize, found: Found) -> Read<Subfields>
     ensures { result ≡ shared_of count width next found }
 {
     if found.number == 0 {
-        return Spreading::Is(Subfields { count, width, next });
+        return Ok(Subfields { count, width, next });
     }
-    Spreading::Not(Fault {
+    Err(Fault {
         number: found.number,
         place: found.place,
     })
 }
 
 // Subfields without a width: they share the position's.
-fn share_even(n: Figures, room: u64, behind: Found, next: usize) -> Spreading
+fn share_even(n: Figures, room: u64, behind: Found, next: usize) -> Read<Subfields>
     requires { room < 1000000000000000 }
     ensures { (x : Figure) (e : ℕ) (l : List Charge) → n ≡ figures x e → Numbered l → behind ≡ found_of l → result
         ≡ to_spreading room (spread_judged room x none l next) }
@@ -406,7 +407,7 @@ fn share_even(n: Figures, room: u64, behind: Found, next: usize) -> Spreading
 }
 
 // Subfields of a width of their own.
-fn share_fields(n: Figures, w: Figures, behind: Found, next: usize) -> Spreading
+fn share_fields(n: Figures, w: Figures, behind: Found, next: usize) -> Read<Subfields>
     ensures { (room : ℕ) (x y : Figure) (e k : ℕ) (l : List Charge) → n ≡ figures x e → w ≡ figures y k → Numbered l → behind
         ≡ found_of l → result ≡ to_spreading room (spread_judged room x (some y) l next) }
 {
@@ -418,7 +419,7 @@ fn share_fields(n: Figures, w: Figures, behind: Found, next: usize) -> Spreading
 }
 
 // A spread whose tag was read, before what was found behind it.
-fn share(d: &[u8], h: Held, room: u64, behind: Found, next: usize) -> Spreading
+fn share(d: &[u8], h: Held, room: u64, behind: Found, next: usize) -> Read<Subfields>
     requires { Numbers d.now h × (room < 1000000000000000) }
     ensures { (l : List Charge) → Numbered l → behind ≡ found_of l → result
         ≡ to_spreading room (spread_held room d.now h l next) }
@@ -431,7 +432,7 @@ fn share(d: &[u8], h: Held, room: u64, behind: Found, next: usize) -> Spreading
     share_fields(n, w, behind, next)
 }
 
-fn spread_held(bad: bool, d: &[u8], h: Held, empty: bool, at: usize, room: u64) -> Spreading
+fn spread_held(bad: bool, d: &[u8], h: Held, empty: bool, at: usize, room: u64) -> Read<Subfields>
     requires { Numbers d.now h × (at ≤ length d.now) × (room < 1000000000000000) }
     ensures { result ≡ to_spreading room (spread_behind bad d.now room h empty at) }
 {
@@ -440,12 +441,12 @@ fn spread_held(bad: bool, d: &[u8], h: Held, empty: bool, at: usize, room: u64) 
             let behind = behind_tag(h.unknown, found);
             share(d, h, room, behind, next)
         }
-        Passed::Not(f) => Spreading::Not(f),
+        Passed::Not(f) => Err(f),
     }
 }
 
 // <spread subfields [width]/> in a position of `room` bytes.
-pub fn spread_at(bad: bool, d: &[u8], place: usize, end: usize, room: u64) -> Spreading
+pub fn spread_at(bad: bool, d: &[u8], place: usize, end: usize, room: u64) -> Read<Subfields>
     requires { (end ≤ length d.now) × (room < 1000000000000000) }
     ensures { result ≡ to_spreading room (spread bad d.now room place end) }
 {
@@ -456,29 +457,29 @@ pub fn spread_at(bad: bool, d: &[u8], place: usize, end: usize, room: u64) -> Sp
             place: _,
             next,
         } => spread_held(bad, d, held, empty, next, room),
-        Tag::Fault { number, place: p } => Spreading::Not(Fault { number, place: p }),
+        Tag::Fault { number, place: p } => Err(Fault { number, place: p }),
     }
 }
 
-fn sized(x: Figures, next: usize, found: Found) -> Number
+fn sized(x: Figures, next: usize, found: Found) -> Read<Figures>
     ensures { result ≡ sized_of x next found }
 {
     if found.number == 0 {
-        return Number::Is(Figures {
+        return Ok(Figures {
             size: x.size,
             count: x.count,
             place: x.place,
             next,
         });
     }
-    Number::Not(Fault {
+    Err(Fault {
         number: found.number,
         place: found.place,
     })
 }
 
 // A size whose text is digits.
-fn size_judged(x: Figures, behind: Found, next: usize) -> Number
+fn size_judged(x: Figures, behind: Found, next: usize) -> Read<Figures>
     ensures { (y : Figure) (e : ℕ) (l : List Charge) → x ≡ figures y e → Numbered l → behind ≡ found_of l → result
         ≡ to_number (judged (size_charges y ++ l) y next) }
 {
@@ -490,7 +491,7 @@ fn size_judged(x: Figures, behind: Found, next: usize) -> Number
 }
 
 // A size whose text was read: it has to be digits, unless something cuts it.
-fn size_in(d: &[u8], b: Body, behind: Found) -> Number
+fn size_in(d: &[u8], b: Body, behind: Found) -> Read<Figures>
     requires { (b.place + b.length ≤ length d.now) × (b.whole ≡ false → b.length ≡ 0) }
     ensures { (bad : Bool) (u : ℕ) (t : rule.Body) → Tells t b → behind ≡ lower_found (found_at 51 u) b.found → result
         ≡ to_number (size_in bad d.now u t b.next) }
@@ -502,7 +503,7 @@ fn size_in(d: &[u8], b: Body, behind: Found) -> Number
         if forms::fits(1, &d[v..e]) {
             return size_judged(x, behind, b.next);
         }
-        return Number::Not(Fault {
+        return Err(Fault {
             number: 2,
             place: v,
         });
@@ -511,7 +512,7 @@ fn size_in(d: &[u8], b: Body, behind: Found) -> Number
 }
 
 // <size>n</size>.
-pub fn size_at(bad: bool, d: &[u8], place: usize, end: usize) -> Number
+pub fn size_at(bad: bool, d: &[u8], place: usize, end: usize) -> Read<Figures>
     requires { end ≤ length d.now }
     ensures { result ≡ to_number (size bad d.now place end) }
 {
@@ -522,13 +523,13 @@ pub fn size_at(bad: bool, d: &[u8], place: usize, end: usize) -> Number
             place: _,
             next,
         } => match body_at(bad, d, next, empty, b"size", 0) {
-            Bodied::Is(b) => {
+            Ok(b) => {
                 let inner = b.found;
                 let behind = behind_tag(held.unknown, inner);
                 size_in(d, b, behind)
             }
-            Bodied::Not(f) => Number::Not(f),
+            Err(f) => Err(f),
         },
-        Tag::Fault { number, place: p } => Number::Not(Fault { number, place: p }),
+        Tag::Fault { number, place: p } => Err(Fault { number, place: p }),
     }
 }

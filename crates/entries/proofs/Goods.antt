@@ -1,5 +1,6 @@
 -- A variable that was read is good: its row holds every clause of a well-formed table that speaks of one row, its ident is new, and
 -- there is a row left for it.
+use Rattle.std.specs.Prelude.{Ok, Err}
 use mathlib.Core.Path.{◌≡◌, refl, ap, ◌∙◌}
 use mathlib.Core.Logic.{⊎_elim}
 use mathlib.Core.Bool.{Bool, true, false, cond, not, ◌&&◌, ◌||◌, beq}
@@ -21,20 +22,14 @@ use Rattle.layout.specs.declared.Columns.{Columns}
 use Rattle.sound.specs.rule.Sound.{lacked_zero, point_given, shares_given, values_given, counts_good, places_good, range_lacked, range_good}
 use Rattle.sound.specs.rule.Sound.{line_plain}
 use Rattle.sound.specs.rule.Sound.{values_fit, range_width, width_good}
-use Rattle.tokens.specs.declared.Reading.{Reading}
-use Rattle.tokens.specs.declared.Reading.TheVariants.{At, Refused}
 use Rattle.tokens.specs.declared.Figures.{Figures}
-use Rattle.tokens.specs.declared.Number.{Number}
-use Rattle.tokens.specs.declared.Number.TheVariants as number
-use Rattle.tokens.specs.rule.Gap.{fault}
+use Rattle.tokens.specs.rule.Gap.{fault, Read}
 use Rattle.values.specs.declared.Said.{Said}
 use Rattle.values.specs.Line.{number_at, line_cells, cells_of}
 use Rattle.values.specs.Good.{EachGood}
 use Rattle.values.specs.Good as each
 use Rattle.values.proofs.Goods.{values_good_lem}
 use Rattle.variables.specs.declared.Head.{Head}
-use Rattle.variables.specs.declared.Headed.{Headed}
-use Rattle.variables.specs.declared.Headed.TheVariants as headed
 use Rattle.variables.specs.Ident.{wrong_ident, judge_ident, ident_on}
 use Rattle.variables.specs.Head.{head_on}
 use Rattle.variables.specs.Rest.{Telling, Told, rest_of}
@@ -72,13 +67,13 @@ not_wrong met count x l = by (ltb 4 x.count) (ltb x.size 10000) (eqb x.size 0) (
       let k = eqb-false x.size 0 b in
       record { some = omega arith; short = omega arith; fresh = c; left = l }
 
-ident_judged : (met : ℕ → Bool) (count : ℕ) (i : Number) (y : Figures) → judge_ident met count i ≡ number.Is y
+ident_judged : (met : ℕ → Bool) (count : ℕ) (i : Read Figures) (y : Figures) → judge_ident met count i ≡ Ok y
     → GoodIdent met count y.size
 unfolding judge_ident
-ident_judged met count (number.Not f) y e = none cc
-ident_judged met count (number.Is x) y e = by (wrong_ident met x) (leb 512 count) refl refl e where
+ident_judged met count (Err f) y e = none cc
+ident_judged met count (Ok x) y e = by (wrong_ident met x) (leb 512 count) refl refl e where
   by : (p q : Bool) → wrong_ident met x ≡ p → leb 512 count ≡ q
-      → cond p (number.Not (fault 5 x.place)) (cond q (number.Not (fault 8 x.place)) (number.Is x)) ≡ number.Is y
+      → cond p (Err (fault 5 x.place)) (cond q (Err (fault 8 x.place)) (Ok x)) ≡ Ok y
       → GoodIdent met count y.size
   by true q a b e = none cc
   by false true a b e = none cc
@@ -261,13 +256,13 @@ module _ (h : Head) (x : Telling) (before : ℕ) (g : GoodHead h) (texts : Texts
       }
 
 -- ---- the whole variable
-module _ (d : List ℕ) (t : Reading) (met : ℕ → Bool) (count before : ℕ) where
+module _ (d : List ℕ) (t : Read ℕ) (met : ℕ → Bool) (count before : ℕ) where
   -- "POSITION must hold w", else 7 at the first POSITION number
   pub narrow_is_7 :
       (h : Head) (x : Telling) (n : ℕ)
-      → head_on d (ident_on d t met count) ≡ headed.Is h
-      → rest_of d before h.kind (At h.next) (h.finish + 1 - h.start) ≡ told.Is x
-      → end_variable d x.next ≡ At n
+      → head_on d (ident_on d t met count) ≡ Ok h
+      → rest_of d before h.kind (Ok h.next) (h.finish + 1 - h.start) ≡ told.Is x
+      → end_variable d x.next ≡ Ok n
       → holds_in before (variable h x) ≡ false
       → entry_of d t met count before ≡ entry.Not (fault 7 h.place)
   unfolding entry_of rest_then held_by
@@ -311,41 +306,41 @@ module _ (d : List ℕ) (t : Reading) (met : ℕ → Bool) (count before : ℕ) 
     rest_then_lem : (h : Head) → heads.GoodHead d (ident_on d t met count) h → rest_then d before h ≡ entry.Is v n
         → EntryGood met count before v
     unfolding rest_then
-    rest_then_lem h g = by (rest_of d before h.kind (At h.next) (h.finish + 1 - h.start)) refl where
-      end : (x : Telling) (r : Reading) → GoodTelling h.kind before x → ended r (held_by before (variable h x)) ≡ entry.Is v n
+    rest_then_lem h g = by (rest_of d before h.kind (Ok h.next) (h.finish + 1 - h.start)) refl where
+      end : (x : Telling) (r : Read ℕ) → GoodTelling h.kind before x → ended r (held_by before (variable h x)) ≡ entry.Is v n
           → EntryGood met count before v
-      end x (At m) s e = held_good h x m g s e
-      end x (Refused f) s e = none cc
+      end x (Ok m) s e = held_good h x m g s e
+      end x (Err f) s e = none cc
 
-      by : (o : Told) → rest_of d before h.kind (At h.next) (h.finish + 1 - h.start) ≡ o
+      by : (o : Told) → rest_of d before h.kind (Ok h.next) (h.finish + 1 - h.start) ≡ o
           → told_then o (λ x. ended (end_variable d x.next) (held_by before (variable h x))) ≡ entry.Is v n → EntryGood met count before v
       by (told.Not f) i e = none cc
       by (told.Is x) i e =
-          let s = rest_good d before long few (λ q t b l n v. values_good_lem d q before t long few v) h.kind (At h.next)
+          let s = rest_good d before long few (λ q t b l n v. values_good_lem d q before t long few v) h.kind (Ok h.next)
           (h.finish + 1 - h.start) x g.kind_some g.kind_few (omega (arith, g.ordered)) i in
           end x (end_variable d x.next) s e
 
 -- a variable that was read is good
 pub entry_good :
-    (d : List ℕ) (t : Reading) (met : ℕ → Bool) (count before : ℕ) (v : Variable) (n : ℕ)
+    (d : List ℕ) (t : Read ℕ) (met : ℕ → Bool) (count before : ℕ) (v : Variable) (n : ℕ)
     → length d ≤ 1048576
     → before ≤ 4096
     → entry_of d t met count before ≡ entry.Is v n
     → EntryGood met count before v
 unfolding entry_of
 entry_good d t met count before v n long few = by (head_on d (ident_on d t met count)) refl where
-  by : (q : Headed) → head_on d (ident_on d t met count) ≡ q → head_then q (rest_then d before) ≡ entry.Is v n
+  by : (q : Read Head) → head_on d (ident_on d t met count) ≡ q → head_then q (rest_then d before) ≡ entry.Is v n
       → EntryGood met count before v
-  by (headed.Not f) i e = none cc
-  by (headed.Is h) i e = rest_then_lem d t met count before v n long few h (head_good d (ident_on d t met count) h i) e
+  by (Err f) i e = none cc
+  by (Ok h) i e = rest_then_lem d t met count before v n long few h (head_good d (ident_on d t met count) h i) e
 
 -- no variable is a 513th
-pub entry_left : (d : List ℕ) (t : Reading) (met : ℕ → Bool) (count before : ℕ) (v : Variable) (n : ℕ) → entry_of d t met count before
+pub entry_left : (d : List ℕ) (t : Read ℕ) (met : ℕ → Bool) (count before : ℕ) (v : Variable) (n : ℕ) → entry_of d t met count before
     ≡ entry.Is v n → count < 512
 unfolding entry_of ident_on
 entry_left d t met count before v n = by (head_on d (ident_on d t met count)) refl where
-  by : (q : Headed) → head_on d (ident_on d t met count) ≡ q → head_then q (rest_then d before) ≡ entry.Is v n → count < 512
-  by (headed.Is h) i e =
+  by : (q : Read Head) → head_on d (ident_on d t met count) ≡ q → head_then q (rest_then d before) ≡ entry.Is v n → count < 512
+  by (Ok h) i e =
       let g = head_good d (ident_on d t met count) h i in
       (ident_judged met count _ g.figures g.given).left
-  by (headed.Not f) i e = none cc
+  by (Err f) i e = none cc

@@ -1,4 +1,5 @@
 -- What is known of the statements of a variable that were read: its ident, type, position and texts lie within their limits.
+use Rattle.std.specs.Prelude.{Ok, Err}
 use mathlib.Core.Path.{◌≡◌, refl, sym, ◌∙◌}
 use mathlib.Core.Bool.{Bool, true, false, cond}
 use mathlib.Core.List.{List}
@@ -11,14 +12,10 @@ use Rattle.scan.specs.rule.Text.{text}
 use Rattle.scan.specs.Number.{capped, digits_from}
 use Rattle.scan.proofs.Runs.{digits_held}
 use Rattle.scan.proofs.Orders.{run_value}
-use Rattle.tokens.specs.declared.Reading.{Reading}
-use Rattle.tokens.specs.declared.Reading.TheVariants.{At, Refused}
 use Rattle.tokens.specs.declared.Choice.{Choice}
 use Rattle.tokens.specs.declared.Choice.TheVariants.{Taken, Left}
 use Rattle.tokens.specs.declared.Figures.{Figures}
-use Rattle.tokens.specs.declared.Number.{Number}
-use Rattle.tokens.specs.declared.Number.TheVariants as number
-use Rattle.tokens.specs.rule.Gap.{fault}
+use Rattle.tokens.specs.rule.Gap.{fault, Read}
 use Rattle.tokens.specs.Gap.{gap_on}
 use Rattle.statements.specs.declared.Typed.{Typed}
 use Rattle.statements.specs.declared.Typed.TheVariants as typed
@@ -26,16 +23,12 @@ use Rattle.statements.specs.rule.Words.{SINGLE, MULTIPLE, QUANTITY, CHARACTER, L
 use Rattle.statements.specs.Kinds.{or, last, type_here, type_on}
 use Rattle.tokens.specs.Token.{choice_of, word_here, of_digits, number_here, number_on, past_number, string_on}
 use Rattle.statements.specs.declared.Position.{Position}
-use Rattle.statements.specs.declared.Stated.{Stated}
-use Rattle.statements.specs.declared.Stated.TheVariants as stated
 use Rattle.statements.specs.Note.{statement_on, text_on}
-use Rattle.tokens.specs.declared.Phrase.{Phrase}
-use Rattle.tokens.specs.declared.Phrase.TheVariants as phrase
 use Rattle.tokens.proofs.Aheads.{quoted_within}
 use Rattle.variables.specs.declared.Head.{Head}
-use Rattle.variables.specs.declared.Headed.TheVariants as headed
 use Rattle.variables.specs.Head.{join_titles, join_head, head_on}
 use Rattle.statements.specs.Position.{true_of, below_of, judge_position, both_of, position_rest, position_on}
+use Rattle.tokens.specs.declared.Quoted.{Quoted}
 
 -- an equation between two different cases
 pub none : {A : Type 0} → ◌≡◌ {A = ℕ} 0 1 → A
@@ -52,16 +45,16 @@ uncapped v = by (ltb 1000000000000000 v) where
   by true h = absurd (omega arith)
   by false h = refl
 
-digits_true : (d : List ℕ) (n : ℕ) (x : Figures) → of_digits n (digits_from 0 0 n (text d n)) ≡ number.Is x → True d x
+digits_true : (d : List ℕ) (n : ℕ) (x : Figures) → of_digits n (digits_from 0 0 n (text d n)) ≡ Ok x → True d x
 unfolding of_digits digits_from
 digits_true d n x = by (eqb (digits_from 0 0 n (text d n)).count 0) where
-  by : (b : Bool) → cond b (number.Not (fault 2 n))
-      (number.Is (record {
+  by : (b : Bool) → cond b (Err (fault 2 n))
+      (Ok (record {
         size = (digits_from 0 0 n (text d n)).size;
         count = (digits_from 0 0 n (text d n)).count;
         place = n;
         next = (digits_from 0 0 n (text d n)).next;
-      })) ≡ number.Is x → True d x
+      })) ≡ Ok x → True d x
   by true e = none cc
   by false e =
       let j : record {
@@ -73,12 +66,12 @@ digits_true d n x = by (eqb (digits_from 0 0 n (text d n)).count 0) where
       } ≡ x = cc in
       rw (← j) (record { same = λ h. uncapped _ h ∙ sym (run_value d n); held = digits_held 0 0 n (text d n) })
 
-number_true : (d : List ℕ) (t : Reading) (x : Figures) → number_on d t ≡ number.Is x → True d x
+number_true : (d : List ℕ) (t : Read ℕ) (x : Figures) → number_on d t ≡ Ok x → True d x
 unfolding number_on number_here
 number_true d t x = by (gap_on d t) where
-  by : (r : Reading) → number_here d r ≡ number.Is x → True d x
-  by (At n) e = digits_true d n x e
-  by (Refused f) e = none cc
+  by : (r : Read ℕ) → number_here d r ≡ Ok x → True d x
+  by (Ok n) e = digits_true d n x e
+  by (Err f) e = none cc
 
 -- ---- POSITION: 1 or more, the finish not below it, up to 16,384
 pub record GoodPosition (p : Position) : Type 0 where
@@ -86,16 +79,16 @@ pub record GoodPosition (p : Position) : Type 0 where
   pub ordered : p.start ≤ p.finish
   pub low : p.finish ≤ 16384
 
-judge_good : (d : List ℕ) (a b : Figures) (n : ℕ) (p : Position) → True d a → True d b → judge_position (below_of d b a) a b n ≡ stated.Is p
+judge_good : (d : List ℕ) (a b : Figures) (n : ℕ) (p : Position) → True d a → True d b → judge_position (below_of d b a) a b n ≡ Ok p
     → GoodPosition p
 unfolding judge_position
 judge_good d a b n p s t = by (eqb a.size 0) (ltb (true_of d b) (true_of d a)) (ltb 16384 a.size) (ltb 16384 b.size) refl refl refl
     refl where
       by : (q r u v : Bool) → eqb a.size 0 ≡ q → ltb (true_of d b) (true_of d a) ≡ r → ltb 16384 a.size ≡ u → ltb 16384 b.size ≡ v
-          → cond q (stated.Not (fault 7 a.place)) (cond r (stated.Not (fault 7 b.place))
-          (cond u (stated.Not (fault 8 a.place))
-          (cond v (stated.Not (fault 8 b.place))
-          (stated.Is (record { start = a.size; finish = b.size; place = a.place; next = n }))))) ≡ stated.Is p → GoodPosition p
+          → cond q (Err (fault 7 a.place)) (cond r (Err (fault 7 b.place))
+          (cond u (Err (fault 8 a.place))
+          (cond v (Err (fault 8 b.place))
+          (Ok (record { start = a.size; finish = b.size; place = a.place; next = n }))))) ≡ Ok p → GoodPosition p
       by true r u v e f g h i = none cc
       by false true u v e f g h i = none cc
       by false false true v e f g h i = none cc
@@ -108,21 +101,21 @@ judge_good d a b n p s t = by (eqb a.size 0) (ltb (true_of d b) (true_of d a)) (
           let k = eqb-false a.size 0 e in
           rw (← j) (record { from_one = omega arith; ordered = omega (arith, s.same (omega arith), t.same (omega arith)); low = y })
 
-position_rest_lem : (d : List ℕ) (a : Number) (g : Reading) (p : Position) → ((x : Figures) → a ≡ number.Is x → True d x) → (k : Choice)
-    → position_rest d a g k ≡ stated.Is p → GoodPosition p
+position_rest_lem : (d : List ℕ) (a : Read Figures) (g : Read ℕ) (p : Position) → ((x : Figures) → a ≡ Ok x → True d x) → (k : Choice)
+    → position_rest d a g k ≡ Ok p → GoodPosition p
 unfolding both_of past_number
-position_rest_lem d (number.Not f) g p h (Taken m) e = none cc
-position_rest_lem d (number.Not f) g p h Left e = none cc
-position_rest_lem d (number.Is x) g p h Left e = by g e where
-  by : (r : Reading) → both_of d (number.Is x) (number.Is x) r ≡ stated.Is p → GoodPosition p
-  by (At n) e = judge_good d x x n p (h x refl) (h x refl) e
-  by (Refused f) e = none cc
-position_rest_lem d (number.Is x) g p h (Taken m) e = by (number_on d (At m)) refl e where
-  by : (b : Number) → number_on d (At m) ≡ b → both_of d (number.Is x) b (past_number b) ≡ stated.Is p → GoodPosition p
-  by (number.Is y) i e = judge_good d x y y.next p (h x refl) (number_true d (At m) y i) e
-  by (number.Not f) i e = none cc
+position_rest_lem d (Err f) g p h (Taken m) e = none cc
+position_rest_lem d (Err f) g p h Left e = none cc
+position_rest_lem d (Ok x) g p h Left e = by g e where
+  by : (r : Read ℕ) → both_of d (Ok x) (Ok x) r ≡ Ok p → GoodPosition p
+  by (Ok n) e = judge_good d x x n p (h x refl) (h x refl) e
+  by (Err f) e = none cc
+position_rest_lem d (Ok x) g p h (Taken m) e = by (number_on d (Ok m)) refl e where
+  by : (b : Read Figures) → number_on d (Ok m) ≡ b → both_of d (Ok x) b (past_number b) ≡ Ok p → GoodPosition p
+  by (Ok y) i e = judge_good d x y y.next p (h x refl) (number_true d (Ok m) y i) e
+  by (Err f) i e = none cc
 
-pub position_good : (d : List ℕ) (t : Reading) (p : Position) → position_on d t ≡ stated.Is p → GoodPosition p
+pub position_good : (d : List ℕ) (t : Read ℕ) (p : Position) → position_on d t ≡ Ok p → GoodPosition p
 unfolding position_on
 position_good d t p e =
     let a = number_on d (statement_on d t POSITION) in
@@ -130,7 +123,7 @@ position_good d t p e =
     (choice_of d (gap_on d (past_number a)) TO) e
 
 -- ---- TYPE: 1 to 5
-type_here_lem : (d : List ℕ) (t : Reading) (k n : ℕ) → type_here d t ≡ typed.Is k n → (1 ≤ k) × (k ≤ 5)
+type_here_lem : (d : List ℕ) (t : Read ℕ) (k n : ℕ) → type_here d t ≡ typed.Is k n → (1 ≤ k) × (k ≤ 5)
 unfolding type_here
 type_here_lem d t k n = by (choice_of d t SINGLE) (choice_of d t MULTIPLE) (choice_of d t QUANTITY) (choice_of d t CHARACTER)
     (word_here d t LOGICAL)
@@ -138,18 +131,18 @@ type_here_lem d t k n = by (choice_of d t SINGLE) (choice_of d t MULTIPLE) (choi
     is : (j m : ℕ) → (1 ≤ j) × (j ≤ 5) → typed.Is j m ≡ typed.Is k n → (1 ≤ k) × (k ≤ 5)
     is j m h e = let q : j ≡ k = cc in rw (← q) h
 
-    by : (a b c e : Choice) (r : Reading) → or a 1 (or b 2 (or c 3 (or e 4 (last r 5)))) ≡ typed.Is k n → (1 ≤ k) × (k ≤ 5)
+    by : (a b c e : Choice) (r : Read ℕ) → or a 1 (or b 2 (or c 3 (or e 4 (last r 5)))) ≡ typed.Is k n → (1 ≤ k) × (k ≤ 5)
     by (Taken m) b c e r q = is 1 m (omega arith, omega arith) q
     by Left (Taken m) c e r q = is 2 m (omega arith, omega arith) q
     by Left Left (Taken m) e r q = is 3 m (omega arith, omega arith) q
     by Left Left Left (Taken m) r q = is 4 m (omega arith, omega arith) q
-    by Left Left Left Left (At m) q = is 5 m (omega arith, omega arith) q
-    by Left Left Left Left (Refused f) q = none cc
+    by Left Left Left Left (Ok m) q = is 5 m (omega arith, omega arith) q
+    by Left Left Left Left (Err f) q = none cc
 
 -- ---- all of them together
-pub record GoodHead (d : List ℕ) (i : Number) (h : Head) : Type 0 where
+pub record GoodHead (d : List ℕ) (i : Read Figures) (h : Head) : Type 0 where
   pub figures : Figures
-  pub given : i ≡ number.Is figures
+  pub given : i ≡ Ok figures
   pub ident : h.ident ≡ figures.size
   pub kind_some : 1 ≤ h.kind
   pub kind_few : h.kind ≤ 5
@@ -161,21 +154,21 @@ pub record GoodHead (d : List ℕ) (i : Number) (h : Head) : Type 0 where
   pub label : h.label.place ≤ length d
   pub label_len : h.label.length ≤ length d
 
-module _ (d : List ℕ) (i : Number) (h : Head) where
-  joined : (t u v w : Reading) (n l : Phrase) (k : Typed) (p : Stated) → string_on d t ≡ n → string_on d u ≡ l → type_here d v ≡ k
+module _ (d : List ℕ) (i : Read Figures) (h : Head) where
+  joined : (t u v w : Read ℕ) (n l : Read Quoted) (k : Typed) (p : Read Position) → string_on d t ≡ n → string_on d u ≡ l → type_here d v ≡ k
       → position_on d w ≡ p
-      → join_head (join_titles i n l) k p ≡ headed.Is h → GoodHead d i h
+      → join_head (join_titles i n l) k p ≡ Ok h → GoodHead d i h
   unfolding join_head join_titles
   joined t u v w n l k p a b c e = by i n l k p refl a b c e where
-    by : (j : Number) (n l : Phrase) (k : Typed) (p : Stated) → i ≡ j → string_on d t ≡ n → string_on d u ≡ l → type_here d v ≡ k
+    by : (j : Read Figures) (n l : Read Quoted) (k : Typed) (p : Read Position) → i ≡ j → string_on d t ≡ n → string_on d u ≡ l → type_here d v ≡ k
         → position_on d w ≡ p
-        → join_head (join_titles j n l) k p ≡ headed.Is h → GoodHead d i h
-    by (number.Not f) n l k p o a b c e g = none cc
-    by (number.Is x) (phrase.Not f) l k p o a b c e g = none cc
-    by (number.Is x) (phrase.Is n) (phrase.Not f) k p o a b c e g = none cc
-    by (number.Is x) (phrase.Is n) (phrase.Is l) (typed.Not f) p o a b c e g = none cc
-    by (number.Is x) (phrase.Is n) (phrase.Is l) (typed.Is k m) (stated.Not f) o a b c e g = none cc
-    by (number.Is x) (phrase.Is n) (phrase.Is l) (typed.Is k m) (stated.Is q) o a b c e g =
+        → join_head (join_titles j n l) k p ≡ Ok h → GoodHead d i h
+    by (Err f) n l k p o a b c e g = none cc
+    by (Ok x) (Err f) l k p o a b c e g = none cc
+    by (Ok x) (Ok n) (Err f) k p o a b c e g = none cc
+    by (Ok x) (Ok n) (Ok l) (typed.Not f) p o a b c e g = none cc
+    by (Ok x) (Ok n) (Ok l) (typed.Is k m) (Err f) o a b c e g = none cc
+    by (Ok x) (Ok n) (Ok l) (typed.Is k m) (Ok q) o a b c e g =
         let j : record {
           ident = x.size;
           name = n;
@@ -205,6 +198,6 @@ module _ (d : List ℕ) (i : Number) (h : Head) where
           label_len = s.1;
         })
 
-  pub head_good : head_on d i ≡ headed.Is h → GoodHead d i h
+  pub head_good : head_on d i ≡ Ok h → GoodHead d i h
   unfolding head_on text_on type_on
   head_good e = joined _ _ _ _ _ _ _ _ refl refl refl refl e

@@ -1,4 +1,5 @@
 -- What stands behind the position of a variable is good, by type.
+use Rattle.std.specs.Prelude.{Ok, Err}
 use mathlib.Core.Path.{◌≡◌, refl}
 use mathlib.Core.Logic.{◌⊎◌, inl, inr}
 use mathlib.Core.Bool.{Bool, true, false, cond}
@@ -8,15 +9,9 @@ use native.Mathlib.Omega.{arith}
 use borrow.Author.Tests.{eqb-true, eqb-false}
 use lib.Dec.{eqb}
 use lib.ListN.{length}
-use Rattle.tokens.specs.declared.Reading.{Reading}
-use Rattle.tokens.specs.declared.Reading.TheVariants.{At, Refused}
 use Rattle.tokens.specs.declared.Choice.{Choice}
 use Rattle.tokens.specs.declared.Choice.TheVariants.{Taken, Left}
-use Rattle.tokens.specs.declared.Number.{Number}
-use Rattle.tokens.specs.declared.Number.TheVariants as number
 use Rattle.tokens.specs.Token.{choice_of}
-use Rattle.statements.specs.declared.Spreading.{Spreading}
-use Rattle.statements.specs.declared.Spreading.TheVariants as spreading
 use Rattle.statements.specs.rule.Words.{SPREAD}
 use Rattle.statements.specs.Note.{notes_on}
 use Rattle.statements.specs.Spread.{spread_rest}
@@ -34,6 +29,9 @@ use Rattle.variables.specs.Rest as told
 use Rattle.entries.specs.Good.{GoodTelling}
 use Rattle.entries.proofs.Heads.{none}
 use Rattle.entries.proofs.Spreads.{spread_good, size_good}
+use Rattle.tokens.specs.rule.Gap.{Read}
+use Rattle.tokens.specs.declared.Figures.{Figures}
+use Rattle.statements.specs.declared.Subfields.{Subfields}
 
 -- nothing said is good
 empty_block_lem : (q : Bool) → GoodBlock q empty_block
@@ -60,10 +58,10 @@ empty_lines q first h = record {
 }
 
 module _ (d : List ℕ) (first : ℕ) (long : length d ≤ 1048576) (few : first ≤ 4096)
-    (values-good : (q : Bool) (t : Reading) (b : Block) (l : List Said) (n : ℕ) → values_on d q first t ≡ given.Is b l n
+    (values-good : (q : Bool) (t : Read ℕ) (b : Block) (l : List Said) (n : ℕ) → values_on d q first t ≡ given.Is b l n
     → GoodValues q first b l) where
   -- VALUES, with so many subfields of such a width
-  values_told : (kind : ℕ) (t : Reading) (count width : ℕ) (x : Telling) → kind ≤ 3
+  values_told : (kind : ℕ) (t : Read ℕ) (count width : ℕ) (x : Telling) → kind ≤ 3
       → ((count ≡ 0) × (width ≡ 0)) ⊎ ((kind ≡ 2) × (1 ≤ count) × (1 ≤ width))
       → values_rest d (eqb kind 3) first t count width ≡ told.Is x → GoodTelling kind first x
   unfolding values_rest join_values
@@ -84,25 +82,25 @@ module _ (d : List ℕ) (first : ℕ) (long : length d ≤ 1048576) (few : first
           sized = λ h. absurd (omega arith);
         })
 
-  spread_told : (t : Reading) (w : ℕ) (x : Telling) → 1 ≤ w → spread_then d first t w ≡ told.Is x → GoodTelling 2 first x
+  spread_told : (t : Read ℕ) (w : ℕ) (x : Telling) → 1 ≤ w → spread_then d first t w ≡ told.Is x → GoodTelling 2 first x
   unfolding spread_then
   spread_told t w x h = by (choice_of d (notes_on d t) SPREAD) where
-    spread : (m : ℕ) (s : Spreading) → spread_rest d (At m) w ≡ s → spread_or d first s ≡ told.Is x → GoodTelling 2 first x
-    spread m (spreading.Not f) i e = none cc
-    spread m (spreading.Is s) i e =
-        let g = spread_good d (At m) w s h i in
-        values_told 2 (At s.next) s.count s.width x (omega arith) (inr (refl, g.some, g.wide)) e
+    spread : (m : ℕ) (s : Read Subfields) → spread_rest d (Ok m) w ≡ s → spread_or d first s ≡ told.Is x → GoodTelling 2 first x
+    spread m (Err f) i e = none cc
+    spread m (Ok s) i e =
+        let g = spread_good d (Ok m) w s h i in
+        values_told 2 (Ok s.next) s.count s.width x (omega arith) (inr (refl, g.some, g.wide)) e
 
     by : (k : Choice) → optional d first (notes_on d t) w k ≡ told.Is x → GoodTelling 2 first x
-    by (Taken m) e = spread m (spread_rest d (At m) w) refl e
+    by (Taken m) e = spread m (spread_rest d (Ok m) w) refl e
     by Left e = values_told 2 (notes_on d t) 0 0 x (omega arith) (inl (refl, refl)) e
 
-  size_told : (t : Reading) (x : Telling) → join_size (size_on d t) ≡ told.Is x → GoodTelling 4 first x
+  size_told : (t : Read ℕ) (x : Telling) → join_size (size_on d t) ≡ told.Is x → GoodTelling 4 first x
   unfolding join_size
   size_told t x = by (size_on d t) refl where
-    by : (n : Number) → size_on d t ≡ n → join_size n ≡ told.Is x → GoodTelling 4 first x
-    by (number.Not f) i e = none cc
-    by (number.Is y) i e =
+    by : (n : Read Figures) → size_on d t ≡ n → join_size n ≡ told.Is x → GoodTelling 4 first x
+    by (Err f) i e = none cc
+    by (Ok y) i e =
         let j : record { block = empty_block; lines = []; subfields = 0; subwidth = 0; size = y.size; next = y.next } ≡ x = cc in
         let s = size_good d t y i in
         rw (← j) (record {
@@ -116,10 +114,10 @@ module _ (d : List ℕ) (first : ℕ) (long : length d ≤ 1048576) (few : first
           sized = λ h. s.0;
         })
 
-  nothing_told : (kind : ℕ) (t : Reading) (x : Telling) → kind ≡ 5 → join_nothing t ≡ told.Is x → GoodTelling kind first x
+  nothing_told : (kind : ℕ) (t : Read ℕ) (x : Telling) → kind ≡ 5 → join_nothing t ≡ told.Is x → GoodTelling kind first x
   unfolding join_nothing
-  nothing_told kind (Refused f) x k e = none cc
-  nothing_told kind (At n) x k e =
+  nothing_told kind (Err f) x k e = none cc
+  nothing_told kind (Ok n) x k e =
       let j : record { block = empty_block; lines = []; subfields = 0; subwidth = 0; size = 0; next = n } ≡ x = cc in
       rw (← j) (record {
         block = empty_block_lem (eqb kind 3);
@@ -132,7 +130,7 @@ module _ (d : List ℕ) (first : ℕ) (long : length d ≤ 1048576) (few : first
         sized = λ h. absurd (omega arith);
       })
 
-  pub rest_good : (kind : ℕ) (t : Reading) (w : ℕ) (x : Telling) → 1 ≤ kind → kind ≤ 5 → 1 ≤ w → rest_of d first kind t w ≡ told.Is x
+  pub rest_good : (kind : ℕ) (t : Read ℕ) (w : ℕ) (x : Telling) → 1 ≤ kind → kind ≤ 5 → 1 ≤ w → rest_of d first kind t w ≡ told.Is x
       → GoodTelling kind first x
   unfolding rest_of
   rest_good kind t w x k m h = by (eqb kind 1) (eqb kind 2) (eqb kind 3) (eqb kind 4) refl refl refl refl where

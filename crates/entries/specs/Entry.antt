@@ -1,16 +1,12 @@
 -- THE CODE'S BOOKS, which contracts inside the library name; crate `bridge` proves them equal to the rule of crate `reading`.
 -- A variable: VARIABLE id, NAME, LABEL, TYPE, POSITION a [TO b], then by type, then END VARIABLE; its width is judged after that.
-use Rattle.std.specs.Prelude.{Bool, cond, List, ℕ, ◌+◌, ◌-◌, ◌*◌, ◌≤◌, ◌≡◌, ℤ, length}
+use Rattle.std.specs.Prelude.{Bool, cond, List, ℕ, ◌+◌, ◌-◌, ◌*◌, ◌≤◌, ◌≡◌, ℤ, length, Ok, Err}
 use Rattle.tokens.specs.declared.Fault.{Fault}
-use Rattle.tokens.specs.declared.Reading.{Reading}
-use Rattle.tokens.specs.declared.Reading.TheVariants.{At, Refused}
-use Rattle.tokens.specs.rule.Gap.{fault}
+use Rattle.tokens.specs.rule.Gap.{fault, Read}
 use Rattle.tokens.specs.Token.{word_on}
 use Rattle.statements.specs.rule.Words.{END, VARIABLE}
 use Rattle.statements.specs.Note.{statement_on}
 use Rattle.variables.specs.declared.Head.{Head}
-use Rattle.variables.specs.declared.Headed.{Headed}
-use Rattle.variables.specs.declared.Headed.TheVariants as headed
 use Rattle.variables.specs.Ident.{ident_on}
 use Rattle.variables.specs.Head.{head_on}
 use Rattle.variables.specs.Rest.{Telling, Told, rest_of}
@@ -20,11 +16,10 @@ use Rattle.cells.specs.rule.Cell.{pasted}
 use Rattle.layout.specs.rule.Layout.{line_size}
 use Rattle.values.specs.Line.{cells_of}
 use Rattle.variables.specs.declared.Rest.{Rest}
-use Rattle.measures.specs.declared.Measured.{Measured}
-use Rattle.measures.specs.declared.Measured.TheVariants as measure
 use Rattle.measures.specs.Width.{measured}
 use Rattle.entries.specs.declared.Stood.{Stood}
 use Rattle.entries.specs.declared.Stood.TheVariants as stood
+use Rattle.measures.specs.declared.Columns.{Columns}
 
 -- a variable, and the place after its END VARIABLE; or a refusal
 pub data Entry : Type 0 where
@@ -34,12 +29,12 @@ pub data Entry : Type 0 where
 abbrev pub variable : Head → Telling → Variable
 variable h x = record { head = h; rest = x }
 
-unfoldable pub end_variable : List ℕ → ℕ → Reading
-end_variable d n = word_on d (statement_on d (At n) END) VARIABLE
+unfoldable pub end_variable : List ℕ → ℕ → Read ℕ
+end_variable d n = word_on d (statement_on d (Ok n) END) VARIABLE
 
-abbrev pub ended : Reading → (ℕ → Entry) → Entry
-ended (At n) k = k n
-ended (Refused f) k = Not f
+abbrev pub ended : Read ℕ → (ℕ → Entry) → Entry
+ended (Ok n) k = k n
+ended (Err f) k = Not f
 
 abbrev pub told_then : Told → (Telling → Entry) → Entry
 told_then (told.Is x) k = k x
@@ -52,16 +47,16 @@ held_by before v n = cond (holds_in before v) (Is v n) (Not (fault 7 v.head.plac
 -- what stands behind the position, where `before` lines stand before its own
 unfoldable pub rest_then : List ℕ → ℕ → Head → Entry
 rest_then d before h =
-    told_then (rest_of d before h.kind (At h.next) (h.finish + 1 - h.start)) λ x.
+    told_then (rest_of d before h.kind (Ok h.next) (h.finish + 1 - h.start)) λ x.
     ended (end_variable d x.next) λ n.
     held_by before (variable h x) n
 
-abbrev pub head_then : Headed → (Head → Entry) → Entry
-head_then (headed.Is h) k = k h
-head_then (headed.Not f) k = Not f
+abbrev pub head_then : Read Head → (Head → Entry) → Entry
+head_then (Ok h) k = k h
+head_then (Err f) k = Not f
 
 -- `met` says of a number whether it is the ident of one of the `count` variables before
-unfoldable pub entry_of : List ℕ → Reading → (ℕ → Bool) → ℕ → ℕ → Entry
+unfoldable pub entry_of : List ℕ → Read ℕ → (ℕ → Bool) → ℕ → ℕ → Entry
 entry_of d t met count before = head_then (head_on d (ident_on d t met count)) (rest_then d before)
 
 -- what is known of the statements before: the type is one of five, the position lies where positions may
@@ -81,10 +76,10 @@ pub record Stored (before : ℕ) (e : Entry) (room end : List ℤ) : Type 0 wher
   pub stored : {v : Variable} {n : ℕ} → e ≡ Is v n → end ≡ pasted room (line_size * before) (cells_of (lines_in v))
 
 -- by the columns and lines in the room
-abbrev pub measured_at : Measured → ℕ → ℕ → Stood
-measured_at (measure.Is c) last n = stood.Is c last n
-measured_at (measure.Not f) last n = stood.Not f
+abbrev pub measured_at : Read Columns → ℕ → ℕ → Stood
+measured_at (Ok c) last n = stood.Is c last n
+measured_at (Err f) last n = stood.Not f
 
-abbrev pub settled_by : (ℕ → ℤ) → Head → Rest → ℕ → Reading → Stood
-settled_by f h r before (At n) = measured_at (measured f h r before) r.last n
-settled_by f h r before (Refused g) = stood.Not g
+abbrev pub settled_by : (ℕ → ℤ) → Head → Rest → ℕ → Read ℕ → Stood
+settled_by f h r before (Ok n) = measured_at (measured f h r before) r.last n
+settled_by f h r before (Err g) = stood.Not g

@@ -12,9 +12,8 @@ ghost use Rattle.entries.specs.Entry.{end_variable, rest_then, entry_of};
 ghost use Rattle.entries.specs.Entry.{settled_by, GoodHead, stood_of, Stored};
 
 use layout::Columns;
-use measures::Measured;
-use tokens::{Fault, Reading};
-use variables::{Head, Headed, Rest, Rested};
+use tokens::{Fault, Read, Read};
+use variables::{Head, Rest};
 
 // A variable that stands: its columns, how many value lines there are then in all, and the place after END VARIABLE.
 #[derive(Clone, Copy)]
@@ -27,32 +26,39 @@ pub enum Stood {
     Not(Fault),
 }
 
-fn end_variable(classes: &[u8; 256], d: &[u8], next: usize) -> Reading
+fn end_variable(classes: &[u8; 256], d: &[u8], next: usize) -> Read<usize>
     requires { Classes classes.now }
     ensures { result ≡ end_variable d.now next }
 {
-    let s = statements::notes_on(classes, d, Reading::At(next));
+    let s = statements::notes_on(classes, d, Ok(next));
     let e = tokens::word_here(classes, d, s, b"END");
     let g = tokens::gap_on(classes, d, e);
     tokens::word_here(classes, d, g, b"VARIABLE")
 }
 
 // Width is judged after END VARIABLE.
-fn settle(powers: &[u64; 16], lines: &[i64], h: Head, r: Rest, before: usize, end: Reading) -> Stood
+fn settle(
+    powers: &[u64; 16],
+    lines: &[i64],
+    h: Head,
+    r: Rest,
+    before: usize,
+    end: Read<usize>,
+) -> Stood
     requires tens { Tens powers.now }
     requires measurable { Measurable lines.now h r before }
     ensures { result ≡ settled_by (number_in lines.now before) h r before end }
 {
     match end {
-        Reading::At(next) => match measures::measure(powers, lines, h, r, before) {
-            Measured::Is(columns) => Stood::Is {
+        Ok(next) => match measures::measure(powers, lines, h, r, before) {
+            Ok(columns) => Stood::Is {
                 columns,
                 last: r.last,
                 next,
             },
-            Measured::Not(f) => Stood::Not(f),
+            Err(f) => Stood::Not(f),
         },
-        Reading::Refused(f) => Stood::Not(f),
+        Err(f) => Stood::Not(f),
     }
 }
 
@@ -81,18 +87,18 @@ fn rest_then(
         classes,
         d,
         h.kind,
-        Reading::At(h.next),
+        Ok(h.next),
         width,
         before,
         lines,
         marks,
         stamp,
     ) {
-        Rested::Is(r) => {
+        Ok(r) => {
             let end = end_variable(classes, d, r.next);
             settle(powers, lines, h, r, before, end)
         }
-        Rested::Not(f) => Stood::Not(f),
+        Err(f) => Stood::Not(f),
     }
 }
 
@@ -101,7 +107,7 @@ pub fn variable_on(
     classes: &[u8; 256],
     powers: &[u64; 16],
     d: &[u8],
-    t: Reading,
+    t: Read<usize>,
     seen: &[u8],
     count: usize,
     before: usize,
@@ -120,7 +126,7 @@ pub fn variable_on(
 {
     let i = variables::ident_on(classes, d, t, seen, count);
     match variables::head_on(classes, d, i) {
-        Headed::Is(h) => rest_then(classes, powers, d, h, before, lines, marks, stamp),
-        Headed::Not(f) => Stood::Not(f),
+        Ok(h) => rest_then(classes, powers, d, h, before, lines, marks, stamp),
+        Err(f) => Stood::Not(f),
     }
 }

@@ -1,4 +1,5 @@
 -- A stretch of the form of a number says digits, one or more; four of them say less than 10,000.
+use Rattle.std.specs.Prelude.{Ok}
 use mathlib.Core.Path.{◌≡◌, refl, ◌∙◌, sym, ap}
 use mathlib.Core.Bool.{Bool, true, false, cond}
 use mathlib.Core.List.{List, [], ◌∷◌}
@@ -18,7 +19,6 @@ use Rattle.spans.specs.declared.Figures.{Figures}
 use Rattle.spans.specs.declared.Figures.TheVariants.{Good, Wrong}
 use Rattle.forms.specs.rule.Form.{fits_of}
 use Rattle.tags.specs.rule.Tag.{stretch_fits}
-use Rattle.tokens.specs.declared.Number.TheVariants as number
 use Rattle.reading.specs.rule.Result.{Is}
 use Rattle.bridge.specs.Tokens.{to_number}
 use Rattle.xml_reading.specs.rule.Element.{said_in, chars_of, figure_of}
@@ -79,7 +79,7 @@ module _ (d : List ℕ) (v e : ℕ) (fits : stretch_fits 1 d v e ≡ true) where
 
   module _ (next : ℕ) (r : Figures) (said : r ≡ figures_of (heard (take (e - v) (drop v d)) 0)) where
     pub figure_good : (size count : ℕ) → r ≡ Good size count
-        → number.Is (record { size = size; count = count; place = v; next = next }) ≡ to_number (Is (figure_of d v e) next)
+        → Ok (record { size = size; count = count; place = v; next = next }) ≡ to_number (Is (figure_of d v e) next)
     unfolding figure_of
     figure_good size count q =
         let t = sym q ∙ said ∙ figures_are in

@@ -1,4 +1,5 @@
 -- `<name>` and `<filter>`: the text, then 52.
+use Rattle.std.specs.Prelude.{Ok, Err}
 use mathlib.Core.Path.{◌≡◌, refl, ◌∙◌, sym, ap}
 use mathlib.Core.Bool.{Bool, true, false, cond}
 use mathlib.Core.List.{List, [], ◌∷◌}
@@ -10,7 +11,6 @@ use borrow.Author.Tests.{eq-eqb, ne_eqb}
 use Rattle.tokens.specs.rule.Gap.{fault}
 use Rattle.tokens.specs.declared.Fault.{Fault}
 use Rattle.tokens.specs.declared.Quoted.{Quoted}
-use Rattle.tokens.specs.declared.Phrase.TheVariants as phrase
 use Rattle.survey.specs.rule.Survey.{KeptText}
 use Rattle.reading.specs.rule.Result.{Is, Not}
 use Rattle.reading.specs.rule.Least.{◌when◌, named, lower, least, judged}
@@ -28,13 +28,13 @@ judged_one f true a n = refl
 judged_one f false a n = refl
 
 module _ (bad latin standard : Bool) (d : List ℕ) (rows : List ℤ) (count p e : ℕ) where
-  pub naming_not : (f : Fault) → text bad d NAME 0 p e ≡ Not f → NamingSaid bad latin standard d rows count p e (phrase.Not f)
+  pub naming_not : (f : Fault) → text bad d NAME 0 p e ≡ Not f → NamingSaid bad latin standard d rows count p e (Err f)
   unfolding naming
   naming_not f g = record { is = λ l r. rw g; inside = omega arith; next = omega arith }
 
   module _ (q : Quoted) (t : TextIs bad d NAME 0 p e q) where
     pub naming_served : ServedSaid latin standard d rows count (text_at q.place q.length) true
-        → NamingSaid bad latin standard d rows count p e (phrase.Not (fault 52 q.place))
+        → NamingSaid bad latin standard d rows count p e (Err (fault 52 q.place))
     unfolding naming
     naming_served s = record {
       is = λ l r. rw (t.reads, ← s.is l r) (ap phrase_of
@@ -44,7 +44,7 @@ module _ (bad latin standard : Bool) (d : List ℕ) (rows : List ℤ) (count p e
     }
 
     pub naming_good : ServedSaid latin standard d rows count (text_at q.place q.length) false
-        → NamingSaid bad latin standard d rows count p e (phrase.Is q)
+        → NamingSaid bad latin standard d rows count p e (Ok q)
     unfolding naming
     naming_good s = record {
       is = λ l r. rw (t.reads, ← s.is l r) (ap phrase_of

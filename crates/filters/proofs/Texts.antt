@@ -1,4 +1,5 @@
 -- A text that was read lies within the file.
+use Rattle.std.specs.Prelude.{Ok, Err}
 use mathlib.Core.Path.{◌≡◌, refl, ◌∙◌, sym}
 use mathlib.Core.Bool.{Bool, true, false}
 use mathlib.Core.List.{List, [], ◌∷◌}
@@ -15,8 +16,6 @@ use Rattle.tags.specs.declared.Tag.TheVariants as tag
 use Rattle.pairs.specs.rule.Stand.{bare_of}
 use Rattle.tokens.specs.declared.Fault.{Fault}
 use Rattle.tokens.specs.declared.Quoted.{Quoted}
-use Rattle.tokens.specs.declared.Phrase.{Phrase}
-use Rattle.tokens.specs.declared.Phrase.TheVariants as phrase
 use Rattle.survey.specs.rule.Survey.{KeptText}
 use Rattle.reading.specs.rule.Result.{Result, Is, Not, Reader, bind}
 use Rattle.reading.specs.rule.Least.{Charge, ◌when◌, judged}
@@ -26,6 +25,7 @@ use Rattle.xml_reading.specs.rule.Element.{Body, body_of, on_content, body, text
 use Rattle.elements.specs.Code.{phrase_of}
 use Rattle.elements.proofs.Bounds.{tag_within, content_within}
 use Rattle.filters.specs.Code.{text_at}
+use Rattle.tokens.specs.rule.Gap.{Read}
 
 -- ---- readers one behind the other
 pub record Bound {A B : Type 0} (r : Result A) (k : A → Reader B) (b : B) (n : ℕ) : Type 0 where
@@ -98,20 +98,20 @@ module _ (bad : Bool) (d : List ℕ) where
     pub inside : q.place + q.length ≤ length d
     pub next : q.next ≤ length d
 
-  phrase_is : (r : Result KeptText) (q : Quoted) → phrase_of r ≡ phrase.Is q → r ≡ Is (text_at q.place q.length) q.next
+  phrase_is : (r : Result KeptText) (q : Quoted) → phrase_of r ≡ Ok q → r ≡ Is (text_at q.place q.length) q.next
   phrase_is (Is t n) q e = let z : record { place = t.place; length = t.length; next = n } ≡ q = cc in rw (← z)
   phrase_is (Not f) q e = never cc
 
-  phrase_not : (r : Result KeptText) (f : Fault) → phrase_of r ≡ phrase.Not f → r ≡ Not f
+  phrase_not : (r : Result KeptText) (f : Fault) → phrase_of r ≡ Err f → r ≡ Not f
   phrase_not (Is t n) f e = never cc
   phrase_not (Not g) f e = cc
 
-  pub text_is : (w : List ℕ) (m p e : ℕ) {r : Phrase} {q : Quoted} → r ≡ phrase_of (text bad d w m p e) → r ≡ phrase.Is q → TextIs w m p e q
+  pub text_is : (w : List ℕ) (m p e : ℕ) {r : Read Quoted} {q : Quoted} → r ≡ phrase_of (text bad d w m p e) → r ≡ Ok q → TextIs w m p e q
   text_is w m p e {q = q} s f =
       let g = phrase_is (text bad d w m p e) q (sym s ∙ f) in
       let l = text_lies w m p e g in
       record { reads = g; inside = l.inside; next = l.next }
 
-  pub text_not : (w : List ℕ) (m p e : ℕ) {r : Phrase} {f : Fault} → r ≡ phrase_of (text bad d w m p e) → r ≡ phrase.Not f
+  pub text_not : (w : List ℕ) (m p e : ℕ) {r : Read Quoted} {f : Fault} → r ≡ phrase_of (text bad d w m p e) → r ≡ Err f
       → text bad d w m p e ≡ Not f
   text_not w m p e {f = f} s g = phrase_not (text bad d w m p e) f (sym s ∙ g)

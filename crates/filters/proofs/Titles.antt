@@ -1,5 +1,6 @@
 -- A variable's start tag, judged: 5 and 8 of its ident, 51, 52 stand in the order of their numbers, so that the first that is met is the
 -- least.
+use Rattle.std.specs.Prelude.{Ok, Err}
 use mathlib.Core.Path.{◌≡◌, refl, ◌∙◌, sym, ap}
 use mathlib.Core.Bool.{Bool, true, false, cond, not, ◌||◌}
 use mathlib.Core.List.{List, [], ◌∷◌, ◌++◌}
@@ -10,10 +11,8 @@ use lib.IntN.{ℤ}
 use lib.ListN.{length}
 use borrow.Author.Tests.{lt-ltb, le-ltb, le-leb, ltb-false}
 use Rattle.scan.specs.Number.{capped}
-use Rattle.tokens.specs.rule.Gap.{fault}
+use Rattle.tokens.specs.rule.Gap.{fault, Read}
 use Rattle.tokens.specs.declared.Figures.{Figures}
-use Rattle.tokens.specs.declared.Number.{Number}
-use Rattle.tokens.specs.declared.Number.TheVariants as number
 use Rattle.tags.specs.rule.Tag.{stretch_fits}
 use Rattle.tags.specs.declared.Held.{Held}
 use Rattle.tags.specs.declared.Tag.{Tag}
@@ -68,7 +67,7 @@ module _ (met : ℕ → Bool) (earlier : List Variable) (knows : (n : ℕ) → m
   abbrev rest : Titled
   rest = cond (not (eqb u 0)) (titled.Not (fault 51 u)) (cond w (titled.Not (fault 52 at)) (to (Is is n)))
 
-  rest_is : titled_by (number.Is (record { size = capped x.value; count = x.digits; place = x.place; next = n })) u w at em q kind usage
+  rest_is : titled_by (Ok (record { size = capped x.value; count = x.digits; place = x.place; next = n })) u w at em q kind usage
       ≡ rest
   rest_is = rw last (by (eqb u 0)) where
     by : (b : Bool) → cond b (cond w (titled.Not (fault 52 at))
@@ -78,7 +77,7 @@ module _ (met : ℕ → Bool) (earlier : List Variable) (knows : (n : ℕ) → m
     by true = refl
     by false = refl
 
-  rest_sized : (s : ℕ) → s ≡ capped x.value → titled_by (number.Is (record { size = s; count = x.digits; place = x.place; next = n })) u
+  rest_sized : (s : ℕ) → s ≡ capped x.value → titled_by (Ok (record { size = s; count = x.digits; place = x.place; next = n })) u
       w at em q kind usage ≡ rest
   rest_sized s e = rw e rest_is
 
@@ -104,8 +103,8 @@ module _ (met : ℕ → Bool) (earlier : List Variable) (knows : (n : ℕ) → m
         rw (e, small h, lt-ltb x.value 10000 (few h), knows x.value)
         (on (eqb x.value 0) (some_of (λ v. eqb v.ident.value x.value) earlier) (leb 512 (length earlier))) where
           on : (z s b : Bool)
-              → titled_by (cond (z || s) (number.Not (fault 5 x.place)) (cond b (number.Not (fault 8 x.place))
-              (number.Is (record { size = x.value; count = x.digits; place = x.place; next = n })))) u w at em q kind usage
+              → titled_by (cond (z || s) (Err (fault 5 x.place)) (cond b (Err (fault 8 x.place))
+              (Ok (record { size = x.value; count = x.digits; place = x.place; next = n })))) u w at em q kind usage
               ≡ cond z five (cond false five (cond s five (cond b (titled.Not (fault 8 x.place)) rest)))
           on true s b = refl
           on false true b = refl
@@ -117,23 +116,23 @@ module _ (met : ℕ → Bool) (earlier : List Variable) (knows : (n : ℕ) → m
   title_judged = chained ∙ chain_least to is n charges charges_rise
 
 -- ---- as the code has it
-abbrev number_next : Number → ℕ
-number_next (number.Is x) = x.next
-number_next (number.Not f) = 0
+abbrev number_next : Read Figures → ℕ
+number_next (Ok x) = x.next
+number_next (Err f) = 0
 
-judged_next : (met : ℕ → Bool) (count : ℕ) (x : Figures) → number_next (judge_ident met count (number.Is x)) ≤ x.next
+judged_next : (met : ℕ → Bool) (count : ℕ) (x : Figures) → number_next (judge_ident met count (Ok x)) ≤ x.next
 unfolding judge_ident
 judged_next met count x = by (wrong_ident met x) (leb 512 count) where
-  by : (a b : Bool) → number_next (cond a (number.Not (fault 5 x.place)) (cond b (number.Not (fault 8 x.place)) (number.Is x)))
+  by : (a b : Bool) → number_next (cond a (Err (fault 5 x.place)) (cond b (Err (fault 8 x.place)) (Ok x)))
       ≤ x.next
   by true b = omega arith
   by false true = omega arith
   by false false = omega arith
 
-titled_next_lem : (i : Number) (u : ℕ) (w : Bool) (at : ℕ) (em : Bool) (q kind usage m : ℕ) → number_next i ≤ m
+titled_next_lem : (i : Read Figures) (u : ℕ) (w : Bool) (at : ℕ) (em : Bool) (q kind usage m : ℕ) → number_next i ≤ m
     → titled_next (titled_by i u w at em q kind usage) ≤ m
-titled_next_lem (number.Not f) u w at em q kind usage m h = omega arith
-titled_next_lem (number.Is x) u w at em q kind usage m h = by (eqb u 0) w em where
+titled_next_lem (Err f) u w at em q kind usage m h = omega arith
+titled_next_lem (Ok x) u w at em q kind usage m h = by (eqb u 0) w em where
   by : (a b c : Bool) → titled_next (cond a (cond b (titled.Not (fault 52 at))
       (cond c (titled.Not (fault 2 q)) (titled.Is x.size kind usage x.next))) (titled.Not (fault 51 u))) ≤ m
   by true true c = omega arith
@@ -168,7 +167,7 @@ module _ (bad : Bool) (d : List ℕ) (old : Bool) (seen : List ℕ) (rows : List
     unfolding title
     title_read w u = record {
       is = said;
-      next = titled_next_lem (judge_ident (marked seen) count (number.Is figures)) h.unknown w h.c em q
+      next = titled_next_lem (judge_ident (marked seen) count (Ok figures)) h.unknown w h.c em q
           (type_at d h.b h.be) (use_at d h.c h.ce) (length d) (omega (arith, judged_next (marked seen) count figures));
     } where
       x : Figure

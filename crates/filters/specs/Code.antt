@@ -1,6 +1,6 @@
 -- What the code answers, by the rule of crate `xml_reading`: names sign by sign, and what is asked of the rows of the variables before, for
 -- whatever variables the room holds.
-use Rattle.std.specs.Prelude.{◌≡◌, Bool, false, cond, not, ◌&&◌, List, [], ℕ, ◌+◌, ◌-◌, ◌*◌, ◌≤◌, ◌<◌, eqb, ltb, ℤ, length, take}
+use Rattle.std.specs.Prelude.{◌≡◌, Bool, false, cond, not, ◌&&◌, List, [], ℕ, ◌+◌, ◌-◌, ◌*◌, ◌≤◌, ◌<◌, eqb, ltb, ℤ, length, take, Ok, Err}
 use Rattle.cells.specs.rule.Cell.{cell, count_of}
 use Rattle.layout.specs.rule.Layout.{row_size, most_rows}
 use Rattle.signs.specs.declared.Sign.{Sign}
@@ -10,11 +10,7 @@ use Rattle.contents.specs.declared.Cursor.{Cursor}
 use Rattle.scan.specs.Number.{capped}
 use Rattle.tags.specs.rule.Tag.{tag_of}
 use Rattle.tags.specs.declared.Tag.{Tag}
-use Rattle.tokens.specs.rule.Gap.{fault}
-use Rattle.tokens.specs.declared.Number.{Number}
-use Rattle.tokens.specs.declared.Number.TheVariants as number
-use Rattle.tokens.specs.declared.Phrase.{Phrase}
-use Rattle.tokens.specs.declared.Phrase.TheVariants as phrase
+use Rattle.tokens.specs.rule.Gap.{fault, Read}
 use Rattle.variables.specs.Ident.{marked}
 use Rattle.survey.specs.rule.Survey.{KeptText}
 use Rattle.survey.specs.rule.Width.{some_of}
@@ -32,6 +28,8 @@ use Rattle.filters.specs.declared.Lead.{Lead}
 use Rattle.filters.specs.declared.Lead.TheVariants as lead
 use Rattle.filters.specs.declared.Met.{Met}
 use Rattle.filters.specs.declared.Met.TheVariants as met
+use Rattle.tokens.specs.declared.Figures.{Figures}
+use Rattle.tokens.specs.declared.Quoted.{Quoted}
 
 abbrev pub text_at : ℕ → ℕ → KeptText
 text_at p n = record { place = p; length = n }
@@ -146,25 +144,25 @@ abbrev pub title_tag : Bool → List ℕ → Bool → ℕ → ℕ → Tag
 title_tag bad d old p e = tag_of bad d p e IDENT TYPE (cond old [] USE) 1 4 (cond old 0 5) 2
 
 -- by its judged ident, the place of an unknown attribute, whether the use at a place is wrong, and whether it is `/>` at q
-abbrev pub titled_by : Number → ℕ → Bool → ℕ → Bool → ℕ → ℕ → ℕ → Titled
-titled_by (number.Is x) u w at em q kind usage =
+abbrev pub titled_by : Read Figures → ℕ → Bool → ℕ → Bool → ℕ → ℕ → ℕ → Titled
+titled_by (Ok x) u w at em q kind usage =
     cond (eqb u 0)
     (cond w (titled.Not (fault 52 at)) (cond em (titled.Not (fault 2 q)) (titled.Is x.size kind usage x.next)))
     (titled.Not (fault 51 u))
-titled_by (number.Not f) u w at em q kind usage = titled.Not f
+titled_by (Err f) u w at em q kind usage = titled.Not f
 
 pub record TitleSaid (bad : Bool) (d : List ℕ) (old : Bool) (seen : List ℕ) (rows : List ℤ) (count p e : ℕ) (r : Titled) : Type 0 where
   pub is : (l : List XmlEntry) → RowsOf rows count l → Idents seen l → r ≡ titled_of (title bad d old l p e)
   pub next : titled_next r ≤ length d
 
 -- ---- names and filters
-abbrev pub phrase_end : Phrase → ℕ
-phrase_end (phrase.Is q) = q.place + q.length
-phrase_end (phrase.Not f) = 0
+abbrev pub phrase_end : Read Quoted → ℕ
+phrase_end (Ok q) = q.place + q.length
+phrase_end (Err f) = 0
 
-abbrev pub phrase_next : Phrase → ℕ
-phrase_next (phrase.Is q) = q.next
-phrase_next (phrase.Not f) = 0
+abbrev pub phrase_next : Read Quoted → ℕ
+phrase_next (Ok q) = q.next
+phrase_next (Err f) = 0
 
 abbrev pub filtered_of : Result ℕ → Filtered
 filtered_of (Is f n) = filtered.Is f n
@@ -175,7 +173,7 @@ filtered_next (filtered.Is f n) = n
 filtered_next (filtered.Not f) = 0
 
 module _ (bad latin standard : Bool) (d : List ℕ) (rows : List ℤ) (count : ℕ) where
-  pub record NamingSaid (p e : ℕ) (r : Phrase) : Type 0 where
+  pub record NamingSaid (p e : ℕ) (r : Read Quoted) : Type 0 where
     pub is : (l : List XmlEntry) → RowsOf rows count l → r ≡ phrase_of (naming bad d latin standard l p e)
     pub inside : phrase_end r ≤ length d
     pub next : phrase_next r ≤ length d

@@ -22,7 +22,7 @@ use contents::{Cursor, Part};
 use layout::{Header, Row};
 use signs::Sign;
 use tags::Tag;
-use tokens::{Fault, Figures, Number, Phrase};
+use tokens::{Fault, Figures, Read};
 
 // ---- names, sign by sign
 fn same_byte(standard: bool, b: u8, c: u8) -> bool
@@ -568,18 +568,18 @@ fn read_title(bad: bool, d: &[u8], place: usize, end: usize, old: bool) -> Tag
 }
 
 // The number that a stretch of that form says.
-fn figure_at(d: &[u8], v: usize, e: usize, next: usize) -> Number
+fn figure_at(d: &[u8], v: usize, e: usize, next: usize) -> Read<Figures>
     requires { (v ≤ e) × (e ≤ length d.now) × (stretch_fits 1 d.now v e ≡ true) }
     ensures { result ≡ to_number (Is (figure_of d.now v e) next) }
 {
     match spans::figures_in(&d[v..e]) {
-        spans::Figures::Good { size, count } => Number::Is(Figures {
+        spans::Figures::Good { size, count } => Ok(Figures {
             size,
             count,
             place: v,
             next,
         }),
-        spans::Figures::Wrong => Number::Not(Fault {
+        spans::Figures::Wrong => Err(Fault {
             number: 2,
             place: v,
         }),
@@ -605,7 +605,7 @@ fn use_at(d: &[u8], v: usize, e: usize) -> usize
 
 // 5 and 8, then 51, then 52; then 2 at `/>`, since something was due inside.
 fn judge_title(
-    i: Number,
+    i: Read<Figures>,
     unknown: usize,
     wrong: bool,
     at: usize,
@@ -617,7 +617,7 @@ fn judge_title(
     ensures { result ≡ titled_by i unknown wrong at empty place kind usage }
 {
     match i {
-        Number::Is(x) => {
+        Ok(x) => {
             if unknown != 0 {
                 return Titled::Not(Fault {
                     number: 51,
@@ -640,7 +640,7 @@ fn judge_title(
                 next: x.next,
             }
         }
-        Number::Not(f) => Titled::Not(f),
+        Err(f) => Titled::Not(f),
     }
 }
 
@@ -690,22 +690,22 @@ pub fn naming_at(
     place: usize,
     end: usize,
     sums: &[u16],
-) -> Phrase
+) -> Read<Quoted>
     requires known { Known latin d.now rows.now count sums.now }
     requires end_in_bounds { end ≤ length d.now }
     ensures { NamingSaid bad latin standard d.now rows.now count place end result }
 {
     match elements::text_at(bad, d, place, end, b"name", 0) {
-        Phrase::Is(t) => {
+        Ok(t) => {
             if has_served(latin, standard, d, rows, count, t.place, t.length, sums) {
-                return Phrase::Not(Fault {
+                return Err(Fault {
                     number: 52,
                     place: t.place,
                 });
             }
-            Phrase::Is(t)
+            Ok(t)
         }
-        Phrase::Not(f) => Phrase::Not(f),
+        Err(f) => Err(f),
     }
 }
 
@@ -736,7 +736,7 @@ pub fn filter_at(
     ensures { FilteringSaid bad latin standard d.now rows.now count (text_at q m) usage place end result }
 {
     match elements::text_at(bad, d, place, end, b"filter", 0) {
-        Phrase::Is(t) => {
+        Ok(t) => {
             let filter = find_filter(
                 latin, standard, d, rows, count, q, m, usage, t.place, t.length, sums,
             );
@@ -751,7 +751,7 @@ pub fn filter_at(
                 next: t.next,
             }
         }
-        Phrase::Not(f) => Filtered::Not(f),
+        Err(f) => Filtered::Not(f),
     }
 }
 

@@ -1,5 +1,5 @@
 -- THE WHOLE: what is sent of a definition that the grammar derives is the clean text of its survey.
-use Rattle.std.specs.Prelude.{◌≡◌, Bool, cond, ℕ, ◌+◌, ◌≤◌, ◌<◌, length}
+use Rattle.std.specs.Prelude.{◌≡◌, Bool, cond, ℕ, ◌+◌, ◌≤◌, ◌<◌, length, Ok}
 use Rattle.std.proofs.Math.Path.{refl, sym, ap}
 use Rattle.std.proofs.Common.{◌∙◌}
 use Rattle.std.proofs.Math.Bool.{true, false}
@@ -8,7 +8,6 @@ use Rattle.std.proofs.Math.Option.{Option}
 use native.Mathlib.Omega.{arith}
 use Rattle.scan.specs.Text.{step_of}
 use Rattle.scan.specs.Word.{capitals}
-use Rattle.tokens.specs.declared.Reading.TheVariants.{At}
 use Rattle.token_laws.specs.Opening.{one_one, sss, version, opening_exactly}
 use Rattle.statements.specs.rule.Words.{NOTE, SSS, VERSION, ONE-ONE, DATE, TIME, ORIGIN, USER, SURVEY, TITLE, RECORD, END}
 use Rattle.survey.specs.rule.Survey.{KeptText, Variable, Survey}
@@ -53,7 +52,7 @@ module _ (d : List ℕ) where
   unfolding opening_past place_in
   opening_past_lem {m} (says.opening h s w r x) =
       let c = run_there x in
-      rw ((opening_exactly d (At m)).1 (rw c.0 at (one_one (version (sss h) s w) r c.1)))
+      rw ((opening_exactly d (Ok m)).1 (rw c.0 at (one_one (version (sss h) s w) r c.1)))
 
   -- ---- lines that may be absent
   quoted_words : (w t : List ℕ) → (w ++ 32 ∷ 34 ∷ []) ++ (t ++ (34 ∷ 13 ∷ 10 ∷ [])) ≡ line_of (w ∷ (34 ∷ t ++ 34 ∷ []) ∷ [])

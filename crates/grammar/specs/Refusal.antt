@@ -2,13 +2,12 @@
 -- was
 -- due does not stand there (2 at the first kept byte behind the gap, or at the length), a string or comment is bad (3), or a statement
 -- that was read whole has a fault (4 to 8), of which the least is named.
-use Rattle.std.specs.Prelude.{◌≡◌, Bool, true, false, List, [], ◌∷◌, ◌++◌, ℕ, ◌+◌}
+use Rattle.std.specs.Prelude.{◌≡◌, Bool, true, false, List, [], ◌∷◌, ◌++◌, ℕ, ◌+◌, Err}
 use Rattle.std.proofs.Math.Option.{Option, none, some, get_or}
 use Rattle.ascii.specs.rule.Class.{class_of}
 use Rattle.scan.specs.rule.Text.{sign, text}
 use Rattle.scan.specs.rule.Number.{is_digit, is_value}
 use Rattle.tokens.specs.declared.Fault.{Fault}
-use Rattle.tokens.specs.declared.Reading.TheVariants.{Refused}
 use Rattle.tokens.specs.rule.Gap.{fault}
 use Rattle.token_laws.specs.Comments.{StringOpen, StringBad}
 use Rattle.token_laws.specs.Gaps.{Behind}
@@ -72,7 +71,7 @@ module _ (d : List ℕ) where
   -- ---- tokens
   -- "3 .. comment unclosed .. level 33 .. of marks unclosed at the end the outermost"
   abbrev pub GapStops : ℕ → Fault → Type 0
-  GapStops n f = Behind d n (Refused f)
+  GapStops n f = Behind d n (Err f)
 
   abbrev pub HereStops : List ℕ → ℕ → Fault → Type 0
   HereStops w n = Due (NoWord d w n) n
@@ -304,7 +303,7 @@ module _ (d : List ℕ) where
   -- ---- the whole
   -- "2" where SSS, VERSION or a run was due, "4 version not 1.1"
   abbrev pub OpeningStops : Fault → Type 0
-  OpeningStops f = Opens d (Refused f)
+  OpeningStops f = Opens d (Err f)
 
   abbrev pub FrontStops : Fault → Type 0
   FrontStops =

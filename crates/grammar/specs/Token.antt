@@ -1,6 +1,6 @@
 -- TOKENS, over the file d by places: from n on stands the thing, and m is the place behind it. "Letter case of keywords and parameters is
 -- not significant. Tokens need no space between .. No space within a keyword or number." Bytes below 32 are not there (`text`).
-use Rattle.std.specs.Prelude.{◌≡◌, Bool, true, false, List, [], ◌∷◌, ℕ, ◌+◌, ◌-◌, length}
+use Rattle.std.specs.Prelude.{◌≡◌, Bool, true, false, List, [], ◌∷◌, ℕ, ◌+◌, ◌-◌, length, Ok}
 use Rattle.std.proofs.Math.Option.{Option, none, some}
 use Rattle.ascii.specs.rule.Class.{class_of}
 use Rattle.scan.specs.rule.Text.{stop, sign, text}
@@ -9,7 +9,6 @@ use Rattle.scan.specs.rule.Number.{is_digit, is_value, decimal_of}
 use Rattle.scan.specs.Word.{Written}
 use Rattle.signs.specs.declared.Sign.{Sign}
 use Rattle.marks.specs.Spelling.{Spelt}
-use Rattle.tokens.specs.declared.Reading.TheVariants.{At}
 use Rattle.token_laws.specs.Gaps.{Behind}
 use Rattle.statements.specs.rule.Words.{NOTE, END}
 use Rattle.survey.specs.rule.Survey.{Figure, Amount, KeptText}
@@ -17,7 +16,7 @@ use Rattle.reading.specs.rule.Token.{amount_read}
 
 -- ---- gaps: spaces and whole comments, as long as there are any. At m stands the byte behind them, or the end
 abbrev pub Gap : List ℕ → ℕ → ℕ → Type 0
-Gap d n m = Behind d n (At m)
+Gap d n m = Behind d n (Ok m)
 
 -- ---- words: the letters of w right here, each in either case; none of that
 abbrev pub Here : List ℕ → List ℕ → ℕ → ℕ → Type 0

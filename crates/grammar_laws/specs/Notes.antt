@@ -1,5 +1,5 @@
 -- Notes, and a statement's word behind them, both ways.
-use Rattle.std.specs.Prelude.{◌≡◌, refl, true, List, [], ◌∷◌, length}
+use Rattle.std.specs.Prelude.{◌≡◌, refl, true, List, [], ◌∷◌, length, Ok, Err}
 use Rattle.std.proofs.Common.{sym, ◌∙◌}
 use Prim.Native.Nat.{ℕ, zero, suc, ◌+◌, ◌-◌, ◌≤◌, ◌<◌}
 use native.Mathlib.Omega.{arith}
@@ -15,9 +15,7 @@ use Rattle.marks.specs.declared.Inside.TheVariants.{Plain}
 use Rattle.marks.proofs.Complete.{string_complete}
 use Rattle.marks.proofs.Levels.{ahead, string_ahead}
 use Rattle.tokens.specs.declared.Fault.{Fault}
-use Rattle.tokens.specs.declared.Reading.{Reading}
-use Rattle.tokens.specs.declared.Reading.TheVariants.{At, Refused}
-use Rattle.tokens.specs.rule.Gap.{gap_at}
+use Rattle.tokens.specs.rule.Gap.{gap_at, Read}
 use Rattle.tokens.specs.Gap.{left}
 use Rattle.tokens.specs.Token.{choice_of}
 use Rattle.tokens.proofs.Aheads.{taken_less}
@@ -46,7 +44,7 @@ module _ (d : List ℕ) where
   -- ---- tokens lead on
   pub word_less : (n : ℕ) {m : ℕ} (x : ℕ) (w : List ℕ) → word_at d n (x ∷ w) ≡ spelled.Matched m → length d - m < length d - n
   unfolding choice_of left
-  word_less n {m} x w e = let l = taken_less d (At n) x w {m = m} (rw e) in omega arith
+  word_less n {m} x w e = let l = taken_less d (Ok n) x w {m = m} (rw e) in omega arith
 
   pub string_rises : {n m : ℕ} {t : KeptText} → String d n t m → n ≤ m
   string_rises {n} (token.string {k = k} {p = p} {m = m} g e s) =
@@ -68,10 +66,10 @@ module _ (d : List ℕ) where
 
   again_gap : (g n : ℕ) → bind (bind (gap d n) λ a m. Is (Again (tt {0})) m) (turn (repeat g (note d))) ≡ turns g n
   again_gap g n = by (gap_at d n) where
-    by : (t : Reading) → bind (bind (passed t) λ a m. Is (Again (tt {0})) m) (turn (repeat g (note d))) ≡ bind (passed t) λ u. repeat g
+    by : (t : Read ℕ) → bind (bind (passed t) λ a m. Is (Again (tt {0})) m) (turn (repeat g (note d))) ≡ bind (passed t) λ u. repeat g
         (note d) tt
-    by (At m) = refl
-    by (Refused f) = refl
+    by (Ok m) = refl
+    by (Err f) = refl
 
   next_enough : {g p k j : ℕ} {t : KeptText} → length d - p < suc g → Here d NOTE p k → String d k t j → Enough g j
   next_enough {p = p} {k = k} {j = j} l h s q g' =

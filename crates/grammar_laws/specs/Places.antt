@@ -1,5 +1,5 @@
 -- Places: a gap ends where it stands, and two gaps are one; words that differ in a letter are not written at one place.
-use Rattle.std.specs.Prelude.{◌≡◌, Bool, cond, List, [], ◌∷◌, length, get_or}
+use Rattle.std.specs.Prelude.{◌≡◌, Bool, cond, List, [], ◌∷◌, length, get_or, Ok}
 use Rattle.std.proofs.Math.Path.{refl}
 use Rattle.std.proofs.Common.{sym, ◌∙◌, arith}
 use Rattle.std.proofs.Math.Bool.{true, false}
@@ -12,7 +12,6 @@ use Rattle.scan.specs.rule.Word.{word_of, word_at}
 use Rattle.scan.specs.Word.{capitals}
 use Rattle.scan.specs.declared.Word.TheVariants.{Matched, Not}
 use Rattle.scan.proofs.Texts.{text_end, text_dropped, text_kept}
-use Rattle.tokens.specs.declared.Reading.TheVariants.{At}
 use Rattle.tokens.specs.rule.Gap.{gap_at}
 use Rattle.token_laws.specs.Gaps.{none, token, ended, gap_exactly}
 use Rattle.bridge.specs.Lowest.{never}
@@ -54,8 +53,8 @@ module _ (d : List ℕ) where
     by (byte e f h) = token none e f h
     by (end e) = ended none e
 
-  pub gap_there : {n m : ℕ} → Gap d n m → gap_at d n ≡ At m
-  gap_there {n} {m} g = (gap_exactly d n (At m)).1 g
+  pub gap_there : {n m : ℕ} → Gap d n m → gap_at d n ≡ Ok m
+  gap_there {n} {m} g = (gap_exactly d n (Ok m)).1 g
 
   pub gap_same : {n p q : ℕ} → Gap d n p → Gap d n q → p ≡ q
   gap_same g h = let e = sym (gap_there g) ∙ gap_there h in cc

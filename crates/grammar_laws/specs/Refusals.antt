@@ -1,7 +1,7 @@
 -- "Numbers 2 to 9 come with the first byte of the token or opening mark at fault (file length at the end)": what a refusal of 2 to 8 says
 -- of
 -- the text, in words, for every definition.
-use Rattle.std.specs.Prelude.{◌≡◌, Bool, true, false, cond, List, [], ◌∷◌, ℕ, zero, suc, ◌+◌, ◌-◌, ◌≤◌, ◌<◌, eqb, ltb, length, get_or}
+use Rattle.std.specs.Prelude.{◌≡◌, Bool, true, false, cond, List, [], ◌∷◌, ℕ, zero, suc, ◌+◌, ◌-◌, ◌≤◌, ◌<◌, eqb, ltb, length, get_or, Err}
 use Rattle.std.proofs.Math.Path.{refl}
 use Rattle.std.proofs.Common.{sym, ◌∙◌, arith, eqb-true, ltb-true, ltb-false}
 use Rattle.std.proofs.Math.Option
@@ -12,7 +12,6 @@ use Rattle.scan.specs.rule.Text.{Text, stop, sign, text, place_of}
 use Rattle.scan.specs.rule.Number.{is_value, run_bytes}
 use Rattle.scan.proofs.Texts.{From, at_stop, at_sign, from_text, text_end, text_dropped, text_kept}
 use Rattle.tokens.specs.declared.Fault.{Fault}
-use Rattle.tokens.specs.declared.Reading.TheVariants.{Refused}
 use Rattle.tokens.specs.rule.Gap.{fault}
 use Rattle.token_laws.specs.Comments.{StringOpen, StringBad, Unended, Faulty}
 use Rattle.token_laws.specs.Gaps.{Behind, outermost}
@@ -176,7 +175,7 @@ module _ (d : List ℕ) where
   -- ---- tokens
   gap_placed : (n : ℕ) (f : Fault) → GapStops d n f → Placed f
   gap_placed n f z = by z where
-    by : {f : Fault} → Behind d n (Refused f) → Placed f
+    by : {f : Fault} → Behind d n (Err f) → Placed f
     by (outermost {n = k} {p = p} g e u) = comment_open (stands_at k e) u
     by (gaps.inside {n = k} {p = p} g e u) = comment_bad p (stands_at k e) u
 
@@ -320,7 +319,7 @@ module _ (d : List ℕ) where
   -- ---- the whole
   opening_placed : (f : Fault) → OpeningStops d f → Placed f
   opening_placed f z = by z where
-    by : {f : Fault} → Opens d (Refused f) → Placed f
+    by : {f : Fault} → Opens d (Err f) → Placed f
     by (sss_due n) = due_here (place_standing 0)
     by (version_due b s n) = due_here (spaces_standing s)
     by (run_due b s n) = due_here (spaces_standing s)

@@ -1,5 +1,5 @@
 -- Tokens, notes and a statement's word: what the rule answers is what the grammar has, a derivation or where it stops, both ways.
-use Rattle.std.specs.Prelude.{◌≡◌, refl, Bool, true, false, cond, ℕ, ◌+◌, eqb, length}
+use Rattle.std.specs.Prelude.{◌≡◌, refl, Bool, true, false, cond, ℕ, ◌+◌, eqb, length, Ok, Err}
 use Rattle.std.proofs.Math.Path.{sym}
 use Rattle.std.proofs.Common.{◌∙◌, ap, arith}
 use mathlib.Core.List.{List, [], ◌∷◌}
@@ -22,9 +22,7 @@ use Rattle.marks.proofs.Complete.{string_complete}
 use Rattle.marks.proofs.Spellings.{string_exactly}
 use Rattle.marks.proofs.Endings.{bad_at_exactly, unclosed_exactly}
 use Rattle.tokens.specs.declared.Fault.{Fault}
-use Rattle.tokens.specs.declared.Reading.{Reading}
-use Rattle.tokens.specs.declared.Reading.TheVariants.{At, Refused}
-use Rattle.tokens.specs.rule.Gap.{fault, gap_at}
+use Rattle.tokens.specs.rule.Gap.{fault, gap_at, Read}
 use Rattle.token_laws.specs.Gaps.{gap_exactly}
 use Rattle.survey.specs.rule.Survey.{Figure, Amount, KeptText}
 use Rattle.reading.specs.rule.Result.{Result, Is, Not, Reader, bind, give}
@@ -69,15 +67,15 @@ module _ (d : List ℕ) where
   -- ---- gaps
   pub gap_view : (n : ℕ) → View (only (Gap d n)) (GapStops d n) (gap d n)
   gap_view n = by (gap_at d n) refl where
-    by : (t : Reading) → gap_at d n ≡ t → View (only (Gap d n)) (GapStops d n) (passed t)
-    by (At m) e = reads ((gap_exactly d n (At m)).0 e)
-    by (Refused f) e = halts ((gap_exactly d n (Refused f)).0 e)
+    by : (t : Read ℕ) → gap_at d n ≡ t → View (only (Gap d n)) (GapStops d n) (passed t)
+    by (Ok m) e = reads ((gap_exactly d n (Ok m)).0 e)
+    by (Err f) e = halts ((gap_exactly d n (Err f)).0 e)
 
   pub gap_is : {n m : ℕ} → Gap d n m → gap d n ≡ Is tt m
   gap_is g = rw (gap_there d g)
 
   pub gap_not : {n : ℕ} {f : Fault} → GapStops d n f → gap d n ≡ Not f
-  gap_not {n} {f} g = rw ((gap_exactly d n (Refused f)).1 g)
+  gap_not {n} {f} g = rw ((gap_exactly d n (Err f)).1 g)
 
   -- ---- words
   module _ {w : List ℕ} (c : capitals w ≡ true) where

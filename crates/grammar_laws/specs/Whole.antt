@@ -1,5 +1,5 @@
 -- A DEFINITION IS READ EXACTLY AS THE GRAMMAR DERIVES IT, and refused exactly where a beginning of a derivation stops.
-use Rattle.std.specs.Prelude.{◌↔◌, ◌≡◌, List, [], ℕ, suc, length}
+use Rattle.std.specs.Prelude.{◌↔◌, ◌≡◌, List, [], ℕ, suc, length, Ok, Err}
 use Rattle.std.proofs.Math.Path.{refl}
 use Rattle.std.proofs.Common.{sym, ◌∙◌}
 use Rattle.std.proofs.Math.Option.{Option, none, some}
@@ -7,7 +7,6 @@ use Rattle.scan.specs.rule.Text.{text, place_of}
 use Rattle.scan.specs.rule.Number.{is_value}
 use Rattle.scan.specs.Word.{capitals}
 use Rattle.tokens.specs.declared.Fault.{Fault}
-use Rattle.tokens.specs.declared.Reading.TheVariants.{At, Refused}
 use Rattle.token_laws.specs.Opening.{Opens, one_one, sss, version, opening_exactly}
 use Rattle.statements.specs.rule.Words.{SURVEY, TITLE, RECORD, SSS, END}
 use Rattle.survey.specs.rule.Survey.{KeptText, Variable, Heading, Survey}
@@ -48,10 +47,10 @@ module _ (d : List ℕ) where
   start = place_of (text d 0)
 
   -- ---- the opening
-  opened : {m : ℕ} → Opens d (At m) → Opening d m
+  opened : {m : ℕ} → Opens d (Ok m) → Opening d m
   opened (one_one {p = p} (version (sss h) s w) r e) = grammar.opening h s w r (rw e at (run_read is_value p (text d p)))
 
-  opens : {m : ℕ} → Opening d m → Opens d (At m)
+  opens : {m : ℕ} → Opening d m → Opens d (Ok m)
   opens (grammar.opening h s w r x) = let c = run_there x in rw c.0 at (one_one (version (sss h) s w) r c.1)
 
   opening_view : View (only (Opening d)) (OpeningStops d) (rule.opening d start)
@@ -61,14 +60,14 @@ module _ (d : List ℕ) where
     by (Not f) o = halts o
 
   opening_is : {m : ℕ} → Opening d m → rule.opening d start ≡ Is tt m
-  opening_is {m} o = by (rule.opening d start) (sym (opening_on d) ∙ (opening_exactly d (At m)).1 (opens o)) where
-    by : (r : Result Unit) → to_reading r ≡ At m → r ≡ Is tt m
+  opening_is {m} o = by (rule.opening d start) (sym (opening_on d) ∙ (opening_exactly d (Ok m)).1 (opens o)) where
+    by : (r : Result Unit) → to_reading r ≡ Ok m → r ≡ Is tt m
     by (Is u k) e = let q : k ≡ m = cc in rw q
     by (Not f) e = never cc
 
   opening_halted : {f : Fault} → OpeningStops d f → rule.opening d start ≡ Not f
-  opening_halted {f} o = by (rule.opening d start) (sym (opening_on d) ∙ (opening_exactly d (Refused f)).1 o) where
-    by : (r : Result Unit) → to_reading r ≡ Refused f → r ≡ Not f
+  opening_halted {f} o = by (rule.opening d start) (sym (opening_on d) ∙ (opening_exactly d (Err f)).1 o) where
+    by : (r : Result Unit) → to_reading r ≡ Err f → r ≡ Not f
     by (Is u k) e = never cc
     by (Not g) e = let q : g ≡ f = cc in rw q
 

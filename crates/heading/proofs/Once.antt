@@ -1,5 +1,6 @@
 -- DATE, TIME, ORIGIN, USER, STANDARD NAMES, each at most once: the code knows a text that was given by the place behind it, and that place
 -- is 0 exactly where the statement was not given. So a statement is read where it was not given before, and is 2 at its word where it was.
+use Rattle.std.specs.Prelude.{Ok, Err}
 use mathlib.Core.Path.{◌≡◌, refl}
 use mathlib.Core.Bool.{Bool, true, false, cond, not, ◌||◌}
 use mathlib.Core.List.{List}
@@ -9,14 +10,10 @@ use lib.Dec.{eqb}
 use borrow.Author.Tests.{ne_eqb}
 use Rattle.scan.specs.rule.Loop.{Again, loop_of}
 use Rattle.tokens.specs.declared.Fault.{Fault}
-use Rattle.tokens.specs.declared.Reading.{Reading}
-use Rattle.tokens.specs.declared.Reading.TheVariants.{At, Refused}
 use Rattle.tokens.specs.declared.Quoted.{Quoted}
-use Rattle.tokens.specs.declared.Phrase.{Phrase}
-use Rattle.tokens.specs.declared.Phrase.TheVariants.{Is, Not}
 use Rattle.tokens.specs.declared.Choice.{Choice}
 use Rattle.tokens.specs.declared.Choice.TheVariants.{Taken, Left}
-use Rattle.tokens.specs.rule.Gap.{fault}
+use Rattle.tokens.specs.rule.Gap.{fault, Read}
 use Rattle.tokens.specs.Gap.{gap_on, left}
 use Rattle.tokens.specs.Token.{choice_of, string_on, past_string, word_on}
 use Rattle.tokens.proofs.Aheads.{string_next}
@@ -31,11 +28,11 @@ use Rattle.heading.specs.Heading.{no_heading, entered, entry_step}
 use Rattle.heading.specs.Given.{given, Reached, none, text, names, Onward, on, over}
 
 -- a text that was read has a place behind it
-once_next : (d : List ℕ) (q : Quoted) (t : Reading) (m : ℕ) (x : Quoted) → once_of d q t m ≡ Is x → 2 ≤ x.next
+once_next : (d : List ℕ) (q : Quoted) (t : Read ℕ) (m : ℕ) (x : Quoted) → once_of d q t m ≡ Ok x → 2 ≤ x.next
 unfolding once_of
 once_next d q t m x = by (eqb q.next 0) where
-  by : (y : Bool) → cond y (string_on d (At m)) (string_on d (again t)) ≡ Is x → 2 ≤ x.next
-  by true e = string_next d (At m) x e
+  by : (y : Bool) → cond y (string_on d (Ok m)) (string_on d (again t)) ≡ Ok x → 2 ≤ x.next
+  by true e = string_next d (Ok m) x e
   by false e = string_next d (again t) x e
 
 to_three : (P : ℕ → Type 0) → P 0 → P 1 → P 2 → P 3 → (k : ℕ) → k ≤ 3 → P k
@@ -90,20 +87,20 @@ module _ (d : List ℕ) where
 
   module _ {s : List ℕ} {h : Heading} (r : Reached d s h) where
     -- a text that was not given before is read; a second one is 2 at its word, whatever follows it
-    pub text_first : (k m : ℕ) (t : Reading) → k ≤ 3 → given k s ≡ false → once_of d (text_at h k) t m ≡ string_on d (At m)
+    pub text_first : (k m : ℕ) (t : Read ℕ) → k ≤ 3 → given k s ≡ false → once_of d (text_at h k) t m ≡ string_on d (Ok m)
     unfolding once_of
     text_first k m t l e = rw (given_next r k l, e)
 
-    pub text_second : (k m n : ℕ) → k ≤ 3 → given k s ≡ true → once_of d (text_at h k) (At n) m ≡ Not (fault 2 n)
+    pub text_second : (k m n : ℕ) → k ≤ 3 → given k s ≡ true → once_of d (text_at h k) (Ok n) m ≡ Err (fault 2 n)
     unfolding once_of again string_on gap_on
     text_second k m n l e = rw (given_next r k l, e)
 
     -- and so is STANDARD NAMES
-    pub names_first : (m : ℕ) (t : Reading) → given 4 s ≡ false → (name_entry d h t m).next ≡ notes_on d (word_on d (At m) NAMES)
+    pub names_first : (m : ℕ) (t : Read ℕ) → given 4 s ≡ false → (name_entry d h t m).next ≡ notes_on d (word_on d (Ok m) NAMES)
     unfolding name_entry
     names_first m t e = rw (given_standard r, e)
 
-    pub names_second : (m n : ℕ) → given 4 s ≡ true → (name_entry d h (At n) m).next ≡ Refused (fault 2 n)
+    pub names_second : (m n : ℕ) → given 4 s ≡ true → (name_entry d h (Ok n) m).next ≡ Err (fault 2 n)
     unfolding name_entry again
     names_second m n e = rw (given_standard r, e)
 
@@ -113,7 +110,7 @@ data Known : Entry → Type 0 where
   the_names : {m : ℕ} → Known (Standard m)
   none_of_them : Known Other
 
-module _ (d : List ℕ) (t : Reading) where
+module _ (d : List ℕ) (t : Read ℕ) where
   known_or : (c : Choice) (k : ℕ) (z : Entry) → k ≤ 3 → Known z → Known (or c k z)
   known_or (Taken m) k z l h = a_text l
   known_or Left k z l h = h
@@ -131,7 +128,7 @@ module _ (d : List ℕ) (t : Reading) where
       (known_or (choice_of d t USER) 3 _ (omega arith)
       (known_last (choice_of d t STANDARD)))))
 
-  notes_over : (f : Fault) → notes_on d (Refused f) ≡ Refused f
+  notes_over : (f : Fault) → notes_on d (Err f) ≡ Err f
   unfolding notes_on notes_here gap_on left loop_of choice_of
   notes_over f = refl
 
@@ -139,18 +136,18 @@ module _ (d : List ℕ) (t : Reading) where
     text_onward : (k m : ℕ) → k ≤ 3 → Onward d s (text_entry d h t k m)
     unfolding text_entry kept_of past_string
     text_onward k m l = by (once_of d (text_at h k) t m) refl where
-      by : (p : Phrase) → once_of d (text_at h k) t m ≡ p
+      by : (p : Read Quoted) → once_of d (text_at h k) t m ≡ p
           → Onward d s (entered (with_text h k (kept_of (text_at h k) p)) (notes_on d (past_string p)))
-      by (Is q) e = on k (text t m r l e)
-      by (Not f) e = rw (notes_over f) over
+      by (Ok q) e = on k (text t m r l e)
+      by (Err f) e = rw (notes_over f) over
 
     names_onward : (m : ℕ) → Onward d s (name_entry d h t m)
     unfolding name_entry again
     names_onward m = by h.standard t where
-      by : (x : Bool) (t : Reading) → Onward d s (cond {A = Entered} x (entered (named h) (again t))
-          (entered (named h) (notes_on d (word_on d (At m) NAMES))))
-      by true (At n) = over
-      by true (Refused f) = over
+      by : (x : Bool) (t : Read ℕ) → Onward d s (cond {A = Entered} x (entered (named h) (again t))
+          (entered (named h) (notes_on d (word_on d (Ok m) NAMES))))
+      by true (Ok n) = over
+      by true (Err f) = over
       by false t = on 4 (names r)
 
     -- from `none` on, every heading of the loop is reached

@@ -7,7 +7,7 @@ ghost use Rattle.ascii.specs.Class.{Classes};
 ghost use Rattle.heading.specs.Heading.{entry_of, again, text_at, with_text, once_of, kept_of, text_entry, name_entry, no_heading};
 ghost use Rattle.heading.specs.Heading.{entries_on, front_of, front_on};
 
-use tokens::{Choice, Fault, Phrase, Quoted, Reading};
+use tokens::{Choice, Fault, Quoted, Read};
 
 // The texts of the heading, each 0 where it was not given, and whether STANDARD NAMES was.
 #[derive(Clone, Copy)]
@@ -27,7 +27,7 @@ pub enum Entry {
     Other,
 }
 
-fn entry_here(classes: &[u8; 256], d: &[u8], t: Reading) -> Entry
+fn entry_here(classes: &[u8; 256], d: &[u8], t: Read<usize>) -> Entry
     requires { Classes classes.now }
     ensures { result ≡ entry_of d.now t }
 {
@@ -50,15 +50,15 @@ fn entry_here(classes: &[u8; 256], d: &[u8], t: Reading) -> Entry
 }
 
 // A word that was met before: 2 at the word.
-fn met_again(t: Reading) -> Reading
+fn met_again(t: Read<usize>) -> Read<usize>
     ensures { result ≡ again t }
 {
     match t {
-        Reading::At(n) => Reading::Refused(Fault {
+        Ok(n) => Err(Fault {
             number: 2,
             place: n,
         }),
-        Reading::Refused(f) => Reading::Refused(f),
+        Err(f) => Err(f),
     }
 }
 
@@ -98,23 +98,23 @@ fn with_text(h: Heading, which: usize, q: Quoted) -> Heading
 }
 
 // The string of a text that was not given before.
-fn read_once(classes: &[u8; 256], d: &[u8], q: Quoted, t: Reading, m: usize) -> Phrase
+fn read_once(classes: &[u8; 256], d: &[u8], q: Quoted, t: Read<usize>, m: usize) -> Read<Quoted>
     requires { Classes classes.now }
     ensures { result ≡ once_of d.now q t m }
 {
     if q.next == 0 {
-        return tokens::string_on(classes, d, Reading::At(m));
+        return tokens::string_on(classes, d, Ok(m));
     }
     let a = met_again(t);
     tokens::string_on(classes, d, a)
 }
 
-fn kept_text(q: Quoted, p: Phrase) -> Quoted
+fn kept_text(q: Quoted, p: Read<Quoted>) -> Quoted
     ensures { result ≡ kept_of q p }
 {
     match p {
-        Phrase::Is(x) => x,
-        Phrase::Not(_) => q,
+        Ok(x) => x,
+        Err(_) => q,
     }
 }
 
@@ -122,14 +122,14 @@ fn kept_text(q: Quoted, p: Phrase) -> Quoted
 #[derive(Clone, Copy)]
 pub struct Entered {
     pub heading: Heading,
-    pub next: Reading,
+    pub next: Read<usize>,
 }
 
 fn enter_text(
     classes: &[u8; 256],
     d: &[u8],
     h: Heading,
-    t: Reading,
+    t: Read<usize>,
     which: usize,
     m: usize,
 ) -> Entered
@@ -145,7 +145,7 @@ fn enter_text(
     Entered { heading, next }
 }
 
-fn enter_names(classes: &[u8; 256], d: &[u8], h: Heading, t: Reading, m: usize) -> Entered
+fn enter_names(classes: &[u8; 256], d: &[u8], h: Heading, t: Read<usize>, m: usize) -> Entered
     requires { Classes classes.now }
     ensures { result ≡ name_entry d.now h t m }
 {
@@ -164,7 +164,7 @@ fn enter_names(classes: &[u8; 256], d: &[u8], h: Heading, t: Reading, m: usize) 
         let next = met_again(t);
         return Entered { heading, next };
     }
-    let a = tokens::word_on(classes, d, Reading::At(m), b"NAMES");
+    let a = tokens::word_on(classes, d, Ok(m), b"NAMES");
     let next = statements::notes_on(classes, d, a);
     Entered { heading, next }
 }
@@ -187,7 +187,7 @@ fn no_heading() -> Heading
 }
 
 // All of them, up to a statement that is none.
-pub fn entries_on(classes: &[u8; 256], d: &[u8], t: Reading) -> Entered
+pub fn entries_on(classes: &[u8; 256], d: &[u8], t: Read<usize>) -> Entered
     requires { Classes classes.now }
     ensures { result ≡ entries_on d.now t }
 {
@@ -221,11 +221,11 @@ pub fn entries_on(classes: &[u8; 256], d: &[u8], t: Reading) -> Entered
 pub struct Front {
     pub heading: Heading,
     pub title: Quoted,
-    pub next: Reading,
+    pub next: Read<usize>,
 }
 
 // SURVEY, an optional TITLE, and RECORD with its letter, behind the heading.
-fn front_rest(classes: &[u8; 256], d: &[u8], h: Heading, t: Reading) -> Front
+fn front_rest(classes: &[u8; 256], d: &[u8], h: Heading, t: Read<usize>) -> Front
     requires { Classes classes.now }
     ensures { result ≡ front_of d.now h t }
 {
@@ -238,7 +238,7 @@ fn front_rest(classes: &[u8; 256], d: &[u8], h: Heading, t: Reading) -> Front
     };
     match tokens::perhaps(classes, d, n, b"TITLE") {
         Choice::Taken(m) => {
-            let q = tokens::string_on(classes, d, Reading::At(m));
+            let q = tokens::string_on(classes, d, Ok(m));
             let title = kept_text(none, q);
             let p = tokens::past_string(q);
             let next = statements::record_on(classes, d, p);

@@ -4,7 +4,6 @@ use Rattle.std.proofs.Common.{sym, ap, ◌∙◌, arith}
 use Rattle.scan.specs.rule.Text.{text}
 use Rattle.scan.specs.rule.Number.{is_value}
 use Rattle.scan.specs.Number.{digits_from}
-use Rattle.tokens.specs.declared.Reading.TheVariants.{At}
 use Rattle.tokens.specs.rule.Gap.{gap_at}
 use Rattle.tokens.specs.Gap.{gap_on}
 use Rattle.tokens.specs.Over.{over_of}

@@ -1,4 +1,5 @@
 -- What is known of a variable before it is measured gives what the measuring asks for; and its result is the definition's.
+use Rattle.std.specs.Prelude.{Ok, Err}
 use mathlib.Core.Path.{◌≡◌, refl, ◌∙◌}
 use mathlib.Core.Bool.{true, false}
 use mathlib.Core.List.{List}
@@ -18,7 +19,6 @@ use Rattle.sound.specs.Block.{Placed, need_few, range_few}
 use Rattle.tokens.specs.rule.Gap.{fault}
 use Rattle.variables.specs.declared.Head.{Head}
 use Rattle.variables.specs.declared.Rest.{Rest}
-use Rattle.measures.specs.declared.Measured.TheVariants.{Is, Not}
 use Rattle.measures.specs.Width.{plain_columns, widened, lines_width, widest_of, width_of, full_columns}
 use Rattle.measures.specs.Width.{number_in, Measurable, measured}
 
@@ -81,10 +81,10 @@ module _ (f : ℕ → ℤ) (h : Head) (r : Rest) (before w : ℕ) (c full : Colu
     unfolding full_columns row_of
     full_is = s ∙ rw (q, p)
 
-    pub measured_yes : room_good (row_of full).kind (row_of full) ≡ true → Is full ≡ measured f h r before
+    pub measured_yes : room_good (row_of full).kind (row_of full) ≡ true → Ok full ≡ measured f h r before
     unfolding measured row_of
     measured_yes e = rw (← full_is) (rw e)
 
-    pub measured_not : room_good (row_of full).kind (row_of full) ≡ false → Not (fault 7 h.place) ≡ measured f h r before
+    pub measured_not : room_good (row_of full).kind (row_of full) ≡ false → Err (fault 7 h.place) ≡ measured f h r before
     unfolding measured row_of
     measured_not e = rw (← full_is) (rw e)

@@ -2,7 +2,7 @@
 -- A variable as the columns of its row, w among them. "The value width w: digits of the largest category for SINGLE and for each
 -- spread subfield; the largest category itself for a bitstring; SIZE for CHARACTER; 1 for LOGICAL. For QUANTITY, the longest of the
 -- range ends and values." Its position must hold w, else it is 7 at the first POSITION number.
-use Rattle.std.specs.Prelude.{Bool, true, false, cond, ℕ, ◌-◌, max, ◌+◌, ◌*◌, ◌≤◌, ℤ, ◌≡◌, List, length}
+use Rattle.std.specs.Prelude.{Bool, true, false, cond, ℕ, ◌-◌, max, ◌+◌, ◌*◌, ◌≤◌, ℤ, ◌≡◌, List, length, Ok, Err}
 use Rattle.below.specs.rule.Below.{max_below}
 use Rattle.layout.specs.rule.Row.{kind_of, row_of}
 use Rattle.layout.specs.declared.Columns.{Columns}
@@ -17,9 +17,7 @@ use Rattle.strides.specs.rule.Stride.{stride_at}
 use Rattle.layout.specs.rule.Layout.{most_lines, line_size}
 use Rattle.widths.specs.Width.{FewDecimals}
 use Rattle.sound.specs.Block.{Subfielded}
-use Rattle.tokens.specs.rule.Gap.{fault}
-use Rattle.measures.specs.declared.Measured.{Measured}
-use Rattle.measures.specs.declared.Measured.TheVariants.{Is, Not}
+use Rattle.tokens.specs.rule.Gap.{fault, Read}
 
 unfoldable pub flag_of : Bool → ℕ
 flag_of true = 1
@@ -97,10 +95,10 @@ full_columns f h r before =
     widened (width_of (kind_of c) (row_of c) f r.size) c
 
 -- "POSITION must hold w (for a spread, n times the declared subfield width, itself at least w), else it is too narrow"
-unfoldable pub measured : (ℕ → ℤ) → Head → Rest → ℕ → Measured
+unfoldable pub measured : (ℕ → ℤ) → Head → Rest → ℕ → Read Columns
 measured f h r before =
     let c = full_columns f h r before in
-    cond (room_good (kind_of c) (row_of c)) (Is c) (Not (fault 7 h.place))
+    cond (room_good (kind_of c) (row_of c)) (Ok c) (Err (fault 7 h.place))
 
 -- ---- what is known of a variable before it is measured
 -- the number of line k of those behind the first `before` in the room

@@ -101,14 +101,7 @@ fn with_width(c: Columns, w: usize) -> Columns
     r
 }
 
-// A variable as its columns; or the refusal of a position that is too narrow, at its first number.
-#[derive(Clone, Copy)]
-pub enum Measured {
-    Is(Columns),
-    Not(Fault),
-}
-
-pub fn measure(powers: &[u64; 16], room: &[i64], h: Head, r: Rest, before: usize) -> Measured
+pub fn measure(powers: &[u64; 16], room: &[i64], h: Head, r: Rest, before: usize) -> Read<Columns>
     requires tens { Tens powers.now }
     requires measurable { Measurable room.now h r before }
     ensures { result ≡ measured (number_in room.now before) h r before }
@@ -117,9 +110,9 @@ pub fn measure(powers: &[u64; 16], room: &[i64], h: Head, r: Rest, before: usize
     let w = width_of(powers, room, Row::of(c), r.size as usize);
     let full = with_width(c, w);
     if sound::room_good(Row::of(full)) {
-        return Measured::Is(full);
+        return Ok(full);
     }
-    Measured::Not(Fault {
+    Err(Fault {
         number: 7,
         place: h.place,
     })

@@ -1,4 +1,5 @@
 -- Readers one behind another, and the code's answers as the rule's: nothing is lost between them.
+use Rattle.std.specs.Prelude.{Ok, Err}
 use mathlib.Core.Path.{◌≡◌, refl, sym, ap, ◌∙◌}
 use mathlib.Core.Bool.{Bool, true, false, cond}
 use mathlib.Core.List.{List}
@@ -10,9 +11,6 @@ use Rattle.tags.specs.declared.Tag.{Tag}
 use Rattle.tags.specs.declared.Tag.TheVariants as tag
 use Rattle.pairs.specs.rule.Stand.{bare_of}
 use Rattle.survey.specs.rule.Survey.{KeptText}
-use Rattle.tokens.specs.declared.Phrase.{Phrase}
-use Rattle.tokens.specs.declared.Phrase.TheVariants as phrase
-use Rattle.tokens.specs.declared.Reading.{Reading}
 use Rattle.reading.specs.rule.Result.{Result, Is, Not, Reader, give, bind}
 use Rattle.reading.specs.rule.Token.{passed}
 use Rattle.xml_reading.specs.rule.Word.{SSS, SURVEY, RECORD}
@@ -27,20 +25,22 @@ use Rattle.elements.proofs.Dues.{read_open}
 use Rattle.prefaces.specs.declared.Prefaced.{Prefaced}
 use Rattle.prefaces.specs.declared.Prefaced.TheVariants as prefaced
 use Rattle.prefaces.specs.Code.{rule_of, prefaced_of, reading_of, titled_of, inner_of, outer_of, end_of, cleared_of}
+use Rattle.tokens.specs.rule.Gap.{Read}
+use Rattle.tokens.specs.declared.Quoted.{Quoted}
 
 -- ---- answers
 pub opened_is : {o : Open} (x : Result rule.Open) → o ≡ open_of x → read_of o ≡ x
 opened_is x e = ap read_of e ∙ read_open x
 
-pub passed_is : {r : Reading} (x : Result Unit) → r ≡ reading_of x → passed r ≡ x
+pub passed_is : {r : Read ℕ} (x : Result Unit) → r ≡ reading_of x → passed r ≡ x
 passed_is (Is u n) e = ap passed e
 passed_is (Not f) e = ap passed e
 
-abbrev pub phrase_read : Phrase → Result KeptText
-phrase_read (phrase.Is q) = Is (record { place = q.place; length = q.length }) q.next
-phrase_read (phrase.Not f) = Not f
+abbrev pub phrase_read : Read Quoted → Result KeptText
+phrase_read (Ok q) = Is (record { place = q.place; length = q.length }) q.next
+phrase_read (Err f) = Not f
 
-pub phrase_is : {r : Phrase} (x : Result KeptText) → r ≡ phrase_of x → phrase_read r ≡ x
+pub phrase_is : {r : Read Quoted} (x : Result KeptText) → r ≡ phrase_of x → phrase_read r ≡ x
 phrase_is (Is t n) e = ap phrase_read e
 phrase_is (Not f) e = ap phrase_read e
 

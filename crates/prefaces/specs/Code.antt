@@ -1,9 +1,7 @@
 -- THE CODE'S BOOKS: the answers of the rule's readers (`xml_reading`) as the code holds them.
-use Rattle.std.specs.Prelude.{Bool, false, cond, not, ◌&&◌, List, [], ◌∷◌, ℕ, ◌≤◌, eqb, length}
+use Rattle.std.specs.Prelude.{Bool, false, cond, not, ◌&&◌, List, [], ◌∷◌, ℕ, ◌≤◌, eqb, length, Ok, Err}
 use Rattle.tags.specs.declared.Held.{Held}
-use Rattle.tokens.specs.rule.Gap.{fault}
-use Rattle.tokens.specs.declared.Reading.{Reading}
-use Rattle.tokens.specs.declared.Reading.TheVariants.{At, Refused}
+use Rattle.tokens.specs.rule.Gap.{fault, Read}
 use Rattle.prologs.specs.rule.Told.{tail_from}
 use Rattle.elements.specs.declared.Due.{Due}
 use Rattle.elements.specs.declared.Due.TheVariants as due
@@ -31,9 +29,9 @@ prefaced_of (Is m n) = prefaced.Is (manner_of m) n
 prefaced_of (Not f) = prefaced.Not f
 
 -- nothing is told but where reading stands
-abbrev pub reading_of : Result Unit → Reading
-reading_of (Is u n) = At n
-reading_of (Not f) = Refused f
+abbrev pub reading_of : Result Unit → Read ℕ
+reading_of (Is u n) = Ok n
+reading_of (Not f) = Err f
 
 -- ---- places: not beyond the end
 abbrev pub Begun : List ℕ → Due → Type 0
@@ -44,9 +42,9 @@ abbrev pub Ends : List ℕ → Prefaced → Type 0
 Ends d (prefaced.Is m n) = n ≤ length d
 Ends d (prefaced.Not f) = Unit
 
-abbrev pub Inside : List ℕ → Reading → Type 0
-Inside d (At n) = n ≤ length d
-Inside d (Refused f) = Unit
+abbrev pub Inside : List ℕ → Read ℕ → Type 0
+Inside d (Ok n) = n ≤ length d
+Inside d (Err f) = Unit
 
 -- ---- parts of the rule's readers, each as its function of the code has it
 -- what the rule says of tags that were read, once more, without the file

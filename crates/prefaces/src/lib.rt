@@ -22,7 +22,7 @@ use markup::Skip;
 use pairs::Stand;
 use prologs::{Prolog, Tail};
 use tags::{Held, Tag};
-use tokens::{Fault, Phrase, Reading};
+use tokens::{Fault, Read};
 
 // What the preface says that the variables go by: version 1.1, languages, standardnames; and the file's encoding.
 #[derive(Clone, Copy)]
@@ -217,23 +217,23 @@ fn read_manner(bad: bool, latin: bool, d: &[u8], opened: usize, at: usize) -> Pr
 }
 
 // A start tag alone, read: an unknown attribute is 51; else something has to stand inside.
-fn enter_tag(unknown: usize, empty: bool, place: usize, next: usize) -> Reading
+fn enter_tag(unknown: usize, empty: bool, place: usize, next: usize) -> Read<usize>
     ensures { result ≡ reading_of (entered_of unknown empty place next) }
 {
     if unknown != 0 {
-        return Reading::Refused(Fault {
+        return Err(Fault {
             number: 51,
             place: unknown,
         });
     }
     if empty {
-        return Reading::Refused(Fault { number: 2, place });
+        return Err(Fault { number: 2, place });
     }
-    Reading::At(next)
+    Ok(next)
 }
 
 // `<survey>`, from behind its name on.
-fn read_survey(bad: bool, d: &[u8], opened: usize, at: usize) -> Reading
+fn read_survey(bad: bool, d: &[u8], opened: usize, at: usize) -> Read<usize>
     requires { at ≤ length d.now }
     ensures { (result ≡ reading_of (survey bad d.now opened at)) × Inside d.now result }
 {
@@ -244,7 +244,7 @@ fn read_survey(bad: bool, d: &[u8], opened: usize, at: usize) -> Reading
             place,
             next,
         } => enter_tag(held.unknown, empty, place, next),
-        Tag::Fault { number, place } => Reading::Refused(Fault { number, place }),
+        Tag::Fault { number, place } => Err(Fault { number, place }),
     }
 }
 
@@ -260,7 +260,7 @@ fn record_tag(bad: bool, d: &[u8], old: bool, opened: usize, at: usize) -> Tag
 }
 
 // `<record ident [href]>`, from behind its name on.
-fn read_record(bad: bool, d: &[u8], m: Manner, opened: usize, at: usize) -> Reading
+fn read_record(bad: bool, d: &[u8], m: Manner, opened: usize, at: usize) -> Read<usize>
     requires { at ≤ length d.now }
     ensures { (result ≡ reading_of (sheet.record_tag bad d.now (rule_of m) opened at)) × Inside d.now result }
 {
@@ -271,7 +271,7 @@ fn read_record(bad: bool, d: &[u8], m: Manner, opened: usize, at: usize) -> Read
             place,
             next,
         } => enter_tag(held.unknown, empty, place, next),
-        Tag::Fault { number, place } => Reading::Refused(Fault { number, place }),
+        Tag::Fault { number, place } => Err(Fault { number, place }),
     }
 }
 
@@ -290,8 +290,8 @@ fn text_then(
         × Within d.now 0 result }
 {
     match elements::text_at(bad, d, place, end, w, mode) {
-        Phrase::Is(t) => elements::find_open(bad, d, t.next, around),
-        Phrase::Not(f) => Open::Not(f),
+        Ok(t) => elements::find_open(bad, d, t.next, around),
+        Err(f) => Open::Not(f),
     }
 }
 
@@ -355,38 +355,38 @@ fn read_titles(bad: bool, d: &[u8], m: Manner, at: usize) -> Open
     perhaps_text(bad, d, names, b"survey", b"title", mode)
 }
 
-fn survey_on(bad: bool, d: &[u8], o: Open) -> Reading
+fn survey_on(bad: bool, d: &[u8], o: Open) -> Read<usize>
     requires { Within d.now 0 o }
     ensures { (result ≡ reading_of (bind (read_of o) (survey_due bad d.now))) × Inside d.now result }
 {
     match elements::tag_due(bad, d, o, b"survey") {
         Due::At { place, end } => read_survey(bad, d, place, end),
-        Due::Not(f) => Reading::Refused(f),
+        Due::Not(f) => Err(f),
     }
 }
 
-fn titles_on(bad: bool, d: &[u8], m: Manner, s: Reading) -> Open
+fn titles_on(bad: bool, d: &[u8], m: Manner, s: Read<usize>) -> Open
     requires { Inside d.now s }
     ensures { (result ≡ open_of (bind (passed s) λ u. titles bad d.now (rule_of m))) × Within d.now 0 result }
 {
     match s {
-        Reading::At(n) => read_titles(bad, d, m, n),
-        Reading::Refused(f) => Open::Not(f),
+        Ok(n) => read_titles(bad, d, m, n),
+        Err(f) => Open::Not(f),
     }
 }
 
-fn record_on(bad: bool, d: &[u8], m: Manner, o: Open) -> Reading
+fn record_on(bad: bool, d: &[u8], m: Manner, o: Open) -> Read<usize>
     requires { Within d.now 0 o }
     ensures { (result ≡ reading_of (bind (read_of o) (record_due bad d.now (rule_of m)))) × Inside d.now result }
 {
     match elements::tag_due(bad, d, o, b"record") {
         Due::At { place, end } => read_record(bad, d, m, place, end),
-        Due::Not(f) => Reading::Refused(f),
+        Due::Not(f) => Err(f),
     }
 }
 
 // From behind the root's tag to behind the record's.
-fn read_inner(bad: bool, d: &[u8], m: Manner, at: usize) -> Reading
+fn read_inner(bad: bool, d: &[u8], m: Manner, at: usize) -> Read<usize>
     requires { at ≤ length d.now }
     ensures { (result ≡ reading_of (inner_of bad d.now (rule_of m) at)) × Inside d.now result }
 {
@@ -401,8 +401,8 @@ fn inner_on(bad: bool, d: &[u8], m: Manner, at: usize) -> Prefaced
     ensures { (result ≡ prefaced_of (inner_then bad d.now (rule_of m) at)) × Ends d.now result }
 {
     match read_inner(bad, d, m, at) {
-        Reading::At(n) => Prefaced::Is { manner: m, next: n },
-        Reading::Refused(f) => Prefaced::Not(f),
+        Ok(n) => Prefaced::Is { manner: m, next: n },
+        Err(f) => Prefaced::Not(f),
     }
 }
 
@@ -429,45 +429,45 @@ pub fn read_preface(bad: bool, latin: bool, d: &[u8], at: usize) -> Prefaced
 }
 
 // The end tag of an element w.
-fn pass_end(bad: bool, d: &[u8], at: usize, w: &[u8]) -> Reading
+fn pass_end(bad: bool, d: &[u8], at: usize, w: &[u8]) -> Read<usize>
     requires { at ≤ length d.now }
     ensures { (result ≡ reading_of (end_of bad d.now w.now at)) × Inside d.now result }
 {
     match elements::find_open(bad, d, at, w) {
-        Open::Start { place, end } => Reading::Refused(elements::misplaced(bad, d, place, end)),
-        Open::Shut { place: _, next } => Reading::At(next),
-        Open::Not(f) => Reading::Refused(f),
+        Open::Start { place, end } => Err(elements::misplaced(bad, d, place, end)),
+        Open::Shut { place: _, next } => Ok(next),
+        Open::Not(f) => Err(f),
     }
 }
 
-fn pass_tail(bad: bool, d: &[u8], at: usize) -> Reading
+fn pass_tail(bad: bool, d: &[u8], at: usize) -> Read<usize>
     requires { at ≤ length d.now }
     ensures { (result ≡ reading_of (cleared_of bad d.now at)) × Inside d.now result }
 {
     match prologs::read_tail(bad, d, at) {
-        Tail::Clean => Reading::At(at),
-        Tail::Foul { number, place } => Reading::Refused(Fault { number, place }),
+        Tail::Clean => Ok(at),
+        Tail::Foul { number, place } => Err(Fault { number, place }),
     }
 }
 
 // `</sss>`, and what follows.
-fn close_sss(bad: bool, d: &[u8], at: usize) -> Reading
+fn close_sss(bad: bool, d: &[u8], at: usize) -> Read<usize>
     requires { at ≤ length d.now }
     ensures { (result ≡ reading_of (end_then bad d.now at)) × Inside d.now result }
 {
     match pass_end(bad, d, at, b"sss") {
-        Reading::At(n) => pass_tail(bad, d, n),
-        Reading::Refused(f) => Reading::Refused(f),
+        Ok(n) => pass_tail(bad, d, n),
+        Err(f) => Err(f),
     }
 }
 
 // From behind `</record>` to the file's end: `</survey>`, `</sss>`, white space and comments.
-pub fn read_closing(bad: bool, d: &[u8], at: usize) -> Reading
+pub fn read_closing(bad: bool, d: &[u8], at: usize) -> Read<usize>
     requires { at ≤ length d.now }
     ensures { (result ≡ reading_of (sheet_closed bad d.now at)) × Inside d.now result }
 {
     match pass_end(bad, d, at, b"survey") {
-        Reading::At(n) => close_sss(bad, d, n),
-        Reading::Refused(f) => Reading::Refused(f),
+        Ok(n) => close_sss(bad, d, n),
+        Err(f) => Err(f),
     }
 }

@@ -1,15 +1,13 @@
 -- Every refusal of a definition has a number of the table, 1 to 10, and its place lies in the text or is its length.
-use Rattle.std.specs.Prelude.{◌≡◌, refl, ltb}
+use Rattle.std.specs.Prelude.{◌≡◌, refl, ltb, Ok, Err}
 use mathlib.Core.List.{List, [], ◌∷◌, ◌++◌}
 use Prim.Native.Nat.{ℕ, zero, suc, ◌+◌, ◌-◌, ◌≤◌, ◌<◌}
 use native.Mathlib.Omega.{arith}
 use Rattle.std.proofs.Math.ListN.{length}
 use Rattle.std.proofs.Common.{length-append}
-use Rattle.tokens.specs.declared.Reading.{Reading}
-use Rattle.tokens.specs.declared.Reading.TheVariants.{At, Refused}
 use Rattle.tokens.specs.declared.Choice.{Choice}
 use Rattle.tokens.specs.declared.Choice.TheVariants.{Taken, Left}
-use Rattle.tokens.specs.rule.Gap.{fault}
+use Rattle.tokens.specs.rule.Gap.{fault, Read}
 use Rattle.tokens.specs.Token.{choice_of, word_on}
 use Rattle.statements.specs.rule.Words.{END, RECORD, SURVEY, SSS}
 use Rattle.statements.specs.Note.{notes_on, statement_on}
@@ -70,7 +68,7 @@ module _ (d : List ℕ) where
       count : ℕ
       count = length s.earlier
 
-      ends : (v : Variable) (n : ℕ) (t : Reading) (c : Choice) → VariableStands d count v n → Stands d t → ChoiceStands d c
+      ends : (v : Variable) (n : ℕ) (t : Read ℕ) (c : Choice) → VariableStands d count v n → Stands d t → ChoiceStands d c
           → Onward (Reads f) VariablesStand (end_or (s.earlier ++ v ∷ []) t c)
       ends v n t (Taken m) k l i = (names_more s.earlier v h.names k.name, i)
       ends v n t Left k l i = record {
@@ -82,12 +80,12 @@ module _ (d : List ℕ) where
 
       by : (x : Entry) → EntryStands d count x → Onward (Reads f) VariablesStand (entered d s.earlier x)
       by (entry.Is v n) k =
-          let t = notes_on d (At n) in
-          let l = notes_on_lem d (At n) k.next in
+          let t = notes_on d (Ok n) in
+          let l = notes_on_lem d (Ok n) k.next in
           ends v n t (choice_of d t END) k l (choice_of_lem d t END l)
       by (entry.Not g) k = k
 
-  variables_from_lem : (t : Reading) → Stands d t → VariablesStand (variables_from d (course t []))
+  variables_from_lem : (t : Read ℕ) → Stands d t → VariablesStand (variables_from d (course t []))
   unfolding variables_from
   variables_from_lem t h =
       loop_keeps Reads VariablesStand (variable_step d) (variables.Not (fault 0 0)) (λ s r. absurd (omega (arith, r.some)))
@@ -97,9 +95,9 @@ module _ (d : List ℕ) where
   ends_on_lem : (m : ℕ) → m ≤ length d → Stands d (ends_on d m)
   unfolding ends_on
   ends_on_lem m h =
-      let recorded = word_on d (At m) RECORD in
+      let recorded = word_on d (Ok m) RECORD in
       let surveyed = word_on d (statement_on d recorded END) SURVEY in
-      let a = word_on_lem d (At m) RECORD h in
+      let a = word_on_lem d (Ok m) RECORD h in
       let b = word_on_lem d (statement_on d recorded END) SURVEY (statement_on_lem d recorded END a) in
       word_on_lem d (statement_on d surveyed END) SSS (statement_on_lem d surveyed END b)
 
@@ -110,9 +108,9 @@ module _ (d : List ℕ) where
   survey_of_lem : ReadStands (survey_of d)
   unfolding survey_of
   survey_of_lem = by (variables_from d (course (front_on d).next [])) (variables_from_lem (front_on d).next (front_on_lem d)) where
-    ends : (l : List Variable) (t : Reading) → NamesStand l → Stands d t → ReadStands (ended (front_on d) l t)
-    ends l (At n) h k = h
-    ends l (Refused f) h k = k
+    ends : (l : List Variable) (t : Read ℕ) → NamesStand l → Stands d t → ReadStands (ended (front_on d) l t)
+    ends l (Ok n) h k = h
+    ends l (Err f) h k = k
 
     by : (v : Variables) → VariablesStand v → ReadStands (closed d (front_on d) v)
     by (variables.Is l m) h = ends l (ends_on d m) h.0 (ends_on_lem m h.1)

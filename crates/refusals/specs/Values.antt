@@ -1,5 +1,5 @@
 -- Of VALUES: what they hand on stands, and what they refuse is met (specs/Tokens). The reader of lines refuses before its steps run out.
-use Rattle.std.specs.Prelude.{◌≡◌, Bool, cond, ◌&&◌, List, [], ◌∷◌, ◌++◌, ℕ, suc, ◌+◌, ◌-◌, ◌≤◌, ◌<◌, ℤ}
+use Rattle.std.specs.Prelude.{◌≡◌, Bool, cond, ◌&&◌, List, [], ◌∷◌, ◌++◌, ℕ, suc, ◌+◌, ◌-◌, ◌≤◌, ◌<◌, ℤ, Ok, Err}
 use Rattle.std.proofs.Math.Path.{refl}
 use Rattle.std.proofs.Math.Bool.{true, false, not}
 use native.Mathlib.Omega.{arith}
@@ -8,30 +8,18 @@ use Rattle.std.proofs.Math.Dec.{eqb, leb}
 use Rattle.std.proofs.Math.ListN.{length}
 use Rattle.std.proofs.Common.{length-append}
 use Rattle.std.specs.Int.Signed.{lt_z}
-use Rattle.tokens.specs.declared.Reading.{Reading}
-use Rattle.tokens.specs.declared.Reading.TheVariants.{At, Refused}
 use Rattle.tokens.specs.declared.Choice.{Choice}
 use Rattle.tokens.specs.declared.Choice.TheVariants.{Taken, Left}
 use Rattle.tokens.specs.declared.Value.{Value}
-use Rattle.tokens.specs.declared.Amount.{Amount}
-use Rattle.tokens.specs.declared.Amount.TheVariants as amount
-use Rattle.tokens.specs.declared.Phrase.{Phrase}
-use Rattle.tokens.specs.declared.Phrase.TheVariants as phrase
-use Rattle.tokens.specs.rule.Gap.{fault}
+use Rattle.tokens.specs.rule.Gap.{fault, Read}
 use Rattle.tokens.specs.Gap.{gap_on}
 use Rattle.tokens.specs.Token.{choice_of, word_here, word_on, value_here, value_on, past_value, string_on, past_string}
 use Rattle.statements.specs.rule.Words.{VALUES, TO, END, WITH, SPECIAL}
 use Rattle.statements.specs.Note.{notes_on, statement_on}
 use Rattle.values.specs.declared.Block.{Block}
 use Rattle.values.specs.declared.Said.{Said}
-use Rattle.values.specs.declared.Judged.{Judged}
-use Rattle.values.specs.declared.Judged.TheVariants as judged
 use Rattle.values.specs.declared.Ranged.{Ranged}
 use Rattle.values.specs.declared.Ranged.TheVariants as ranged
-use Rattle.values.specs.declared.Lined.{Lined}
-use Rattle.values.specs.declared.Lined.TheVariants as lined
-use Rattle.values.specs.declared.Verdict.{Verdict}
-use Rattle.values.specs.declared.Verdict.TheVariants.{Good, Bad}
 use Rattle.values.specs.declared.Turn.{Turn}
 use Rattle.values.specs.declared.Turn.TheVariants as turn
 use Rattle.values.specs.Value.{form_of, large_of, true_of, scaled_of}
@@ -46,12 +34,13 @@ use Rattle.refusals.specs.Tokens.{Met, Stands, gap_on_lem, word_here_lem, word_o
 use Rattle.refusals.specs.Tokens.{AmountStands}
 use Rattle.refusals.specs.Tokens.{value_here_lem, value_on_lem, past_value_lem, PhraseStands, string_on_lem, past_string_lem}
 use Rattle.refusals.specs.Statements.{notes_on_lem, statement_on_lem}
+use Rattle.tokens.specs.declared.Quoted.{Quoted}
 
 module _ (d : List ℕ) where
   -- ---- a range
-  abbrev JudgedStands : Judged → Type 0
-  JudgedStands (judged.Good b) = Unit
-  JudgedStands (judged.Bad f) = Met d f
+  abbrev JudgedStands : Read Block → Type 0
+  JudgedStands (Ok b) = Unit
+  JudgedStands (Err f) = Met d f
 
   abbrev RangedStands : Ranged → Type 0
   RangedStands (ranged.Is b with n) = n ≤ length d
@@ -67,25 +56,25 @@ module _ (d : List ℕ) where
       (either JudgedStands (large_of quantity a) (omega arith) (either JudgedStands (large_of quantity b) (omega arith) tt)))
       (omega arith)) (omega arith)) (omega arith)
 
-  ranged_of_lem : (quantity : Bool) (a b : Amount) (end : Reading) (with : Bool) → AmountStands d a → AmountStands d b → Stands d end
+  ranged_of_lem : (quantity : Bool) (a b : Read Value) (end : Read ℕ) (with : Bool) → AmountStands d a → AmountStands d b → Stands d end
       → RangedStands (ranged_of d quantity a b end with)
   unfolding ranged_of
-  ranged_of_lem quantity (amount.Not f) b end with h k l = h
-  ranged_of_lem quantity (amount.Is x) (amount.Not f) end with h k l = k
-  ranged_of_lem quantity (amount.Is x) (amount.Is y) (Refused f) with h k l = l
-  ranged_of_lem quantity (amount.Is x) (amount.Is y) (At n) with h k l = by (judge_range (reversed_of d x y) quantity x y)
+  ranged_of_lem quantity (Err f) b end with h k l = h
+  ranged_of_lem quantity (Ok x) (Err f) end with h k l = k
+  ranged_of_lem quantity (Ok x) (Ok y) (Err f) with h k l = l
+  ranged_of_lem quantity (Ok x) (Ok y) (Ok n) with h k l = by (judge_range (reversed_of d x y) quantity x y)
       (judge_range_lem quantity x y h k) where
-        by : (j : Judged) → JudgedStands j → RangedStands (settled j with n)
-        by (judged.Good b) i = l
-        by (judged.Bad f) i = i
+        by : (j : Read Block) → JudgedStands j → RangedStands (settled j with n)
+        by (Ok b) i = l
+        by (Err f) i = i
 
-  range_rest_lem : (quantity : Bool) (a : Amount) (t : Reading) → AmountStands d a → Stands d t → RangedStands (range_rest d quantity a t)
+  range_rest_lem : (quantity : Bool) (a : Read Value) (t : Read ℕ) → AmountStands d a → Stands d t → RangedStands (range_rest d quantity a t)
   unfolding range_rest
   range_rest_lem quantity a t h k = by (choice_of d g WITH) (choice_of_lem d g WITH behind) where
-    b : Amount
+    b : Read Value
     b = value_on d t
 
-    g : Reading
+    g : Read ℕ
     g = gap_on d (past_value b)
 
     second : AmountStands d b
@@ -95,29 +84,29 @@ module _ (d : List ℕ) where
     behind = gap_on_lem d (past_value b) (past_value_lem d b second)
 
     by : (c : Choice) → ChoiceStands d c → RangedStands (with_or d quantity a b g c)
-    by (Taken m) l = ranged_of_lem quantity a b (At m) true h second l
+    by (Taken m) l = ranged_of_lem quantity a b (Ok m) true h second l
     by Left l = ranged_of_lem quantity a b g false h second behind
 
   -- ---- a line
-  abbrev LinedStands : Lined → Type 0
-  LinedStands (lined.Is s) = ValueStands d s.value × (s.next ≤ length d)
-  LinedStands (lined.Not f) = Met d f
+  abbrev LinedStands : Read Said → Type 0
+  LinedStands (Ok s) = ValueStands d s.value × (s.next ≤ length d)
+  LinedStands (Err f) = Met d f
 
-  said_of_lem : (a : Amount) (q : Phrase) (special : ℕ) (end : Reading) → AmountStands d a → PhraseStands d q → Stands d end
+  said_of_lem : (a : Read Value) (q : Read Quoted) (special : ℕ) (end : Read ℕ) → AmountStands d a → PhraseStands d q → Stands d end
       → LinedStands (said_of a q special end)
   unfolding said_of
-  said_of_lem (amount.Not f) q special end h k l = h
-  said_of_lem (amount.Is v) (phrase.Not f) special end h k l = k
-  said_of_lem (amount.Is v) (phrase.Is t) special (Refused f) h k l = l
-  said_of_lem (amount.Is v) (phrase.Is t) special (At n) h k l = (h, l)
+  said_of_lem (Err f) q special end h k l = h
+  said_of_lem (Ok v) (Err f) special end h k l = k
+  said_of_lem (Ok v) (Ok t) special (Err f) h k l = l
+  said_of_lem (Ok v) (Ok t) special (Ok n) h k l = (h, l)
 
-  line_rest_lem : (a : Amount) → AmountStands d a → LinedStands (line_rest d a)
+  line_rest_lem : (a : Read Value) → AmountStands d a → LinedStands (line_rest d a)
   unfolding line_rest
   line_rest_lem a h = by (choice_of d g SPECIAL) (choice_of_lem d g SPECIAL behind) where
-    q : Phrase
+    q : Read Quoted
     q = string_on d (past_value a)
 
-    g : Reading
+    g : Read ℕ
     g = gap_on d (past_string q)
 
     quoted : PhraseStands d q
@@ -127,13 +116,13 @@ module _ (d : List ℕ) where
     behind = gap_on_lem d (past_string q) (past_string_lem d q quoted)
 
     by : (c : Choice) → ChoiceStands d c → LinedStands (special_or a q g c)
-    by (Taken m) l = said_of_lem a q 1 (At m) h quoted l
+    by (Taken m) l = said_of_lem a q 1 (Ok m) h quoted l
     by Left l = said_of_lem a q 0 g h quoted behind
 
   -- a line is good only where fewer than 4,096 stand before it
-  abbrev VerdictStands : ℕ → Verdict → Type 0
-  VerdictStands n (Good z) = n < 4096
-  VerdictStands n (Bad f) = Met d f
+  abbrev VerdictStands : ℕ → Read ℤ → Type 0
+  VerdictStands n (Ok z) = n < 4096
+  VerdictStands n (Err f) = Met d f
 
   line_fault_lem : (quantity : Bool) (b : Block) (v : Value) → (line_fault quantity b v ≡ 0 → ⊥) → ValueStands d v
       → Met d (fault (line_fault quantity b v) v.place)
@@ -153,8 +142,8 @@ module _ (d : List ℕ) where
       by (eqb (line_fault quantity b v) 0) (repeated_in f n (scaled_of v)) (leb 4096 (first + n)) refl refl
     where
       by : (x r m : Bool) → eqb (line_fault quantity b v) 0 ≡ x → leb 4096 (first + n) ≡ m → VerdictStands (first + n)
-          (cond x (cond r (Bad (fault 6 v.place)) (cond m (Bad (fault 8 v.place)) (Good (scaled_of v))))
-          (Bad (fault (line_fault quantity b v) v.place)))
+          (cond x (cond r (Err (fault 6 v.place)) (cond m (Err (fault 8 v.place)) (Ok (scaled_of v))))
+          (Err (fault (line_fault quantity b v) v.place)))
       by true true m e l = omega arith
       by true false true e l = omega arith
       by true false false e l = leb-false 4096 (first + n) l
@@ -166,22 +155,22 @@ module _ (d : List ℕ) where
   TurnStands (turn.Over b n) = n ≤ length d
   TurnStands (turn.Not f) = Met d f
 
-  end_of_lem : (b : Block) (t : Reading) → Stands d t → TurnStands (end_of b t)
+  end_of_lem : (b : Block) (t : Read ℕ) → Stands d t → TurnStands (end_of b t)
   unfolding end_of
-  end_of_lem b (At n) h = h
-  end_of_lem b (Refused f) h = h
+  end_of_lem b (Ok n) h = h
+  end_of_lem b (Err f) h = h
 
   more_of_lem : (b : Block) (n : ℕ) → n ≤ length d → TurnStands (more_of d b n)
   unfolding more_of
   more_of_lem b n h = by (choice_of d t END) (choice_of_lem d t END behind) where
-    t : Reading
-    t = notes_on d (At n)
+    t : Read ℕ
+    t = notes_on d (Ok n)
 
     behind : Stands d t
-    behind = notes_on_lem d (At n) h
+    behind = notes_on_lem d (Ok n) h
 
     by : (c : Choice) → ChoiceStands d c → TurnStands (end_or d b t c)
-    by (Taken m) k = end_of_lem b (word_on d (At m) VALUES) (word_on_lem d (At m) VALUES k)
+    by (Taken m) k = end_of_lem b (word_on d (Ok m) VALUES) (word_on_lem d (Ok m) VALUES k)
     by Left k = value_here_lem d t behind
 
   -- ---- lines one after the other
@@ -206,20 +195,20 @@ module _ (d : List ℕ) where
       → Onward (Reads first f) GivenStands (line_step d quantity first l)
   unfolding line_step
   line_step_lem quantity first f l h = by (line_rest d l.amount) (line_rest_lem l.amount h.stands) where
-    on : (s : Said) (v : Verdict) → s.next ≤ length d → VerdictStands (first + length l.lines) v
+    on : (s : Said) (v : Read ℤ) → s.next ≤ length d → VerdictStands (first + length l.lines) v
         → Onward (Reads first f) GivenStands (judged_step d l s v)
-    on s (Good z) k g =
+    on s (Ok z) k g =
         after_line first f l.lines s (more_of d (grown_by l.block s.value) s.next) g h.enough
         (more_of_lem (grown_by l.block s.value) s.next k)
-    on s (Bad g) k i = i
+    on s (Err g) k i = i
 
-    by : (r : Lined) → LinedStands r → Onward (Reads first f) GivenStands (read_step d quantity first l r)
-    by (lined.Is s) k =
+    by : (r : Read Said) → LinedStands r → Onward (Reads first f) GivenStands (read_step d quantity first l r)
+    by (Ok s) k =
         on s (judge_line (number_at l.lines) (length l.lines) first quantity l.block s.value) k.1
         (judge_line_lem (number_at l.lines) (length l.lines) first quantity l.block s.value k.0)
-    by (lined.Not g) k = k
+    by (Err g) k = k
 
-  lines_from_lem : (quantity : Bool) (first : ℕ) (a : Amount) (b : Block) → AmountStands d a
+  lines_from_lem : (quantity : Bool) (first : ℕ) (a : Read Value) (b : Block) → AmountStands d a
       → GivenStands (lines_from d quantity first (state_of a b []))
   unfolding lines_from
   lines_from_lem quantity first a b h =
@@ -228,28 +217,28 @@ module _ (d : List ℕ) where
       (record { stands = h; some = omega arith; enough = omega arith })
 
   -- ---- a block
-  closed_by_lem : (b : Block) (t : Reading) → Stands d t → GivenStands (closed_by b t)
+  closed_by_lem : (b : Block) (t : Read ℕ) → Stands d t → GivenStands (closed_by b t)
   unfolding closed_by
-  closed_by_lem b (At n) h = h
-  closed_by_lem b (Refused f) h = h
+  closed_by_lem b (Ok n) h = h
+  closed_by_lem b (Err f) h = h
 
   range_then_lem : (quantity : Bool) (first : ℕ) (r : Ranged) → RangedStands r → GivenStands (range_then d quantity first r)
   unfolding range_then
   range_then_lem quantity first (ranged.Not f) h = h
   range_then_lem quantity first (ranged.Is b with n) h =
-      let t = notes_on d (At n) in
-      let k = notes_on_lem d (At n) h in
+      let t = notes_on d (Ok n) in
+      let k = notes_on_lem d (Ok n) h in
       let e = word_here d t END in
       either GivenStands with (lines_from_lem quantity first (value_here d t) b (value_here_lem d t k))
       (closed_by_lem b (word_on d e VALUES) (word_on_lem d e VALUES (word_here_lem d t END k)))
 
-  pub values_on_lem : (quantity : Bool) (first : ℕ) (t : Reading) → Stands d t → GivenStands (values_on d quantity first t)
+  pub values_on_lem : (quantity : Bool) (first : ℕ) (t : Read ℕ) → Stands d t → GivenStands (values_on d quantity first t)
   unfolding values_on
   values_on_lem quantity first t h = by (choice_of d g TO) (choice_of_lem d g TO behind) where
-    a : Amount
+    a : Read Value
     a = value_here d (notes_on d (statement_on d t VALUES))
 
-    g : Reading
+    g : Read ℕ
     g = gap_on d (past_value a)
 
     value : AmountStands d a
@@ -260,5 +249,5 @@ module _ (d : List ℕ) where
     behind = gap_on_lem d (past_value a) (past_value_lem d a value)
 
     by : (c : Choice) → ChoiceStands d c → GivenStands (to_or d quantity first a c)
-    by (Taken m) k = range_then_lem quantity first (range_rest d quantity a (At m)) (range_rest_lem quantity a (At m) value k)
+    by (Taken m) k = range_then_lem quantity first (range_rest d quantity a (Ok m)) (range_rest_lem quantity a (Ok m) value k)
     by Left k = lines_from_lem quantity first a empty_block value

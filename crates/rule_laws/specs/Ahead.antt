@@ -1,6 +1,6 @@
 -- EVERY READER LEADS ON: what it reads ends no earlier than it begins; and a variable's name stands where the variable is read. So names
 -- stand in the order of the variables (Names.antt).
-use Rattle.std.specs.Prelude.{◌≡◌, refl, Bool, cond, List, ◌∷◌, ℕ, zero, suc, ◌+◌, ◌≤◌, ◌<◌, eqb, length}
+use Rattle.std.specs.Prelude.{◌≡◌, refl, Bool, cond, List, ◌∷◌, ℕ, zero, suc, ◌+◌, ◌≤◌, ◌<◌, eqb, length, Ok, Err}
 use Rattle.std.proofs.Math.Bool.{true, false}
 use Rattle.std.proofs.Math.Option.{Option, none, some}
 use native.Mathlib.Omega.{arith}
@@ -16,10 +16,7 @@ use Rattle.marks.specs.declared.Skip.{Skip}
 use Rattle.marks.proofs.Levels.{string_ahead}
 use Rattle.marks.proofs.Levels as levels
 use Rattle.tokens.specs.declared.Fault.{Fault}
-use Rattle.tokens.specs.declared.Reading.{Reading}
-use Rattle.tokens.specs.declared.Reading.TheVariants.{At, Refused}
-use Rattle.tokens.specs.rule.Gap.{fault, gap_at}
-use Rattle.tokens.specs.declared.Amount as books
+use Rattle.tokens.specs.rule.Gap.{fault, gap_at, Read}
 use Rattle.statements.specs.rule.Words.{CHARACTER, END, LABEL, LOGICAL, MULTIPLE, NAME, NOTE, OF, POSITION, QUANTITY, SINGLE, SIZE}
 use Rattle.statements.specs.rule.Words.{SPECIAL, SPREAD, TO, TYPE, VALUES, VARIABLE, WITH}
 use Rattle.survey.specs.rule.Survey.{Figure, Amount, KeptText, Range, Block, Variable}
@@ -35,6 +32,7 @@ use Rattle.reading.specs.rule.Variable.{ident, type, content, variable_of, held,
 use Rattle.bridge.specs.Lowest.{Judged, fine, faulty, judged_view}
 use Rattle.bridge.specs.Facts.{gap_ahead, word_ahead, Told, told, untold, number_told}
 use Rattle.bridge.specs.Amounts.{Valued, valued, unvalued, value_on_lem}
+use Rattle.tokens.specs.declared.Value.{Value}
 
 -- ---- the words: what was read from n on ends at n or behind it
 pub data After {A : Type 0} (n : ℕ) : Result A → Type 0 where
@@ -84,9 +82,9 @@ module _ (d : List ℕ) where
 
   gap_leads : Leads (gap d)
   gap_leads n = by (gap_at d n) refl where
-    by : (t : Reading) → gap_at d n ≡ t → After n (passed t)
-    by (At m) e = ends (gap_ahead d e)
-    by (Refused f) e = stops
+    by : (t : Read ℕ) → gap_at d n ≡ t → After n (passed t)
+    by (Ok m) e = ends (gap_ahead d e)
+    by (Err f) e = stops
 
   here_leads : (w : List ℕ) → Some w → Leads (here d w)
   here_leads w k = either_leads w k (λ m. Is tt m) (λ m. Not (fault 2 m)) here_ends (λ m. stops)
@@ -113,7 +111,7 @@ module _ (d : List ℕ) where
 
   amount_leads : Leads (amount d)
   amount_leads n = by (value_on_lem d n) where
-    by : {v : books.Amount} {r : Result Amount} → Valued d n v r → After n r
+    by : {v : Read Value} {r : Result Amount} → Valued d n v r → After n r
     by (valued {m = m} s f g) = let h : n ≤ m = omega arith in ends h
     by unvalued = stops
 

@@ -1,4 +1,5 @@
 -- A variable up to its position, part by part; and what stands where a tag is due, by what the code was told.
+use Rattle.std.specs.Prelude.{Ok, Err}
 use mathlib.Core.Path.{◌≡◌, refl, sym, ap}
 use mathlib.Core.Bool.{Bool}
 use mathlib.Core.List.{List}
@@ -6,7 +7,6 @@ use Prim.Native.Nat.{ℕ}
 use Rattle.scan.specs.Number.{capped}
 use Rattle.tokens.specs.declared.Fault.{Fault}
 use Rattle.tokens.specs.declared.Quoted.{Quoted}
-use Rattle.tokens.specs.declared.Phrase.TheVariants as phrase
 use Rattle.survey.specs.rule.Survey.{KeptText}
 use Rattle.reading.specs.rule.Result.{Result, Is, Not, bind}
 use Rattle.reading.specs.rule.Statement.{Position}
@@ -22,11 +22,11 @@ use Rattle.sheets.specs.Code.{name_in, label_in, position_in, front_of, fronted_
 abbrev text_of : Quoted → KeptText
 text_of q = record { place = q.place; length = q.length }
 
-phrase_is : (x : Result KeptText) (q : Quoted) → phrase_of x ≡ phrase.Is q → x ≡ Is (text_of q) q.next
+phrase_is : (x : Result KeptText) (q : Quoted) → phrase_of x ≡ Ok q → x ≡ Is (text_of q) q.next
 phrase_is (Is t n) q e = let j : record { place = t.place; length = t.length; next = n } ≡ q = cc in rw (← j)
 phrase_is (Not f) q e = never cc
 
-phrase_not : (x : Result KeptText) {f : Fault} → phrase_of x ≡ phrase.Not f → x ≡ Not f
+phrase_not : (x : Result KeptText) {f : Fault} → phrase_of x ≡ Err f → x ≡ Not f
 phrase_not (Is t n) e = never cc
 phrase_not (Not g) {f} e = let j : g ≡ f = cc in ap Not j
 
@@ -57,8 +57,8 @@ front_placed t a b i k u (Not h) e f g = refl
 
 module _ (bad : Bool) (d : List ℕ) (m : Manner) (l : List XmlEntry) (q e : ℕ) where
   pub front_is : {i k u n : ℕ} (a b : Quoted) → titled_of (title bad d m.old l q e) ≡ titled.Is i k u n → phrase_of (name_in bad d m l n)
-      ≡ phrase.Is a
-      → phrase_of (label_in bad d m.languages a.next) ≡ phrase.Is b
+      ≡ Ok a
+      → phrase_of (label_in bad d m.languages a.next) ≡ Ok b
       → placed_of i k u a b (position_in bad d b.next) ≡ fronted_of (front_of bad d m l q e)
   unfolding front_of
   front_is {i} {k} {u} {n} a b x y z =
@@ -67,15 +67,15 @@ module _ (bad : Bool) (d : List ℕ) (m : Manner) (l : List XmlEntry) (q e : ℕ
       (front_placed t.title a b i k u (position_in bad d b.next) t.ident t.type t.usage)
 
   pub label_not : {i k u n : ℕ} (a : Quoted) {f : Fault} → titled_of (title bad d m.old l q e) ≡ titled.Is i k u n
-      → phrase_of (name_in bad d m l n) ≡ phrase.Is a
-      → phrase_of (label_in bad d m.languages a.next) ≡ phrase.Not f → fronted.Not f ≡ fronted_of (front_of bad d m l q e)
+      → phrase_of (name_in bad d m l n) ≡ Ok a
+      → phrase_of (label_in bad d m.languages a.next) ≡ Err f → fronted.Not f ≡ fronted_of (front_of bad d m l q e)
   unfolding front_of
   label_not {n = n} a x y z =
       let t = title_is (title bad d m.old l q e) x in
       rw (t.is, phrase_is (name_in bad d m l n) a y, phrase_not (label_in bad d m.languages a.next) z)
 
   pub name_not : {i k u n : ℕ} {f : Fault} → titled_of (title bad d m.old l q e) ≡ titled.Is i k u n → phrase_of (name_in bad d m l n)
-      ≡ phrase.Not f
+      ≡ Err f
       → fronted.Not f ≡ fronted_of (front_of bad d m l q e)
   unfolding front_of
   name_not {n = n} x y = let t = title_is (title bad d m.old l q e) x in rw (t.is, phrase_not (name_in bad d m l n) y)

@@ -1,4 +1,5 @@
 -- Inside a variable: what is due is found first and read then, and each answer lies within the file.
+use Rattle.std.specs.Prelude.{Ok, Err}
 use mathlib.Core.Path.{◌≡◌, refl, ap, ◌∙◌}
 use mathlib.Core.Bool.{Bool}
 use mathlib.Core.List.{List}
@@ -10,10 +11,7 @@ use borrow.Author.Tests.{le-ltb}
 use Rattle.scan.specs.Number.{capped}
 use Rattle.tokens.specs.declared.Fault.{Fault}
 use Rattle.tokens.specs.declared.Quoted.{Quoted}
-use Rattle.tokens.specs.declared.Phrase.{Phrase}
-use Rattle.tokens.specs.declared.Phrase.TheVariants as phrase
 use Rattle.statements.specs.declared.Position as located
-use Rattle.statements.specs.declared.Stated.TheVariants as stated
 use Rattle.filters.specs.Code.{phrase_end, phrase_next}
 use Rattle.sheets.specs.declared.Fronted.TheVariants as fronted
 use Rattle.survey.specs.rule.Survey.{KeptText}
@@ -34,6 +32,7 @@ use Rattle.elements.proofs.Dues.{read_due, due_then}
 use Rattle.xml_laws.specs.Reads.{Lying, Positioned, bound, within_long}
 use Rattle.xml_laws.specs.Entries.{due_is}
 use Rattle.sheets.specs.Code.{due_in, DueEnds, PhraseEnds, StatedEnds, placed_of}
+use Rattle.tokens.specs.rule.Gap.{Read}
 
 pub due_read : (x : Result ℕ) {p e : ℕ} → due_of x ≡ dues.At p e → x ≡ Is p e
 due_read (Is q m) {p} {e} f = let a : q ≡ p = cc in let b : m ≡ e = cc in rw (a, b)
@@ -96,12 +95,12 @@ module _ (bad : Bool) (d : List ℕ) where
   stated_ends (Not g) h = tt
 
 -- ---- a name, and a position
-pub name_ends : (d : List ℕ) (r : Phrase) → phrase_end r ≤ length d → phrase_next r ≤ length d → PhraseEnds d r
-name_ends d (phrase.Is q) a b = (a, b)
-name_ends d (phrase.Not f) a b = tt
+pub name_ends : (d : List ℕ) (r : Read Quoted) → phrase_end r ≤ length d → phrase_next r ≤ length d → PhraseEnds d r
+name_ends d (Ok q) a b = (a, b)
+name_ends d (Err f) a b = tt
 
 module _ (ident kind usage : ℕ) (a b : Quoted) where
-  pub placed_by : (x : Result Position) (q : located.Position) → to_stated x ≡ stated.Is q
+  pub placed_by : (x : Result Position) (q : located.Position) → to_stated x ≡ Ok q
       → fronted.Is (record {
         ident = ident;
         name = record { place = a.place; length = a.length; next = 0 };
@@ -122,6 +121,6 @@ module _ (ident kind usage : ℕ) (a b : Quoted) where
       rw (← j)
   placed_by (Not f) q e = never cc
 
-  pub placed_not : (x : Result Position) {f : Fault} → to_stated x ≡ stated.Not f → fronted.Not f ≡ placed_of ident kind usage a b x
+  pub placed_not : (x : Result Position) {f : Fault} → to_stated x ≡ Err f → fronted.Not f ≡ placed_of ident kind usage a b x
   placed_not (Is p n) e = never cc
   placed_not (Not g) {f} e = let j : g ≡ f = cc in rw j

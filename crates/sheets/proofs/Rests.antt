@@ -1,4 +1,5 @@
 -- What a type has behind the filter, by what the code was told of its parts.
+use Rattle.std.specs.Prelude.{Ok, Err}
 use mathlib.Core.Path.{◌≡◌, refl, sym, ap, ◌∙◌}
 use mathlib.Core.Bool.{Bool, true, false, cond}
 use mathlib.Core.List.{List}
@@ -12,11 +13,8 @@ use Rattle.scan.specs.Number.{capped}
 use Rattle.tags.specs.rule.Tag.{is_named}
 use Rattle.tokens.specs.declared.Fault.{Fault}
 use Rattle.tokens.specs.declared.Figures.{Figures}
-use Rattle.tokens.specs.declared.Number.TheVariants as number
-use Rattle.tokens.specs.declared.Reading.TheVariants as reading
 use Rattle.values.specs.declared.Block as books
 use Rattle.values.specs.declared.Listed.TheVariants as listed
-use Rattle.variables.specs.declared.Rested.TheVariants as rested
 use Rattle.survey.specs.rule.Survey.{Figure, Block}
 use Rattle.survey.specs.rule.Table.{cells_of}
 use Rattle.reading.specs.rule.Result.{Result, Is, Not, Reader, bind, give}
@@ -79,15 +77,15 @@ module _ (bad : Bool) (d : List ℕ) where
   size_never o f = after (read_of o) (λ x. due bad d SIZE x (size bad d)) K
       ∙ ap (λ (r : Result Figure). bind r K) (due_never SIZE o (size bad d) f)
 
-  pub size_next : (p e : ℕ) (x : Figures) → 1 ≤ e → to_number (size bad d p e) ≡ number.Is x → x.next ≤ length d
+  pub size_next : (p e : ℕ) (x : Figures) → 1 ≤ e → to_number (size bad d p e) ≡ Ok x → x.next ≤ length d
   size_next p e x h = by (size bad d p e) refl where
-    by : (r : Result Figure) → size bad d p e ≡ r → to_number r ≡ number.Is x → x.next ≤ length d
+    by : (r : Result Figure) → size bad d p e ≡ r → to_number r ≡ Ok x → x.next ≤ length d
     by (Is y n) i f =
         let j : record { size = capped y.value; count = y.digits; place = y.place; next = n } ≡ x = cc in
         rw (← j) (size_fine bad d p e h i).next
     by (Not g) i f = never cc
 
-  pub sized_by : (before : ℕ) (y : Result Figure) (x : Figures) → to_number y ≡ number.Is x
+  pub sized_by : (before : ℕ) (y : Result Figure) (x : Figures) → to_number y ≡ Ok x
       → plain_of x.size before (reading_of (end_in bad d x.next)) ≡ sized_of before (bind y K)
   sized_by before (Is f n) x e =
       let j : record { size = capped f.value; count = f.digits; place = f.place; next = n } ≡ x = cc in
@@ -98,7 +96,7 @@ module _ (bad : Bool) (d : List ℕ) where
       by (Not g) = refl
   sized_by before (Not g) x e = never cc
 
-  pub sized_not : (before : ℕ) (y : Result Figure) {f : Fault} → to_number y ≡ number.Not f → rested.Not f ≡ sized_of before (bind y K)
+  pub sized_not : (before : ℕ) (y : Result Figure) {f : Fault} → to_number y ≡ Err f → Err f ≡ sized_of before (bind y K)
   sized_not before (Is x n) e = never cc
   sized_not before (Not g) {f} e = let j : g ≡ f = cc in rw j
 
@@ -145,36 +143,36 @@ module _ (bad : Bool) (d : List ℕ) where
       abbrev all : Result Block
       all = bind (read_of o) (values_ended bad d languages isQuantity before)
 
-      refused : {f : Fault} → all ≡ Not f → Valued c w before all room end (rested.Not f)
+      refused : {f : Fault} → all ≡ Not f → Valued c w before all room end (Err f)
       refused e = record { is = rw e; line = λ b n i. other (sym e ∙ i) } where
         other : {B : Type 0} {f : Fault} {b : Block} {n : ℕ} → Not f ≡ Is b n → B
         other z = never cc
 
       pub valued_due : {f : Fault} → due_of (bind (read_of o) λ x. due bad d VALUES x give) ≡ dues.Not f
-          → Valued c w before all room end (rested.Not f)
+          → Valued c w before all room end (Err f)
       valued_due e = refused (values_never o e)
 
       module _ {p e : ℕ} (f : due_of (bind (read_of o) λ x. due bad d VALUES x give) ≡ dues.At p e) where
-        pub valued_not : {g : Fault} → listed_of before (read p e) ≡ listed.Not g → Valued c w before all room end (rested.Not g)
+        pub valued_not : {g : Fault} → listed_of before (read p e) ≡ listed.Not g → Valued c w before all room end (Err g)
         valued_not i = refused (values_ended_lem o f ∙ rw (listed_not (read p e) i))
 
         module _ {b : books.Block} {last n : ℕ} (i : listed_of before (read p e) ≡ listed.Is b last n) where
           ended_is : all ≡ bind (end_in bad d n) (λ u k. Is (listed_is (read p e) i).block k)
           ended_is = values_ended_lem o f ∙ ap (λ (r : Result Block). bind r K) (listed_is (read p e) i).is
 
-          ends_at : (r : Result Unit) {k : ℕ} → reading_of r ≡ reading.At k → (x : Block) → bind r (λ u k. Is x k) ≡ Is x k
+          ends_at : (r : Result Unit) {k : ℕ} → reading_of r ≡ Ok k → (x : Block) → bind r (λ u k. Is x k) ≡ Is x k
           ends_at (Is u j) {k} g x = let q : j ≡ k = cc in ap (Is x) q
           ends_at (Not h) g x = never cc
 
-          ends_not : (r : Result Unit) {h : Fault} → reading_of r ≡ reading.Refused h → (x : Block) → bind r (λ u k. Is x k) ≡ Not h
+          ends_not : (r : Result Unit) {h : Fault} → reading_of r ≡ Err h → (x : Block) → bind r (λ u k. Is x k) ≡ Not h
           ends_not (Is u j) g x = never cc
           ends_not (Not q) {h} g x = let j : q ≡ h = cc in ap Not j
 
-          pub valued_ended : {h : Fault} → reading_of (end_in bad d n) ≡ reading.Refused h → Valued c w before all room end (rested.Not h)
+          pub valued_ended : {h : Fault} → reading_of (end_in bad d n) ≡ Err h → Valued c w before all room end (Err h)
           valued_ended g = refused (ended_is ∙ ends_not (end_in bad d n) g (listed_is (read p e) i).block)
 
-          pub valued_is : {k : ℕ} → reading_of (end_in bad d n) ≡ reading.At k → Stored before (read p e) room end
-              → Valued c w before all room end (rested.Is
+          pub valued_is : {k : ℕ} → reading_of (end_in bad d n) ≡ Ok k → Stored before (read p e) room end
+              → Valued c w before all room end (Ok
               (record { block = b; last = last; subfields = c; subwidth = w; size = 0; next = k }))
           valued_is {k} g s =
               let x = listed_is (read p e) i in
@@ -189,6 +187,6 @@ module _ (bad : Bool) (d : List ℕ) where
               same z = cc
 
               made : (x : Block) (b : books.Block) (last k : ℕ) → b ≡ block_as x → last ≡ before + length x.lines
-                  → rested.Is (record { block = b; last = last; subfields = c; subwidth = w; size = 0; next = k })
+                  → Ok (record { block = b; last = last; subfields = c; subwidth = w; size = 0; next = k })
                   ≡ valued_of c w before (Is x k)
               made x b last k e g = rw (e, g)

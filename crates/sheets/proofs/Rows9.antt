@@ -1,4 +1,5 @@
 -- A VARIABLE AS A ROW: what is read behind its position, measured, is the rule's variable; its row is small enough for the room.
+use Rattle.std.specs.Prelude.{Ok, Err}
 use mathlib.Core.Path.{◌≡◌, refl, sym, ap, ◌∙◌}
 use mathlib.Core.Bool.{Bool, true, false, cond, not}
 use mathlib.Core.List.{List, [], ◌∷◌, ◌++◌}
@@ -21,13 +22,11 @@ use Rattle.forms.specs.rule.Form as forms
 use Rattle.forms.specs.rule.Form.{fits_of}
 use Rattle.tags.specs.rule.Tag.{tag_of, stretch_fits}
 use Rattle.tokens.specs.declared.Fault.{Fault}
-use Rattle.tokens.specs.declared.Reading.TheVariants.{At}
 use Rattle.tokens.specs.rule.Gap.{fault}
 use Rattle.tokens.specs.declared.Quoted.{Quoted}
 use Rattle.values.specs.declared.Block as books
 use Rattle.variables.specs.declared.Head.{Head}
 use Rattle.variables.specs.declared.Rest.{Rest}
-use Rattle.variables.specs.declared.Rested.TheVariants as rested
 use Rattle.measures.specs.Width.{number_in, Measurable, full_columns, widened, plain_columns}
 use Rattle.measures.specs.Survey.{counted_in, columns_in, holds_in}
 use Rattle.measures.specs.Good.{GoodVariable}
@@ -228,7 +227,7 @@ rest_by a e h u v = rw (e, h, u, v)
 used_by_lem : (f : ℕ) {u v : ℕ} {c e : Columns} → u ≡ v → c ≡ e → used_by u f c ≡ used_by v f e
 used_by_lem f h k = rw (h, k)
 
-rest_inj : (a b : Rest) → rested.Is a ≡ rested.Is b → a ≡ b
+rest_inj : (a b : Rest) → Ok a ≡ Ok b → a ≡ b
 rest_inj a b e = cc
 
 -- ---- the columns of a variable that its position holds are small
@@ -372,7 +371,7 @@ module _ (bad : Bool) (d : List ℕ) (long : length d ≤ 1048576) (m : Manner) 
     pub typed : t.type ≡ type_of what
     pub filter : Filter bad d l t.usage s.filter
 
-  pub rest_read : (s : Sifted) (r : Rest) → s ≡ sifted_of sifted → rested.Is r ≡ rested_in (h.finish + 1 - h.start) b (contents s)
+  pub rest_read : (s : Sifted) (r : Rest) → s ≡ sifted_of sifted → Ok r ≡ rested_in (h.finish + 1 - h.start) b (contents s)
       → RestRead s r
   unfolding after_filter
   rest_read s r e f = by sifted refl e where
@@ -406,7 +405,7 @@ module _ (bad : Bool) (d : List ℕ) (long : length d ≤ 1048576) (m : Manner) 
       on (Not a) j = let k = f ∙ ap (rested_in (h.finish + 1 - h.start) b) (contents_are s (Is y n) e ∙ j) in never cc
     by (Not a) i e = let k = f ∙ ap (rested_in (h.finish + 1 - h.start) b) (contents_are s (Not a) e) in never cc
 
-  pub rest_not : (s : Sifted) (f : Fault) → s ≡ sifted_of sifted → rested.Not f ≡ rested_in (h.finish + 1 - h.start) b (contents s)
+  pub rest_not : (s : Sifted) (f : Fault) → s ≡ sifted_of sifted → Err f ≡ rested_in (h.finish + 1 - h.start) b (contents s)
       → behind_front bad d m l x.front at ≡ Not f
   unfolding after_filter
   rest_not s f e q =
@@ -415,7 +414,7 @@ module _ (bad : Bool) (d : List ℕ) (long : length d ≤ 1048576) (m : Manner) 
       (after_content bad d m l t x.front.name x.front.label p y.it))) (sym be)
       ∙ by sifted e
     where
-      none : (r : Result Content) → rested.Not f ≡ rested_in (h.finish + 1 - h.start) b r → r ≡ Not f
+      none : (r : Result Content) → Err f ≡ rested_in (h.finish + 1 - h.start) b r → r ≡ Not f
       none (Is c n) e = never cc
       none (Not a) e = let z : f ≡ a = cc in ap Not (sym z)
 
@@ -479,7 +478,7 @@ module _ (bad : Bool) (d : List ℕ) (long : length d ≤ 1048576) (m : Manner) 
               → Measurable n k q b
           by n k q e f z a = rw (e, f, z) a
 
-      pub settled_here : (n : ℕ) → settled_by (number_in lines' b) h (placeless_of r) b (At n) ≡ stood_from b (held v n)
+      pub settled_here : (n : ℕ) → settled_by (number_in lines' b) h (placeless_of r) b (Ok n) ≡ stood_from b (held v n)
       settled_here n =
           by lines' h (placeless_of r) pasted-in head_same rest_same
           ∙ settled_same 0 0 b o.contained.subfields o.contained.subwidth v o.contained.told
@@ -487,7 +486,7 @@ module _ (bad : Bool) (d : List ℕ) (long : length d ≤ 1048576) (m : Manner) 
           (telling_good b o.contained.subfields o.contained.subwidth v few fine) lines wide n
         where
           by : (i : List ℤ) (k : Head) (q : Rest) {i' : List ℤ} {k' : Head} {q' : Rest} → i ≡ i' → k ≡ k' → q ≡ q'
-              → settled_by (number_in i b) k q b (At n) ≡ settled_by (number_in i' b) k' q' b (At n)
+              → settled_by (number_in i b) k q b (Ok n) ≡ settled_by (number_in i' b) k' q' b (Ok n)
           by i k q e f z = rw (e, f, z)
 
     -- ---- the row
@@ -612,12 +611,12 @@ module _ (bad : Bool) (d : List ℕ) (long : length d ≤ 1048576) (m : Manner) 
           ap (λ (k : Head). sifted_of (sifted_in bad d m l (record { place = k.name.place; length = k.name.length }) usage at)) e
           ∙ ap (λ (u : ℕ). sifted_of (sifted_in bad d m l (record { place = k.name.place; length = k.name.length }) u at)) f
 
-    pub body_not : (rows' : List ℤ) (f : Fault) → Rests bytes y.lines content_of lines lines' (rested.Not f)
+    pub body_not : (rows' : List ℤ) (f : Fault) → Rests bytes y.lines content_of lines lines' (Err f)
         → Bodied bad d m seen y h usage at rows rows' lines lines' (entereds.Not f)
     body_not rows' f q = not_all rows' lines lines' f λ l b x. rest_not bad d long m l b.fine y.lines (lines_of_lem b) h usage at x s f
         (sifted_is l b x) q.is
 
-    module _ (r : Rest) (rests : Rests bytes y.lines content_of lines lines' (rested.Is r)) (q : Rest) (q-is : q ≡ placeless_of r) where
+    module _ (r : Rest) (rests : Rests bytes y.lines content_of lines lines' (Ok r)) (q : Rest) (q-is : q ≡ placeless_of r) where
       abbrev read : (l : List XmlEntry) (b : Before d seen y rows l) (x : FrontRead bad d m l h usage at)
           → RestRead bad d long m l b.fine y.lines (lines_of_lem b) h usage at x s r
       read l b x = rest_read bad d long m l b.fine y.lines (lines_of_lem b) h usage at x s r (sifted_is l b x) rests.is
@@ -636,23 +635,23 @@ module _ (bad : Bool) (d : List ℕ) (long : length d ≤ 1048576) (m : Manner) 
         abbrev whole : Variable
         whole = variable_of x.front.title.ident x.front.name x.front.label x.front.position (read l b x).what
 
-        settled_all : settled_by (number_in lines' y.lines) h q y.lines (At r.next)
+        settled_all : settled_by (number_in lines' y.lines) h q y.lines (Ok r.next)
             ≡ stood_from y.lines (held whole (read l b x).place)
         settled_all =
             let o = read l b x in
-            ap (λ (q : Rest). settled_by (number_in lines' y.lines) h q y.lines (At r.next)) q-is
-            ∙ ap (λ (n : ℕ). settled_by (number_in lines' y.lines) h (placeless_of r) y.lines (At n))
+            ap (λ (q : Rest). settled_by (number_in lines' y.lines) h q y.lines (Ok r.next)) q-is
+            ∙ ap (λ (n : ℕ). settled_by (number_in lines' y.lines) h (placeless_of r) y.lines (Ok n))
             (ap (λ (r : Rest). r.next) o.rest_is)
             ∙ settled_here bad d long m l b.fine y.lines (lines_of_lem b) h usage at x s r o lines lines' wide
             (rests.line o.what o.place o.what_is) o.place
 
-      pub body_unheld : (rows' : List ℤ) (f : Fault) → stood.Not f ≡ settled_by (number_in lines' y.lines) h q y.lines (At r.next)
+      pub body_unheld : (rows' : List ℤ) (f : Fault) → stood.Not f ≡ settled_by (number_in lines' y.lines) h q y.lines (Ok r.next)
           → Bodied bad d m seen y h usage at rows rows' lines lines' (entereds.Not f)
       body_unheld rows' f e =
           not_all rows' lines lines' f λ l b x. not_held bad d long m l b.fine y.lines (lines_of_lem b) h usage at x s r (read l b x) f
           (e ∙ settled_all l b x)
 
-      module _ (c : Columns) (last k : ℕ) (e : stood.Is c last k ≡ settled_by (number_in lines' y.lines) h q y.lines (At r.next))
+      module _ (c : Columns) (last k : ℕ) (e : stood.Is c last k ≡ settled_by (number_in lines' y.lines) h q y.lines (Ok r.next))
         where
           settles : (l : List XmlEntry) (b : Before d seen y rows l) (x : FrontRead bad d m l h usage at)
               → Settled y.lines (whole l b x) (read l b x).place c last k

@@ -1,4 +1,5 @@
 -- By type: what a variable has behind its position, from what is known of its block, its size or its end (Rests).
+use Rattle.std.specs.Prelude.{Ok, Err}
 use mathlib.Core.Path.{◌≡◌, refl, sym, ap, ◌∙◌}
 use mathlib.Core.Bool.{Bool, true, false}
 use mathlib.Core.List.{List}
@@ -12,11 +13,7 @@ use Rattle.cells.specs.Cell.{paste_none}
 use Rattle.layout.specs.rule.Layout.{line_size}
 use Rattle.scan.specs.Number.{capped}
 use Rattle.tokens.specs.declared.Fault.{Fault}
-use Rattle.tokens.specs.declared.Reading.TheVariants as reading
 use Rattle.statements.specs.declared.Subfields.{Subfields}
-use Rattle.statements.specs.declared.Spreading.TheVariants as shared
-use Rattle.variables.specs.declared.Rested.{Rested}
-use Rattle.variables.specs.declared.Rested.TheVariants as rested
 use Rattle.survey.specs.rule.Survey.{Figure, Spread, Block, Content, single, multiple, quantity, character, logical}
 use Rattle.survey.specs.rule.Width.{some_of, each_of, amounts, no_block, block_in}
 use Rattle.survey.specs.rule.Table.{cells_of}
@@ -36,6 +33,8 @@ use Rattle.prefaces.specs.Code.{reading_of}
 use Rattle.xml_bridge.specs.Book.{block_as}
 use Rattle.xml_laws.specs.Reads.{bound}
 use Rattle.sheets.specs.Code.{end_in, rested_in, content_by, Rests, values_ended, size_ended, valued_of, Valued, plain_of, sized_of}
+use Rattle.tokens.specs.rule.Gap.{Read}
+use Rattle.variables.specs.declared.Rest.{Rest}
 
 -- ---- readers one behind another
 pub bind_on : {A B C : Type 0} (r : Result A) (f : A → Reader B) (g : B → Reader C) → bind (bind r f) g ≡ bind r (λ a n. bind (f a n) g)
@@ -49,18 +48,18 @@ pub record Shared (room : ℕ) (x : Result Spread) (k : Subfields) : Type 0 wher
   pub count_is : k.count ≡ capped spread.count.value
   pub width_is : k.width ≡ even_or room (capped spread.count.value) spread.width
 
-pub spread_read : (room : ℕ) (x : Result Spread) {k : Subfields} → to_spreading room x ≡ shared.Is k → Shared room x k
+pub spread_read : (room : ℕ) (x : Result Spread) {k : Subfields} → to_spreading room x ≡ Ok k → Shared room x k
 spread_read room (Is s n) {k} e =
     let a : record { count = capped s.count.value; width = even_or room (capped s.count.value) s.width; next = n } ≡ k = cc in
     rw (← a) (record { spread = s; is = refl; count_is = refl; width_is = refl })
 spread_read room (Not f) e = never cc
 
-pub spread_refused : (room : ℕ) (x : Result Spread) {f : Fault} → to_spreading room x ≡ shared.Not f → x ≡ Not f
+pub spread_refused : (room : ℕ) (x : Result Spread) {f : Fault} → to_spreading room x ≡ Err f → x ≡ Not f
 spread_refused room (Is s n) e = never cc
 spread_refused room (Not g) {f} e = let a : g ≡ f = cc in ap Not a
 
 -- ---- what a type keeps of values
-pub rests_of : {c w before room : ℕ} {v : Result Block} {k : Result Content} {lines lines' : List ℤ} {r : Rested} (f : Block → Content)
+pub rests_of : {c w before room : ℕ} {v : Result Block} {k : Result Content} {lines lines' : List ℤ} {r : Read Rest} (f : Block → Content)
     → ((b : Block) (n : ℕ) → rested_in room before (Is (f b) n) ≡ valued_of c w before (Is b n)) → ((b : Block) → block_in (f b) ≡ b)
     → k ≡ bind v (λ b n. Is (f b) n) → Valued c w before v lines lines' r → Rests room before k lines lines' r
 rests_of {c} {w} {before} {room} {v} {k} {lines} {lines'} {r} f g h e x = record
@@ -76,13 +75,13 @@ rests_of {c} {w} {before} {room} {v} {k} {lines} {lines'} {r} f g h e x = record
           rw (← a, h b.value) (x.line b.value b.place b.first_is)
 
 -- with a spread
-pub rests_spread : {c w before room : ℕ} {v : Result Block} {k : Result Content} {lines lines' : List ℤ} {r : Rested} (s : Spread)
+pub rests_spread : {c w before room : ℕ} {v : Result Block} {k : Result Content} {lines lines' : List ℤ} {r : Read Rest} (s : Spread)
     → c ≡ capped s.count.value → w ≡ even_or room (capped s.count.value) s.width → k ≡ bind v (λ b n. Is (multiple (some s) b) n)
     → Valued c w before v lines lines' r → Rests room before k lines lines' r
 rests_spread s a b e x = rests_of (multiple (some s)) (λ y n. rw (a, b)) (λ y. refl) e x
 
 pub rests_not : {before room : ℕ} {k : Result Content} {lines lines' : List ℤ} {f : Fault} → k ≡ Not f
-    → Rests room before k lines lines' (rested.Not f)
+    → Rests room before k lines lines' (Err f)
 rests_not e = record { is = rw e; line = λ y n f. never cc }
 
 -- ---- by type
@@ -116,7 +115,7 @@ module _ (bad : Bool) (d : List ℕ) (m : Manner) (before : ℕ) where
   content_quantity room x = block_then true quantity x
 
   -- a type of that number
-  pub kinded : {room kind k : ℕ} (x : Result rule.Open) {lines lines' : List ℤ} {r : Rested} → kind ≡ k
+  pub kinded : {room kind k : ℕ} (x : Result rule.Open) {lines lines' : List ℤ} {r : Read Rest} → kind ≡ k
       → Rests room before (bind x (content_by bad d m room before k)) lines lines' r
       → Rests room before (bind x (content_by bad d m room before kind)) lines lines' r
   kinded x e h = rw e h
@@ -215,7 +214,7 @@ module _ (bad : Bool) (d : List ℕ) (m : Manner) (before : ℕ) where
   content_logical room kind (Not g) a b c e = refl
 
   -- no values: the room stays as it is
-  nothing_there : (n k : ℕ) → rested.Is (record {
+  nothing_there : (n k : ℕ) → Ok (record {
     block = block_as no_block;
     last = before
         + 0;
@@ -224,7 +223,7 @@ module _ (bad : Bool) (d : List ℕ) (m : Manner) (before : ℕ) where
     size = k;
     next = n;
   })
-      ≡ plain_of k before (reading.At n)
+      ≡ plain_of k before (Ok n)
   unfolding some_of each_of amounts
   nothing_there n k = let a : before + 0 ≡ before = omega arith in rw a
 
@@ -232,7 +231,7 @@ module _ (bad : Bool) (d : List ℕ) (m : Manner) (before : ℕ) where
   unfolding cells_of
   unmoved lines = paste_none lines (line_size * before)
 
-  pub rests_size : (room : ℕ) (x : Result rule.Open) {lines : List ℤ} {r : Rested} → r ≡ sized_of before (bind x (size_ended bad d))
+  pub rests_size : (room : ℕ) (x : Result rule.Open) {lines : List ℤ} {r : Read Rest} → r ≡ sized_of before (bind x (size_ended bad d))
       → Rests room before (bind x (content_by bad d m room before 4)) lines lines r
   rests_size room x {lines} {r} e = record {
     is = e ∙ by (bind x (size_ended bad d))
@@ -250,7 +249,7 @@ module _ (bad : Bool) (d : List ℕ) (m : Manner) (before : ℕ) where
         let a : character b.value ≡ y = cc in
         rw (← a) (unmoved lines)
 
-  pub rests_logical : (room kind : ℕ) (x : Result rule.Open) {lines : List ℤ} {r : Rested}
+  pub rests_logical : (room kind : ℕ) (x : Result rule.Open) {lines : List ℤ} {r : Read Rest}
       → eqb kind 1 ≡ false → eqb kind 2 ≡ false → eqb kind 3 ≡ false → eqb kind 4 ≡ false
       → r ≡ plain_of 0 before (reading_of (bind x (over bad d)))
       → Rests room before (bind x (content_by bad d m room before kind)) lines lines r

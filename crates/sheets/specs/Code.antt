@@ -1,25 +1,17 @@
 -- THE CODE'S BOOKS: the answers of the rule's readers (`xml_reading`) as the code of a sheet holds them, and what it keeps of the variables
 -- that
 -- were read.
-use Rattle.std.specs.Prelude.{◌≡◌, Bool, List, [], ◌∷◌, ◌++◌, ℕ, ◌+◌, ◌*◌, ◌≤◌, ◌<◌, ℤ, length}
+use Rattle.std.specs.Prelude.{◌≡◌, Bool, List, [], ◌∷◌, ◌++◌, ℕ, ◌+◌, ◌*◌, ◌≤◌, ◌<◌, ℤ, length, Ok, Err}
 use Rattle.std.proofs.Math.Option.{Option, none, some, get_or}
 use Rattle.cells.specs.rule.Cell.{pasted}
 use Rattle.layout.specs.rule.Layout.{row_size, line_size, most_rows, most_lines, mark_xml}
 use Rattle.rows.specs.rule.Cells.{row_cells}
 use Rattle.scan.specs.Number.{capped}
 use Rattle.scan.specs.rule.Loop.{Next, Again, Done}
-use Rattle.tokens.specs.declared.Reading.{Reading}
-use Rattle.tokens.specs.declared.Reading.TheVariants as reading
 use Rattle.tokens.specs.declared.Quoted.{Quoted}
-use Rattle.tokens.specs.declared.Phrase.{Phrase}
-use Rattle.tokens.specs.declared.Phrase.TheVariants as phrase
-use Rattle.statements.specs.declared.Stated.{Stated}
-use Rattle.statements.specs.declared.Stated.TheVariants as stated
 use Rattle.values.specs.Block.{empty_block}
 use Rattle.variables.specs.declared.Head.{Head}
 use Rattle.variables.specs.declared.Rest.{Rest}
-use Rattle.variables.specs.declared.Rested.{Rested}
-use Rattle.variables.specs.declared.Rested.TheVariants as rested
 use Rattle.survey.specs.rule.Survey.{Figure, KeptText, Spread, Block, Content}
 use Rattle.survey.specs.rule.Width.{block_in}
 use Rattle.survey.specs.rule.Table.{lines_of, lines_all, highest_in, cells_of, all_lines, spread_in}
@@ -61,6 +53,7 @@ use Rattle.sheets.specs.declared.Turn.{Turn}
 use Rattle.sheets.specs.declared.Turn.TheVariants as turns
 use Rattle.sheets.specs.declared.Run.{Run}
 use Rattle.sheets.specs.declared.Run.TheVariants as run
+use Rattle.tokens.specs.rule.Gap.{Read}
 
 -- ---- inside a variable
 module _ (bad : Bool) (d : List ℕ) where
@@ -83,9 +76,9 @@ abbrev pub DueEnds : List ℕ → Due → Type 0
 DueEnds d (dues.At p e) = (1 ≤ e) × (e ≤ length d)
 DueEnds d (dues.Not f) = Unit
 
-abbrev pub PhraseEnds : List ℕ → Phrase → Type 0
-PhraseEnds d (phrase.Is q) = (q.place + q.length ≤ length d) × (q.next ≤ length d)
-PhraseEnds d (phrase.Not f) = Unit
+abbrev pub PhraseEnds : List ℕ → Read Quoted → Type 0
+PhraseEnds d (Ok q) = (q.place + q.length ≤ length d) × (q.next ≤ length d)
+PhraseEnds d (Err f) = Unit
 
 -- a head that may be measured
 abbrev pub FrontEnds : List ℕ → Fronted → Type 0
@@ -93,9 +86,9 @@ FrontEnds d (fronted.Is h u n) =
     (n ≤ length d) × (h.name.place + h.name.length ≤ length d) × (1 ≤ h.start) × (h.start ≤ h.finish) × (h.finish ≤ 16384)
 FrontEnds d (fronted.Not f) = Unit
 
-abbrev pub StatedEnds : List ℕ → Stated → Type 0
-StatedEnds d (stated.Is q) = (q.next ≤ length d) × (1 ≤ q.start) × (q.start ≤ q.finish) × (q.finish ≤ 16384)
-StatedEnds d (stated.Not f) = Unit
+abbrev pub StatedEnds : List ℕ → Read Position → Type 0
+StatedEnds d (Ok q) = (q.next ≤ length d) × (1 ≤ q.start) × (q.start ≤ q.finish) × (q.finish ≤ 16384)
+StatedEnds d (Err f) = Unit
 
 -- ---- by type: what the code keeps of it, for a position of `room` bytes, behind `before` lines
 abbrev pub count_in : Option Spread → ℕ
@@ -110,8 +103,8 @@ width_in room (some s) = even_or room (capped s.count.value) s.width
 abbrev pub placeless_of : Rest → Rest
 placeless_of r = record { block = r.block; last = r.last; subfields = r.subfields; subwidth = r.subwidth; size = r.size; next = 0 }
 
-abbrev pub rested_in : ℕ → ℕ → Result Content → Rested
-rested_in room before (Is c n) = rested.Is (record {
+abbrev pub rested_in : ℕ → ℕ → Result Content → Read Rest
+rested_in room before (Is c n) = Ok (record {
   block = block_as (block_in c);
   last = before + length (block_in c).lines;
   subfields = count_in (spread_in c);
@@ -119,7 +112,7 @@ rested_in room before (Is c n) = rested.Is (record {
   size = capped (size_in c);
   next = n;
 })
-rested_in room before (Not f) = rested.Not f
+rested_in room before (Not f) = Err f
 
 -- a position of so many bytes
 abbrev pub roomy : ℕ → Position
@@ -133,7 +126,7 @@ module _ (bad : Bool) (d : List ℕ) (m : Manner) where
   content_by room before kind = content bad d m (roomy room) before kind
 
 -- its lines stand in the room behind `before` others
-pub record Rests (room before : ℕ) (k : Result Content) (lines lines' : List ℤ) (r : Rested) : Type 0 where
+pub record Rests (room before : ℕ) (k : Result Content) (lines lines' : List ℤ) (r : Read Rest) : Type 0 where
   pub is : r ≡ rested_in room before k
   pub line : (c : Content) (n : ℕ) → k ≡ Is c n → lines' ≡ pasted lines (line_size * before) (cells_of (block_in c).lines)
 
@@ -146,8 +139,8 @@ module _ (bad : Bool) (d : List ℕ) where
   abbrev pub size_ended : rule.Open → Reader Figure
   size_ended o n = bind (due bad d SIZE o (size bad d) n) λ x n. bind (end_in bad d n) λ u n. Is x n
 
-abbrev pub valued_of : ℕ → ℕ → ℕ → Result Block → Rested
-valued_of c w before (Is b n) = rested.Is (record {
+abbrev pub valued_of : ℕ → ℕ → ℕ → Result Block → Read Rest
+valued_of c w before (Is b n) = Ok (record {
   block = block_as b;
   last = before + length b.lines;
   subfields = c;
@@ -155,20 +148,20 @@ valued_of c w before (Is b n) = rested.Is (record {
   size = 0;
   next = n;
 })
-valued_of c w before (Not f) = rested.Not f
+valued_of c w before (Not f) = Err f
 
-pub record Valued (c w before : ℕ) (k : Result Block) (lines lines' : List ℤ) (r : Rested) : Type 0 where
+pub record Valued (c w before : ℕ) (k : Result Block) (lines lines' : List ℤ) (r : Read Rest) : Type 0 where
   pub is : r ≡ valued_of c w before k
   pub line : (b : Block) (n : ℕ) → k ≡ Is b n → lines' ≡ pasted lines (line_size * before) (cells_of b.lines)
 
-abbrev pub plain_of : ℕ → ℕ → Reading → Rested
-plain_of size before (reading.At n) = rested.Is (record
+abbrev pub plain_of : ℕ → ℕ → Read ℕ → Read Rest
+plain_of size before (Ok n) = Ok (record
     { block = empty_block; last = before; subfields = 0; subwidth = 0; size = size; next = n })
-plain_of size before (reading.Refused f) = rested.Not f
+plain_of size before (Err f) = Err f
 
-abbrev pub sized_of : ℕ → Result Figure → Rested
-sized_of before (Is x n) = plain_of (capped x.value) before (reading.At n)
-sized_of before (Not f) = rested.Not f
+abbrev pub sized_of : ℕ → Result Figure → Read Rest
+sized_of before (Is x n) = plain_of (capped x.value) before (Ok n)
+sized_of before (Not f) = Err f
 
 -- ---- a variable up to its position
 pub record Front : Type 0 where
@@ -265,7 +258,7 @@ pub record Knowing (latin : Bool) (d : List ℕ) (seen : List ℕ) (y : Tally) (
 
 -- ---- what the code says, for whatever variables stand before
 module _ (bad : Bool) (d : List ℕ) (m : Manner) (rows : List ℤ) (count : ℕ) where
-  pub record NameSaid (at : ℕ) (r : Phrase) : Type 0 where
+  pub record NameSaid (at : ℕ) (r : Read Quoted) : Type 0 where
     pub is : (l : List XmlEntry) → RowsOf rows count l → r ≡ phrase_of (name_in bad d m l at)
     pub ends : PhraseEnds d r
 

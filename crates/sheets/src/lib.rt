@@ -9,7 +9,6 @@ ghost use Rattle.cells.specs.rule.Cell.{pasted};
 ghost use Rattle.layout.specs.rule.Layout.{row_size, line_size, most_rows, most_lines};
 ghost use Rattle.rows.specs.rule.Cells.{row_cells};
 ghost use Rattle.rows.specs.Cells.{SmallRow};
-ghost use Rattle.tokens.specs.declared.Reading.TheVariants.{At};
 ghost use Rattle.values.specs.Block.{empty_block};
 ghost use Rattle.measures.specs.Width.{number_in, Measurable};
 ghost use Rattle.entries.specs.Entry.{settled_by};
@@ -39,13 +38,11 @@ use entries::Stood;
 use filters::{Filtered, Titled};
 use laying::{Rooms, Tally};
 use layout::{Columns, Row};
-use measures::Measured;
 use prefaces::{Manner, Prefaced};
 use prologs::Prolog;
-use statements::{Spreading, Stated};
-use tokens::{Fault, Number, Phrase, Quoted, Reading};
+use tokens::{Fault, Quoted, Read, Read};
 use values::{Block, Listed};
-use variables::{Head, Rest, Rested};
+use variables::{Head, Rest};
 
 // ---- inside a variable
 // The start tag of an element w is due.
@@ -64,7 +61,7 @@ fn mode_of(languages: bool) -> usize
     if languages { 2 } else { 1 }
 }
 
-fn label_in(bad: bool, d: &[u8], languages: bool, at: usize) -> Phrase
+fn label_in(bad: bool, d: &[u8], languages: bool, at: usize) -> Read<Quoted>
     requires { at ≤ length d.now }
     ensures { (result ≡ phrase_of (label_in bad d.now languages at)) × PhraseEnds d.now result }
 {
@@ -73,33 +70,33 @@ fn label_in(bad: bool, d: &[u8], languages: bool, at: usize) -> Phrase
             let mode = mode_of(languages);
             elements::text_at(bad, d, place, end, b"label", mode)
         }
-        Due::Not(f) => Phrase::Not(f),
+        Due::Not(f) => Err(f),
     }
 }
 
-fn position_in(bad: bool, d: &[u8], at: usize) -> Stated
+fn position_in(bad: bool, d: &[u8], at: usize) -> Read<Position>
     requires { at ≤ length d.now }
     ensures { (result ≡ to_stated (position_in bad d.now at)) × StatedEnds d.now result }
 {
     match next_due(bad, d, at, b"position") {
         Due::At { place, end } => elements::position_at(bad, d, place, end),
-        Due::Not(f) => Stated::Not(f),
+        Due::Not(f) => Err(f),
     }
 }
 
 // The end tag of the variable, where something stands.
-fn close_in(bad: bool, d: &[u8], o: Open) -> Reading
+fn close_in(bad: bool, d: &[u8], o: Open) -> Read<usize>
     requires { Within d.now 0 o }
     ensures { (result ≡ reading_of (bind (read_of o) (over bad d.now))) × Inside d.now result }
 {
     match o {
-        Open::Start { place, end } => Reading::Refused(elements::misplaced(bad, d, place, end)),
-        Open::Shut { place: _, next } => Reading::At(next),
-        Open::Not(f) => Reading::Refused(f),
+        Open::Start { place, end } => Err(elements::misplaced(bad, d, place, end)),
+        Open::Shut { place: _, next } => Ok(next),
+        Open::Not(f) => Err(f),
     }
 }
 
-fn end_in(bad: bool, d: &[u8], at: usize) -> Reading
+fn end_in(bad: bool, d: &[u8], at: usize) -> Read<usize>
     requires { at ≤ length d.now }
     ensures { (result ≡ reading_of (end_in bad d.now at)) × Inside d.now result }
 {
@@ -116,7 +113,7 @@ fn name_in(
     count: usize,
     at: usize,
     sums: &[u16],
-) -> Phrase
+) -> Read<Quoted>
     requires known { Known m.latin d.now rows.now count sums.now }
     requires at_in_bounds { at ≤ length d.now }
     ensures { NameSaid bad d.now (rule_of m) rows.now count at result }
@@ -125,7 +122,7 @@ fn name_in(
         Due::At { place, end } => filters::naming_at(
             bad, m.latin, m.standard, d, rows, count, place, end, sums,
         ),
-        Due::Not(f) => Phrase::Not(f),
+        Due::Not(f) => Err(f),
     }
 }
 
@@ -163,7 +160,7 @@ fn place_front(
     ensures { (result ≡ placed_of ident kind usage a b (position_in bad d.now b.next)) × FrontEnds d.now result }
 {
     match position_in(bad, d, b.next) {
-        Stated::Is(q) => {
+        Ok(q) => {
             let name = text_of(a);
             let label = text_of(b);
             let head = Head {
@@ -182,7 +179,7 @@ fn place_front(
                 next: q.next,
             }
         }
-        Stated::Not(f) => Fronted::Not(f),
+        Err(f) => Fronted::Not(f),
     }
 }
 
@@ -208,11 +205,11 @@ fn front_at(
             usage,
             next,
         } => match name_in(bad, d, m, rows, count, next, sums) {
-            Phrase::Is(a) => match label_in(bad, d, m.languages, a.next) {
-                Phrase::Is(b) => place_front(bad, d, ident, kind, usage, a, b),
-                Phrase::Not(f) => Fronted::Not(f),
+            Ok(a) => match label_in(bad, d, m.languages, a.next) {
+                Ok(b) => place_front(bad, d, ident, kind, usage, a, b),
+                Err(f) => Fronted::Not(f),
             },
-            Phrase::Not(f) => Fronted::Not(f),
+            Err(f) => Fronted::Not(f),
         },
         Titled::Not(f) => Fronted::Not(f),
     }
@@ -336,7 +333,7 @@ fn values_rest(
     lines: &mut [i64],
     marks: &mut [u16],
     stamp: u16,
-) -> Rested
+) -> Read<Rest>
     requires within { Within d.now 0 o × (length d.now ≤ 1048576) }
     requires lines_len { (length lines.old ≡ line_size * most_lines) × (before ≤ most_lines) × (length marks.old ≡ 16384) }
     ensures { Valued count width before (bind (read_of o) (values_ended bad d.now languages quantity before))
@@ -348,7 +345,7 @@ fn values_rest(
                 bad, d, place, end, languages, quantity, before, lines, marks, stamp,
             ) {
                 Listed::Is { block, last, next } => match end_in(bad, d, next) {
-                    Reading::At(n) => Rested::Is(Rest {
+                    Ok(n) => Ok(Rest {
                         block,
                         last,
                         subfields: count,
@@ -356,12 +353,12 @@ fn values_rest(
                         size: 0,
                         next: n,
                     }),
-                    Reading::Refused(f) => Rested::Not(f),
+                    Err(f) => Err(f),
                 },
-                Listed::Not(f) => Rested::Not(f),
+                Listed::Not(f) => Err(f),
             }
         }
-        Due::Not(f) => Rested::Not(f),
+        Due::Not(f) => Err(f),
     }
 }
 
@@ -379,13 +376,13 @@ fn nothing_said() -> Block
 }
 
 // A type that has no values: its size, or 0.
-fn plain_rest(size: u64, before: usize, end: Reading) -> Rested
+fn plain_rest(size: u64, before: usize, end: Read<usize>) -> Read<Rest>
     ensures { result ≡ plain_of size before end }
 {
     match end {
-        Reading::At(next) => {
+        Ok(next) => {
             let block = nothing_said();
-            Rested::Is(Rest {
+            Ok(Rest {
                 block,
                 last: before,
                 subfields: 0,
@@ -394,23 +391,23 @@ fn plain_rest(size: u64, before: usize, end: Reading) -> Rested
                 next,
             })
         }
-        Reading::Refused(f) => Rested::Not(f),
+        Err(f) => Err(f),
     }
 }
 
-fn size_rest(bad: bool, d: &[u8], o: Open, before: usize) -> Rested
+fn size_rest(bad: bool, d: &[u8], o: Open, before: usize) -> Read<Rest>
     requires { Within d.now 0 o }
     ensures { result ≡ sized_of before (bind (read_of o) (size_ended bad d.now)) }
 {
     match elements::tag_due(bad, d, o, b"size") {
         Due::At { place, end } => match elements::size_at(bad, d, place, end) {
-            Number::Is(x) => {
+            Ok(x) => {
                 let e = end_in(bad, d, x.next);
                 plain_rest(x.size, before, e)
             }
-            Number::Not(f) => Rested::Not(f),
+            Err(f) => Err(f),
         },
-        Due::Not(f) => Rested::Not(f),
+        Due::Not(f) => Err(f),
     }
 }
 
@@ -425,7 +422,7 @@ fn spread_rest(
     lines: &mut [i64],
     marks: &mut [u16],
     stamp: u16,
-) -> Rested
+) -> Read<Rest>
     requires within { Within d.now 0 o × (length d.now ≤ 1048576) × (1 ≤ room) × (room ≤ 16384) }
     requires lines_len { (length lines.old ≡ line_size * most_lines) × (before ≤ most_lines) × (length marks.old ≡ 16384) }
     ensures { Rests room before (bind (read_of o) (content_by bad d.now (rule_of m) room before 2)) lines.old
@@ -439,15 +436,15 @@ fn spread_rest(
     }
     match elements::tag_due(bad, d, o, b"spread") {
         Due::At { place, end } => match elements::spread_at(bad, d, place, end, room) {
-            Spreading::Is(s) => {
+            Ok(s) => {
                 let p = elements::find_open(bad, d, s.next, b"variable");
                 values_rest(
                     bad, d, languages, false, p, s.count, s.width, before, lines, marks, stamp,
                 )
             }
-            Spreading::Not(f) => Rested::Not(f),
+            Err(f) => Err(f),
         },
-        Due::Not(f) => Rested::Not(f),
+        Due::Not(f) => Err(f),
     }
 }
 
@@ -463,7 +460,7 @@ fn rest_in(
     lines: &mut [i64],
     marks: &mut [u16],
     stamp: u16,
-) -> Rested
+) -> Read<Rest>
     requires within { Within d.now 0 o × (length d.now ≤ 1048576) × (1 ≤ room) × (room ≤ 16384) }
     requires lines_len { (length lines.old ≡ line_size * most_lines) × (before ≤ most_lines) × (length marks.old ≡ 16384) }
     ensures { Rests room before (bind (read_of o) (content_by bad d.now (rule_of m) room before kind)) lines.old
@@ -498,12 +495,12 @@ fn settle(powers: &[u64; 16], lines: &[i64], h: Head, r: Rest, before: usize, ne
     ensures { result ≡ settled_by (number_in lines.now before) h r before (At next) }
 {
     match measures::measure(powers, lines, h, r, before) {
-        Measured::Is(columns) => Stood::Is {
+        Ok(columns) => Stood::Is {
             columns,
             last: r.last,
             next,
         },
-        Measured::Not(f) => Stood::Not(f),
+        Err(f) => Stood::Not(f),
     }
 }
 
@@ -600,7 +597,7 @@ fn body_at(
     let stamp = (count + 1) as u16;
     let tag = s.tag;
     match rest_in(bad, d, m, h.kind, room, tag, y.lines, lines, marks, stamp) {
-        Rested::Is(r) => {
+        Ok(r) => {
             let next = r.next;
             let q = placeless(r);
             match settle(powers, lines, h, q, y.lines, next) {
@@ -612,7 +609,7 @@ fn body_at(
                 Stood::Not(f) => Entered::Not(f),
             }
         }
-        Rested::Not(f) => Entered::Not(f),
+        Err(f) => Entered::Not(f),
     }
 }
 

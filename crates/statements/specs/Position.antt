@@ -1,24 +1,19 @@
 -- THE CODE'S BOOKS, which contracts inside the library name; crate `bridge` proves them equal to the rule of crate `reading`.
 -- POSITION a [TO b]. It is judged once read: 7 where the start is 0, or the finish below the start by their true values; then 8
 -- where one lies above 16,384.
-use Rattle.std.specs.Prelude.{ℕ, Bool, cond, List, eqb, ltb, ◌≡◌}
+use Rattle.std.specs.Prelude.{ℕ, Bool, cond, List, eqb, ltb, ◌≡◌, Ok, Err}
 use Rattle.scan.specs.Number.{capped}
 use Rattle.scan.specs.Order.{value_of}
 use Rattle.tokens.specs.declared.Fault.{Fault}
-use Rattle.tokens.specs.declared.Reading.{Reading}
-use Rattle.tokens.specs.declared.Reading.TheVariants.{At, Refused}
 use Rattle.tokens.specs.declared.Choice.{Choice}
 use Rattle.tokens.specs.declared.Choice.TheVariants.{Taken, Left}
 use Rattle.tokens.specs.declared.Figures.{Figures}
-use Rattle.tokens.specs.declared.Number.{Number}
-use Rattle.tokens.specs.declared.Number.TheVariants as number
-use Rattle.tokens.specs.rule.Gap.{fault}
+use Rattle.tokens.specs.rule.Gap.{fault, Read}
 use Rattle.tokens.specs.Gap.{gap_on}
 use Rattle.tokens.specs.Token.{choice_of, number_on, past_number}
 use Rattle.statements.specs.rule.Words.{POSITION, TO}
 use Rattle.statements.specs.Note.{statement_on}
-use Rattle.statements.specs.declared.Stated.{Stated}
-use Rattle.statements.specs.declared.Stated.TheVariants.{Is, Not}
+use Rattle.statements.specs.declared.Position.{Position}
 
 -- the true value of a number
 abbrev pub true_of : List ℕ → Figures → ℕ
@@ -29,38 +24,38 @@ abbrev pub below_of : List ℕ → Figures → Figures → Bool
 below_of d b a = ltb (true_of d b) (true_of d a)
 
 -- what a number that was read says, held at 10 ^ 15, is what stands between its places
-pub data Held (d : List ℕ) : Number → Type 0 where
-  of_number : {x : Figures} → x.size ≡ capped (true_of d x) → Held d (number.Is x)
-  of_fault : {f : Fault} → Held d (number.Not f)
+pub data Held (d : List ℕ) : Read Figures → Type 0 where
+  of_number : {x : Figures} → x.size ≡ capped (true_of d x) → Held d (Ok x)
+  of_fault : {f : Fault} → Held d (Err f)
 
 -- `below` says whether the second number is below the first: a judgement asks for the outcome, not for the text, so that another road
 -- to the same numbers can ask it too
-unfoldable pub judge_position : Bool → Figures → Figures → ℕ → Stated
+unfoldable pub judge_position : Bool → Figures → Figures → ℕ → Read Position
 judge_position below a b next =
-    cond (eqb a.size 0) (Not (fault 7 a.place))
-    (cond below (Not (fault 7 b.place))
-    (cond (ltb 16384 a.size) (Not (fault 8 a.place))
-    (cond (ltb 16384 b.size) (Not (fault 8 b.place))
-    (Is (record { start = a.size; finish = b.size; place = a.place; next = next })))))
+    cond (eqb a.size 0) (Err (fault 7 a.place))
+    (cond below (Err (fault 7 b.place))
+    (cond (ltb 16384 a.size) (Err (fault 8 a.place))
+    (cond (ltb 16384 b.size) (Err (fault 8 b.place))
+    (Ok (record { start = a.size; finish = b.size; place = a.place; next = next })))))
 
 -- the first 2 or 3 met, and then the judgement
-abbrev pub ended : Reading → (ℕ → Stated) → Stated
-ended (At n) k = k n
-ended (Refused f) k = Not f
+abbrev pub ended : Read ℕ → (ℕ → Read Position) → Read Position
+ended (Ok n) k = k n
+ended (Err f) k = Err f
 
-abbrev pub given : Number → (Figures → Stated) → Stated
-given (number.Is x) k = k x
-given (number.Not f) k = Not f
+abbrev pub given : Read Figures → (Figures → Read Position) → Read Position
+given (Ok x) k = k x
+given (Err f) k = Err f
 
-unfoldable pub both_of : List ℕ → Number → Number → Reading → Stated
+unfoldable pub both_of : List ℕ → Read Figures → Read Figures → Read ℕ → Read Position
 both_of d a b end = given a λ x. given b λ y. ended end λ n. judge_position (below_of d y x) x y n
 
 -- a second number behind TO, or none
-abbrev pub position_rest : List ℕ → Number → Reading → Choice → Stated
-position_rest d a g (Taken m) = let b = number_on d (At m) in both_of d a b (past_number b)
+abbrev pub position_rest : List ℕ → Read Figures → Read ℕ → Choice → Read Position
+position_rest d a g (Taken m) = let b = number_on d (Ok m) in both_of d a b (past_number b)
 position_rest d a g Left = both_of d a a g
 
-unfoldable pub position_on : List ℕ → Reading → Stated
+unfoldable pub position_on : List ℕ → Read ℕ → Read Position
 position_on d t =
     let a = number_on d (statement_on d t POSITION) in
     let g = gap_on d (past_number a) in

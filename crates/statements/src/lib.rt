@@ -15,9 +15,9 @@ ghost use Rattle.statements.specs.Spread.{judge_of, judge_even, fields_of, even_
 ghost use Rattle.statements.specs.Size.{judge_size, size_on};
 
 use scan::Word;
-use tokens::{Choice, Fault, Figures, Number, Phrase, Reading};
+use tokens::{Choice, Fault, Figures, Read};
 
-fn note_word(classes: &[u8; 256], d: &[u8], t: Reading) -> Choice
+fn note_word(classes: &[u8; 256], d: &[u8], t: Read<usize>) -> Choice
     requires { Classes classes.now }
     ensures { result ≡ choice_of d.now t NOTE }
 {
@@ -26,7 +26,7 @@ fn note_word(classes: &[u8; 256], d: &[u8], t: Reading) -> Choice
 
 // The same as notes_on, where there may be notes. Statements that a definition has once are read by it too: with one caller alone the
 // compiler would lay it into notes_on, which would be too large then to be laid into the readers of a variable's statements.
-fn notes_apart(classes: &[u8; 256], d: &[u8], t: Reading) -> Reading
+fn notes_apart(classes: &[u8; 256], d: &[u8], t: Read<usize>) -> Read<usize>
     requires { Classes classes.now }
     ensures { result ≡ notes_on d.now t }
 {
@@ -66,7 +66,7 @@ fn no_oh(d: &[u8], m: usize) -> bool
 // Whether it is clear at a look that no note stands here, behind blanks.
 fn no_note(d: &[u8], m: usize) -> bool
     requires { m < length d.now → 32 < get_or d.now m 0 }
-    ensures { result ≡ true → notes_on d.now (Reading.At m) ≡ Reading.At m }
+    ensures { result ≡ true → notes_on d.now (Ok m) ≡ Ok m }
 {
     if d.len() <= m {
         return false;
@@ -79,25 +79,21 @@ fn no_note(d: &[u8], m: usize) -> bool
 }
 
 // NOTE and a string, as often as they stand between two statements, with the gaps around them.
-pub fn notes_on(classes: &[u8; 256], d: &[u8], t: Reading) -> Reading
+pub fn notes_on(classes: &[u8; 256], d: &[u8], t: Read<usize>) -> Read<usize>
     requires { Classes classes.now }
     ensures { result ≡ notes_on d.now t }
 {
-    match t {
-        Reading::At(n) => {
-            let m = tokens::pass_blanks(d, n);
-            if no_note(d, m) {
-                return Reading::At(m);
-            }
-            notes_apart(classes, d, Reading::At(m))
-        }
-        Reading::Refused(f) => Reading::Refused(f),
+    let n = t?;
+    let m = tokens::pass_blanks(d, n);
+    if no_note(d, m) {
+        return Ok(m);
     }
+    notes_apart(classes, d, Ok(m))
 }
 
 // The first word of a statement, behind the notes before it. The readers of statements that a variable has call the two functions
 // themselves: so the compiler knows the word that it compares.
-pub fn statement_on(classes: &[u8; 256], d: &[u8], t: Reading, w: &[u8]) -> Reading
+pub fn statement_on(classes: &[u8; 256], d: &[u8], t: Read<usize>, w: &[u8]) -> Read<usize>
     requires { Classes classes.now }
     ensures { result ≡ statement_on d.now t w.now }
 {
@@ -106,13 +102,13 @@ pub fn statement_on(classes: &[u8; 256], d: &[u8], t: Reading, w: &[u8]) -> Read
 }
 
 // The version: the longest run of value bytes, which is to be 1.1 as text.
-fn version_at(classes: &[u8; 256], d: &[u8], n: usize) -> Reading
+fn version_at(classes: &[u8; 256], d: &[u8], n: usize) -> Read<usize>
     requires { Classes classes.now }
     ensures { result ≡ version_here d.now n }
 {
     let end = scan::value_run(classes, d, n);
     if end == n {
-        return Reading::Refused(Fault {
+        return Err(Fault {
             number: 2,
             place: n,
         });
@@ -120,14 +116,14 @@ fn version_at(classes: &[u8; 256], d: &[u8], n: usize) -> Reading
     match scan::keyword(classes, d, n, b"1.1") {
         Word::Matched(m) => {
             if m == end {
-                return Reading::At(end);
+                return Ok(end);
             }
-            Reading::Refused(Fault {
+            Err(Fault {
                 number: 4,
                 place: n,
             })
         }
-        Word::Not => Reading::Refused(Fault {
+        Word::Not => Err(Fault {
             number: 4,
             place: n,
         }),
@@ -135,22 +131,20 @@ fn version_at(classes: &[u8; 256], d: &[u8], n: usize) -> Reading
 }
 
 // SSS, with nothing before it, and VERSION 1.1.
-pub fn read_opening(classes: &[u8; 256], d: &[u8]) -> Reading
+pub fn read_opening(classes: &[u8; 256], d: &[u8]) -> Read<usize>
     requires { Classes classes.now }
     ensures { result ≡ opening_of d.now }
 {
     let start = scan::place_at(classes, d, 0);
-    let a = tokens::word_here(classes, d, Reading::At(start), b"SSS");
+    let a = tokens::word_here(classes, d, Ok(start), b"SSS");
     let b = tokens::spaces_on(classes, d, a);
     let e = tokens::word_here(classes, d, b, b"VERSION");
-    match tokens::spaces_on(classes, d, e) {
-        Reading::At(n) => version_at(classes, d, n),
-        Reading::Refused(f) => Reading::Refused(f),
-    }
+    let n = tokens::spaces_on(classes, d, e)?;
+    version_at(classes, d, n)
 }
 
 // RECORD and one letter.
-pub fn record_on(classes: &[u8; 256], d: &[u8], t: Reading) -> Reading
+pub fn record_on(classes: &[u8; 256], d: &[u8], t: Read<usize>) -> Read<usize>
     requires { Classes classes.now }
     ensures { result ≡ record_on d.now t }
 {
@@ -165,7 +159,7 @@ pub enum Typed {
     Not(Fault),
 }
 
-fn type_here(classes: &[u8; 256], d: &[u8], t: Reading) -> Typed
+fn type_here(classes: &[u8; 256], d: &[u8], t: Read<usize>) -> Typed
     requires { Classes classes.now }
     ensures { result ≡ type_here d.now t }
 {
@@ -182,12 +176,12 @@ fn type_here(classes: &[u8; 256], d: &[u8], t: Reading) -> Typed
         return Typed::Is { kind: 4, next };
     }
     match tokens::word_here(classes, d, t, b"LOGICAL") {
-        Reading::At(next) => Typed::Is { kind: 5, next },
-        Reading::Refused(f) => Typed::Not(f),
+        Ok(next) => Typed::Is { kind: 5, next },
+        Err(f) => Typed::Not(f),
     }
 }
 
-pub fn type_on(classes: &[u8; 256], d: &[u8], t: Reading) -> Typed
+pub fn type_on(classes: &[u8; 256], d: &[u8], t: Read<usize>) -> Typed
     requires { Classes classes.now }
     ensures { result ≡ type_on d.now t }
 {
@@ -206,42 +200,36 @@ pub struct Position {
     pub next: usize,
 }
 
-#[derive(Clone, Copy)]
-pub enum Stated {
-    Is(Position),
-    Not(Fault),
-}
-
 // What is wrong with two locations, of which the second says less than the first where `below`: 7 comes before 8, and an earlier place
 // before a later.
-pub fn judge_position(below: bool, a: Figures, b: Figures, next: usize) -> Stated
+pub fn judge_position(below: bool, a: Figures, b: Figures, next: usize) -> Read<Position>
     ensures { result ≡ judge_position below a b next }
 {
     if a.size == 0 {
-        return Stated::Not(Fault {
+        return Err(Fault {
             number: 7,
             place: a.place,
         });
     }
     if below {
-        return Stated::Not(Fault {
+        return Err(Fault {
             number: 7,
             place: b.place,
         });
     }
     if 16384 < a.size {
-        return Stated::Not(Fault {
+        return Err(Fault {
             number: 8,
             place: a.place,
         });
     }
     if 16384 < b.size {
-        return Stated::Not(Fault {
+        return Err(Fault {
             number: 8,
             place: b.place,
         });
     }
-    Stated::Is(Position {
+    Ok(Position {
         start: a.size,
         finish: b.size,
         place: a.place,
@@ -265,27 +253,25 @@ fn says_less(classes: &[u8; 256], d: &[u8], y: Figures, x: Figures) -> bool
 }
 
 // The first 2 or 3 met in a POSITION, and then what is wrong with its numbers.
-fn both(classes: &[u8; 256], d: &[u8], a: Number, b: Number, end: Reading) -> Stated
+fn both(
+    classes: &[u8; 256],
+    d: &[u8],
+    a: Read<Figures>,
+    b: Read<Figures>,
+    end: Read<usize>,
+) -> Read<Position>
     requires classes { Classes classes.now }
     requires held { Held d.now a × Held d.now b }
     ensures { result ≡ both_of d.now a b end }
 {
-    match a {
-        Number::Is(x) => match b {
-            Number::Is(y) => match end {
-                Reading::At(n) => {
-                    let below = says_less(classes, d, y, x);
-                    judge_position(below, x, y, n)
-                }
-                Reading::Refused(f) => Stated::Not(f),
-            },
-            Number::Not(f) => Stated::Not(f),
-        },
-        Number::Not(f) => Stated::Not(f),
-    }
+    let x = a?;
+    let y = b?;
+    let next = end?;
+    let below = says_less(classes, d, y, x);
+    judge_position(below, x, y, next)
 }
 
-pub fn position_on(classes: &[u8; 256], d: &[u8], t: Reading) -> Stated
+pub fn position_on(classes: &[u8; 256], d: &[u8], t: Read<usize>) -> Read<Position>
     requires { Classes classes.now }
     ensures { result ≡ position_on d.now t }
 {
@@ -296,7 +282,7 @@ pub fn position_on(classes: &[u8; 256], d: &[u8], t: Reading) -> Stated
     let g = tokens::gap_on(classes, d, p);
     match tokens::perhaps(classes, d, g, b"TO") {
         Choice::Taken(m) => {
-            let b = tokens::number_on(classes, d, Reading::At(m));
+            let b = tokens::number_on(classes, d, Ok(m));
             let e = tokens::past_number(b);
             both(classes, d, a, b, e)
         }
@@ -312,29 +298,23 @@ pub struct Subfields {
     pub next: usize,
 }
 
-#[derive(Clone, Copy)]
-pub enum Spreading {
-    Is(Subfields),
-    Not(Fault),
-}
-
 // With OF.
-pub fn judge_fields(n: Figures, w: Figures, next: usize) -> Spreading
+pub fn judge_fields(n: Figures, w: Figures, next: usize) -> Read<Subfields>
     ensures { result ≡ judge_of n w next }
 {
     if n.size == 0 {
-        return Spreading::Not(Fault {
+        return Err(Fault {
             number: 7,
             place: n.place,
         });
     }
     if w.size == 0 {
-        return Spreading::Not(Fault {
+        return Err(Fault {
             number: 7,
             place: w.place,
         });
     }
-    Spreading::Is(Subfields {
+    Ok(Subfields {
         count: n.size,
         width: w.size,
         next,
@@ -342,55 +322,47 @@ pub fn judge_fields(n: Figures, w: Figures, next: usize) -> Spreading
 }
 
 // Without OF n must divide the position's width exactly.
-pub fn judge_even(n: Figures, width: u64, next: usize) -> Spreading
+pub fn judge_even(n: Figures, width: u64, next: usize) -> Read<Subfields>
     ensures { result ≡ judge_even n width next }
 {
     let count = n.size;
     if count == 0 {
-        return Spreading::Not(Fault {
+        return Err(Fault {
             number: 7,
             place: n.place,
         });
     }
     if width % count != 0 {
-        return Spreading::Not(Fault {
+        return Err(Fault {
             number: 7,
             place: n.place,
         });
     }
-    Spreading::Is(Subfields {
+    Ok(Subfields {
         count,
         width: width / count,
         next,
     })
 }
 
-fn fields(a: Number, b: Number) -> Spreading
+fn fields(a: Read<Figures>, b: Read<Figures>) -> Read<Subfields>
     ensures { result ≡ fields_of a b }
 {
-    match a {
-        Number::Is(x) => match b {
-            Number::Is(y) => judge_fields(x, y, y.next),
-            Number::Not(f) => Spreading::Not(f),
-        },
-        Number::Not(f) => Spreading::Not(f),
-    }
+    let x = a?;
+    let y = b?;
+    judge_fields(x, y, y.next)
 }
 
-fn even(a: Number, width: u64, end: Reading) -> Spreading
+fn even(a: Read<Figures>, width: u64, end: Read<usize>) -> Read<Subfields>
     ensures { result ≡ even_of a width end }
 {
-    match a {
-        Number::Is(x) => match end {
-            Reading::At(n) => judge_even(x, width, n),
-            Reading::Refused(f) => Spreading::Not(f),
-        },
-        Number::Not(f) => Spreading::Not(f),
-    }
+    let x = a?;
+    let next = end?;
+    judge_even(x, width, next)
 }
 
 // What stands behind the word SPREAD, for a position of so many bytes.
-pub fn spread_rest(classes: &[u8; 256], d: &[u8], t: Reading, width: u64) -> Spreading
+pub fn spread_rest(classes: &[u8; 256], d: &[u8], t: Read<usize>, width: u64) -> Read<Subfields>
     requires { Classes classes.now }
     ensures { result ≡ spread_rest d.now t width }
 {
@@ -399,37 +371,33 @@ pub fn spread_rest(classes: &[u8; 256], d: &[u8], t: Reading, width: u64) -> Spr
     let g = tokens::gap_on(classes, d, p);
     match tokens::perhaps(classes, d, g, b"OF") {
         Choice::Taken(m) => {
-            let b = tokens::number_on(classes, d, Reading::At(m));
+            let b = tokens::number_on(classes, d, Ok(m));
             fields(a, b)
         }
         Choice::Left => even(a, width, g),
     }
 }
 
-pub fn judge_size(n: Number) -> Number
+pub fn judge_size(n: Read<Figures>) -> Read<Figures>
     ensures { result ≡ judge_size n }
 {
-    match n {
-        Number::Is(x) => {
-            if x.size == 0 {
-                return Number::Not(Fault {
-                    number: 7,
-                    place: x.place,
-                });
-            }
-            if 4096 < x.size {
-                return Number::Not(Fault {
-                    number: 8,
-                    place: x.place,
-                });
-            }
-            Number::Is(x)
-        }
-        Number::Not(f) => Number::Not(f),
+    let x = n?;
+    if x.size == 0 {
+        return Err(Fault {
+            number: 7,
+            place: x.place,
+        });
     }
+    if 4096 < x.size {
+        return Err(Fault {
+            number: 8,
+            place: x.place,
+        });
+    }
+    Ok(x)
 }
 
-pub fn size_on(classes: &[u8; 256], d: &[u8], t: Reading) -> Number
+pub fn size_on(classes: &[u8; 256], d: &[u8], t: Read<usize>) -> Read<Figures>
     requires { Classes classes.now }
     ensures { result ≡ size_on d.now t }
 {

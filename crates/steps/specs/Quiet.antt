@@ -1,14 +1,12 @@
 -- A place where nothing is to be passed: what begins there is neither a gap, nor a comment, nor a note. So whatever leads there by blanks
 -- alone leads there by the readers of gaps and notes.
-use Rattle.std.specs.Prelude.{◌≡◌, refl, List, ℕ, ◌+◌, ◌≤◌, ◌<◌, length, get_or}
+use Rattle.std.specs.Prelude.{◌≡◌, refl, List, ℕ, ◌+◌, ◌≤◌, ◌<◌, length, get_or, Ok}
 use Rattle.std.proofs.Common.{sym, ap, ◌∙◌, arith}
 use Rattle.ascii.specs.rule.Class.{upper_of}
 use Rattle.scan.specs.rule.Text.{text}
 use Rattle.scan.proofs.Texts.{text_kept, kept_byte}
 use Rattle.marks.specs.declared.Inside.TheVariants.{Plain}
 use Rattle.marks.specs.rule.Marks.{string_of}
-use Rattle.tokens.specs.declared.Reading.{Reading}
-use Rattle.tokens.specs.declared.Reading.TheVariants.{At}
 use Rattle.tokens.specs.rule.Gap.{gap_at}
 use Rattle.tokens.specs.Gap.{gap_on}
 use Rattle.tokens.specs.Token.{of_skip, string_in, string_on}
@@ -19,13 +17,13 @@ use Rattle.steps.specs.Step.{place_in, gap_past, notes_past}
 
 -- no gap begins here
 abbrev pub Token : List ℕ → ℕ → Type 0
-Token d n = gap_at d n ≡ At n
+Token d n = gap_at d n ≡ Ok n
 
 pub record Quiet (d : List ℕ) (n : ℕ) : Type 0 where
   pub within : n < length d
   pub above : 32 < get_or d n 0
   pub token : Token d n
-  pub no_note : notes_on d (At n) ≡ At n
+  pub no_note : notes_on d (Ok n) ≡ Ok n
 
 module _ (d : List ℕ) (at n : ℕ) (e : gap_at d at ≡ gap_at d n) where
   pub gap_to : Token d n → gap_past d at ≡ n
@@ -37,7 +35,7 @@ module _ (d : List ℕ) (at n : ℕ) (e : gap_at d at ≡ gap_at d n) where
   notes_to q = rw (notes_same d at n e, q.no_note)
 
   -- a string that opens there
-  pub string_to : n < length d → get_or d n 0 ≡ 34 → string_on d (At at) ≡ of_skip n (string_of Plain (text d (n + 1)))
+  pub string_to : n < length d → get_or d n 0 ≡ 34 → string_on d (Ok at) ≡ of_skip n (string_of Plain (text d (n + 1)))
   unfolding string_on gap_on string_in
   string_to h q = rw (
     e,

@@ -1,35 +1,31 @@
 -- THE CODE'S BOOKS: past the next thing of a definition, by what the readers of tokens answer. Law.antt says what that is where the grammar
 -- derives the thing.
-use Rattle.std.specs.Prelude.{true, false, List, ℕ, ◌-◌}
+use Rattle.std.specs.Prelude.{true, false, List, ℕ, ◌-◌, Ok, Err}
 use Rattle.scan.specs.rule.Text.{text}
 use Rattle.scan.specs.rule.Number.{run_of, is_value}
 use Rattle.scan.specs.rule.Word.{word_at}
 use Rattle.scan.specs.declared.Word.{Word}
 use Rattle.scan.specs.declared.Word.TheVariants as spelled
-use Rattle.tokens.specs.declared.Reading.{Reading}
-use Rattle.tokens.specs.declared.Reading.TheVariants.{At, Refused}
-use Rattle.tokens.specs.declared.Number.{Number}
-use Rattle.tokens.specs.declared.Number.TheVariants as numbered
-use Rattle.tokens.specs.declared.Phrase.{Phrase}
-use Rattle.tokens.specs.declared.Phrase.TheVariants as phrased
-use Rattle.tokens.specs.rule.Gap.{gap_at}
+use Rattle.tokens.specs.rule.Gap.{gap_at, Read}
 use Rattle.tokens.specs.Token.{number_on, string_on}
 use Rattle.statements.specs.Note.{notes_on}
 use Rattle.steps.specs.declared.Span.{Span}
 use Rattle.steps.specs.declared.Found.{Found}
+use Rattle.tokens.specs.declared.Figures.{Figures}
+use Rattle.tokens.specs.declared.Quoted.{Quoted}
 
 abbrev pub span : ℕ → ℕ → ℕ → ℕ → Span
 span a e n x = record { from = a; end = e; next = n; size = x }
 
-unfoldable pub place_in : ℕ → Reading → ℕ
-place_in n (At m) = m
-place_in n (Refused f) = n
+unfoldable pub place_in : ℕ → Read ℕ → ℕ
+place_in n (Ok m) = m
+place_in n (Err f) = n
 
 unfoldable pub gap_past : List ℕ → ℕ → ℕ
 gap_past d n = place_in n (gap_at d n)
 
 unfoldable pub notes_past : List ℕ → ℕ → ℕ
-notes_past d n = place_in n (notes_on d (At n))
+notes_past d n = place_in n (notes_on d (Ok n))
 
 unfoldable pub found_in : ℕ → Word → Found
 found_in n (spelled.Matched m) = record { there = true; next = m }
@@ -50,19 +46,19 @@ word_found d n w = found_in (gap_past d n) (word_at d (gap_past d n) w)
 unfoldable pub statement_found : List ℕ → ℕ → List ℕ → Found
 statement_found d n w = found_in (notes_past d n) (word_at d (notes_past d n) w)
 
-unfoldable pub number_in : Number → Span
-number_in (numbered.Is x) = span x.place x.next x.next x.size
-number_in (numbered.Not f) = span 0 0 0 0
+unfoldable pub number_in : Read Figures → Span
+number_in (Ok x) = span x.place x.next x.next x.size
+number_in (Err f) = span 0 0 0 0
 
 unfoldable pub number_span : List ℕ → ℕ → Span
-number_span d n = number_in (number_on d (At n))
+number_span d n = number_in (number_on d (Ok n))
 
-unfoldable pub phrase_in : Phrase → Span
-phrase_in (phrased.Is q) = span q.place (q.next - 1) q.next 0
-phrase_in (phrased.Not f) = span 0 0 0 0
+unfoldable pub phrase_in : Read Quoted → Span
+phrase_in (Ok q) = span q.place (q.next - 1) q.next 0
+phrase_in (Err f) = span 0 0 0 0
 
 unfoldable pub string_span : List ℕ → ℕ → Span
-string_span d n = phrase_in (string_on d (At n))
+string_span d n = phrase_in (string_on d (Ok n))
 
 unfoldable pub value_span : List ℕ → ℕ → Span
 value_span d n = let end = run_of is_value n (text d n) in span n end end 0

@@ -12,7 +12,7 @@ ghost use Rattle.steps.specs.Step.{statement_found};
 ghost use Rattle.steps.specs.Step.{number_in, number_span, phrase_in, string_span, value_span};
 
 use scan::Word;
-use tokens::{Number, Phrase, Reading};
+use tokens::Read;
 
 // A stretch of the definition, the place where reading goes on behind it, and of a number what it says.
 #[derive(Clone, Copy)]
@@ -30,12 +30,12 @@ pub struct Found {
     pub next: usize,
 }
 
-fn place_in(n: usize, t: Reading) -> usize
+fn place_in(n: usize, t: Read<usize>) -> usize
     ensures { result ≡ place_in n t }
 {
     match t {
-        Reading::At(m) => m,
-        Reading::Refused(_) => n,
+        Ok(m) => m,
+        Err(_) => n,
     }
 }
 
@@ -60,7 +60,7 @@ pub fn past_notes(classes: &[u8; 256], d: &[u8], n: usize) -> usize
     requires { Classes classes.now }
     ensures { result ≡ notes_past d.now n }
 {
-    let t = statements::notes_on(classes, d, Reading::At(n));
+    let t = statements::notes_on(classes, d, Ok(n));
     place_in(n, t)
 }
 
@@ -124,17 +124,17 @@ pub fn find_statement(classes: &[u8; 256], d: &[u8], n: usize, w: &[u8]) -> Foun
     find_here(classes, d, g, w)
 }
 
-fn number_in(n: Number) -> Span
+fn number_in(n: Read<Figures>) -> Span
     ensures { result ≡ number_in n }
 {
     match n {
-        Number::Is(x) => Span {
+        Ok(x) => Span {
             from: x.place,
             end: x.next,
             next: x.next,
             size: x.size,
         },
-        Number::Not(_) => Span {
+        Err(_) => Span {
             from: 0,
             end: 0,
             next: 0,
@@ -148,7 +148,7 @@ pub fn number_span(classes: &[u8; 256], d: &[u8], n: usize) -> Span
     requires { Classes classes.now }
     ensures { result ≡ number_span d.now n }
 {
-    let x = tokens::number_on(classes, d, Reading::At(n));
+    let x = tokens::number_on(classes, d, Ok(n));
     number_in(x)
 }
 
@@ -158,11 +158,11 @@ fn quote_before(n: usize) -> usize
     if n == 0 { 0 } else { n - 1 }
 }
 
-fn phrase_in(p: Phrase) -> Span
+fn phrase_in(p: Read<Quoted>) -> Span
     ensures { result ≡ phrase_in p }
 {
     match p {
-        Phrase::Is(q) => {
+        Ok(q) => {
             let end = quote_before(q.next);
             Span {
                 from: q.place,
@@ -171,7 +171,7 @@ fn phrase_in(p: Phrase) -> Span
                 size: 0,
             }
         }
-        Phrase::Not(_) => Span {
+        Err(_) => Span {
             from: 0,
             end: 0,
             next: 0,
@@ -185,7 +185,7 @@ pub fn string_span(classes: &[u8; 256], d: &[u8], n: usize) -> Span
     requires { Classes classes.now }
     ensures { result ≡ string_span d.now n }
 {
-    let p = tokens::string_on(classes, d, Reading::At(n));
+    let p = tokens::string_on(classes, d, Ok(n));
     phrase_in(p)
 }
 

@@ -1,6 +1,6 @@
 -- Every text of a definition that was read, as the code's books have it, stands in the definition: from its place on it is a string, whose
 -- closing quote stands just behind its length. Names, labels, and the texts of lines. specs/Decoded brings it to the rule.
-use Rattle.std.specs.Prelude.{◌≡◌, Bool, eqb, ltb}
+use Rattle.std.specs.Prelude.{◌≡◌, Bool, eqb, ltb, Ok, Err}
 use Rattle.std.proofs.Math.Path.{refl, ap}
 use Rattle.std.proofs.Common.{◌∙◌, sym}
 use Rattle.std.proofs.Math.Bool.{true, false, cond}
@@ -16,26 +16,14 @@ use Rattle.marks.specs.declared.Skip.{Skip}
 use Rattle.marks.specs.declared.Skip.TheVariants.{Past, Unclosed, Bad}
 use Rattle.marks.specs.rule.Marks.{string_of}
 use Rattle.marks.proofs.Levels.{Ahead, by_past, string_ahead}
-use Rattle.tokens.specs.declared.Reading.{Reading}
-use Rattle.tokens.specs.declared.Reading.TheVariants.{At, Refused}
 use Rattle.tokens.specs.declared.Choice.{Choice}
 use Rattle.tokens.specs.declared.Choice.TheVariants.{Taken, Left}
 use Rattle.tokens.specs.declared.Quoted.{Quoted}
-use Rattle.tokens.specs.declared.Phrase.{Phrase}
-use Rattle.tokens.specs.declared.Phrase.TheVariants as phrase
-use Rattle.tokens.specs.declared.Number.{Number}
-use Rattle.tokens.specs.declared.Number.TheVariants as number
-use Rattle.tokens.specs.declared.Amount.{Amount}
-use Rattle.tokens.specs.declared.Amount.TheVariants as amount
-use Rattle.tokens.specs.rule.Gap.{fault}
+use Rattle.tokens.specs.rule.Gap.{fault, Read}
 use Rattle.tokens.specs.Gap.{gap_on}
 use Rattle.tokens.specs.Token.{choice_of, word_on, word_here, value_here, past_value, of_skip, string_in, phrase_on, string_on, past_string}
 use Rattle.statements.specs.declared.Typed.{Typed}
 use Rattle.statements.specs.declared.Typed.TheVariants as typed
-use Rattle.statements.specs.declared.Stated.{Stated}
-use Rattle.statements.specs.declared.Stated.TheVariants as stated
-use Rattle.statements.specs.declared.Spreading.{Spreading}
-use Rattle.statements.specs.declared.Spreading.TheVariants as spreading
 use Rattle.statements.specs.rule.Words.{SPECIAL, END, VALUES, TO, SPREAD}
 use Rattle.statements.specs.Note.{notes_on, statement_on, text_on}
 use Rattle.statements.specs.Spread.{spread_rest}
@@ -44,10 +32,6 @@ use Rattle.values.specs.declared.Block.{Block}
 use Rattle.values.specs.declared.Said.{Said}
 use Rattle.values.specs.declared.Ranged.{Ranged}
 use Rattle.values.specs.declared.Ranged.TheVariants as ranged
-use Rattle.values.specs.declared.Lined.{Lined}
-use Rattle.values.specs.declared.Lined.TheVariants as lined
-use Rattle.values.specs.declared.Verdict.{Verdict}
-use Rattle.values.specs.declared.Verdict.TheVariants as verdict
 use Rattle.values.specs.declared.Turn.{Turn}
 use Rattle.values.specs.declared.Turn.TheVariants as turn
 use Rattle.values.specs.Range.{range_rest}
@@ -57,8 +41,6 @@ use Rattle.values.specs.Line.{read_step, line_step, lines_from}
 use Rattle.values.specs.Line as given
 use Rattle.values.specs.Block.{empty_block, closed_by, range_then, to_or, values_on}
 use Rattle.variables.specs.declared.Head.{Head}
-use Rattle.variables.specs.declared.Headed.{Headed}
-use Rattle.variables.specs.declared.Headed.TheVariants as headed
 use Rattle.variables.specs.Head.{join_titles, join_head, head_on}
 use Rattle.variables.specs.Rest.{Telling, Told, join_values, values_rest, join_size, join_nothing, spread_or, optional, spread_then}
 use Rattle.variables.specs.Rest.{rest_of}
@@ -74,6 +56,10 @@ use Rattle.definition.specs.Books.{Variables, Course, course, end_or, entered, v
 use Rattle.definition.specs.Books.{Faulty, survey_of, names_of, quote_at, Outcome, Built, Refusal, fitting, named, judged, outcome_in}
 use Rattle.definition.specs.Books as variables
 use Rattle.text_laws.specs.Cut.{none}
+use Rattle.statements.specs.declared.Position.{Position}
+use Rattle.tokens.specs.declared.Value.{Value}
+use Rattle.tokens.specs.declared.Figures.{Figures}
+use Rattle.statements.specs.declared.Subfields.{Subfields}
 
 -- ---- what holds of each of a list
 pub data Each {A : Type 0} (P : A → Type 0) : List A → Type 0 where
@@ -102,11 +88,11 @@ module _ (d : List ℕ) where
   Stands q = string_of Plain (text d q.place) ≡ Past (q.place + q.length + 1)
 
   -- ---- a string that was read
-  string_in_lem : {n : ℕ} {t : Text} → From d n t → (q : Quoted) → string_in t ≡ phrase.Is q → Stands q
+  string_in_lem : {n : ℕ} {t : Text} → From d n t → (q : Quoted) → string_in t ≡ Ok q → Stands q
   unfolding string_in
   string_in_lem at_stop q e = none cc
   string_in_lem (at_sign {p = p} {b = b} {u = u} g l f r) q e = by (eqb b 34) (string_of Plain u) refl (string_ahead d r Plain) e where
-    by : (x : Bool) (k : Skip) → string_of Plain u ≡ k → Ahead (p + 1) k → cond x (of_skip p k) (phrase.Not (fault 2 p)) ≡ phrase.Is q
+    by : (x : Bool) (k : Skip) → string_of Plain u ≡ k → Ahead (p + 1) k → cond x (of_skip p k) (Err (fault 2 p)) ≡ Ok q
         → Stands q
     by true (Past m) i (by_past h) e =
         let j : record { place = p + 1; length = m - (p + 1) - 1; next = m } ≡ q = cc in
@@ -116,31 +102,31 @@ module _ (d : List ℕ) where
     by true (Bad o) i h e = none cc
     by false k i h e = none cc
 
-  string_stands : (t : Reading) (q : Quoted) → string_on d t ≡ phrase.Is q → Stands q
+  string_stands : (t : Read ℕ) (q : Quoted) → string_on d t ≡ Ok q → Stands q
   unfolding string_on
   string_stands t q = by (gap_on d t) where
-    by : (g : Reading) → phrase_on g (λ n. string_in (text d n)) ≡ phrase.Is q → Stands q
-    by (At n) e = string_in_lem (from_text d n) q e
-    by (Refused f) e = none cc
+    by : (g : Read ℕ) → phrase_on g (λ n. string_in (text d n)) ≡ Ok q → Stands q
+    by (Ok n) e = string_in_lem (from_text d n) q e
+    by (Err f) e = none cc
 
   -- ---- the text of a line
   abbrev pub LineStands : Said → Type 0
   LineStands s = Stands s.text
 
-  said_text : (a : Amount) (q : Phrase) (n : ℕ) (end : Reading) (s : Said) → said_of a q n end ≡ lined.Is s → q ≡ phrase.Is s.text
+  said_text : (a : Read Value) (q : Read Quoted) (n : ℕ) (end : Read ℕ) (s : Said) → said_of a q n end ≡ Ok s → q ≡ Ok s.text
   unfolding said_of
-  said_text (amount.Not f) q n end s e = none cc
-  said_text (amount.Is v) (phrase.Not f) n end s e = none cc
-  said_text (amount.Is v) (phrase.Is q) n (Refused f) s e = none cc
-  said_text (amount.Is v) (phrase.Is q) n (At m) s e = let j : record { value = v; text = q; special = n; next = m } ≡ s = cc in rw
+  said_text (Err f) q n end s e = none cc
+  said_text (Ok v) (Err f) n end s e = none cc
+  said_text (Ok v) (Ok q) n (Err f) s e = none cc
+  said_text (Ok v) (Ok q) n (Ok m) s e = let j : record { value = v; text = q; special = n; next = m } ≡ s = cc in rw
       (← j) refl
 
-  line_stands : (a : Amount) (s : Said) → line_rest d a ≡ lined.Is s → LineStands s
+  line_stands : (a : Read Value) (s : Said) → line_rest d a ≡ Ok s → LineStands s
   unfolding line_rest
   line_stands a s = by (choice_of d (gap_on d (past_string (string_on d (past_value a)))) SPECIAL) where
-    by : (k : Choice) → special_or a (string_on d (past_value a)) (gap_on d (past_string (string_on d (past_value a)))) k ≡ lined.Is s
+    by : (k : Choice) → special_or a (string_on d (past_value a)) (gap_on d (past_string (string_on d (past_value a)))) k ≡ Ok s
         → LineStands s
-    by (Taken m) e = string_stands (past_value a) s.text (said_text a (string_on d (past_value a)) 1 (At m) s e)
+    by (Taken m) e = string_stands (past_value a) s.text (said_text a (string_on d (past_value a)) 1 (Ok m) s e)
     by Left e = string_stands (past_value a) s.text (said_text a (string_on d (past_value a)) 0
         (gap_on d (past_string (string_on d (past_value a)))) s e)
 
@@ -166,29 +152,29 @@ module _ (d : List ℕ) where
     again : (s s' : Listing) → Each LineStands s.lines → line_step d quantity first s ≡ Again s' → Each LineStands s'.lines
     unfolding line_step
     again s s' h = by (line_rest d s.amount) refl where
-      judged : (x : Said) (v : Verdict) → LineStands x → judged_step d s x v ≡ Again s' → Each LineStands s'.lines
-      judged x (verdict.Good z) k e = turned (s.lines ++ x ∷ []) (more_of d (grown_by s.block x.value) x.next) s'
+      judged : (x : Said) (v : Read ℤ) → LineStands x → judged_step d s x v ≡ Again s' → Each LineStands s'.lines
+      judged x (Ok z) k e = turned (s.lines ++ x ∷ []) (more_of d (grown_by s.block x.value) x.next) s'
           (each_more x h k) e
-      judged x (verdict.Bad f) k e = none cc
+      judged x (Err f) k e = none cc
 
-      by : (r : Lined) → line_rest d s.amount ≡ r → read_step d quantity first s r ≡ Again s' → Each LineStands s'.lines
-      by (lined.Is x) i e = judged x (judge_line (number_at s.lines) (length s.lines) first quantity s.block x.value)
+      by : (r : Read Said) → line_rest d s.amount ≡ r → read_step d quantity first s r ≡ Again s' → Each LineStands s'.lines
+      by (Ok x) i e = judged x (judge_line (number_at s.lines) (length s.lines) first quantity s.block x.value)
           (line_stands s.amount x i) e
-      by (lined.Not f) i e = none cc
+      by (Err f) i e = none cc
 
     done : (s : Listing) (g : Given) → Each LineStands s.lines → line_step d quantity first s ≡ Done g → LinesStand g
     unfolding line_step
     done s g h = by (line_rest d s.amount) refl where
-      judged : (x : Said) (v : Verdict) → LineStands x → judged_step d s x v ≡ Done g → LinesStand g
-      judged x (verdict.Good z) k e = over (s.lines ++ x ∷ []) (more_of d (grown_by s.block x.value) x.next) g (each_more x h k) e
-      judged x (verdict.Bad f) k e = let j : given.Not f ≡ g = cc in rw (← j) (no_lines f)
+      judged : (x : Said) (v : Read ℤ) → LineStands x → judged_step d s x v ≡ Done g → LinesStand g
+      judged x (Ok z) k e = over (s.lines ++ x ∷ []) (more_of d (grown_by s.block x.value) x.next) g (each_more x h k) e
+      judged x (Err f) k e = let j : given.Not f ≡ g = cc in rw (← j) (no_lines f)
 
-      by : (r : Lined) → line_rest d s.amount ≡ r → read_step d quantity first s r ≡ Done g → LinesStand g
-      by (lined.Is x) i e = judged x (judge_line (number_at s.lines) (length s.lines) first quantity s.block x.value)
+      by : (r : Read Said) → line_rest d s.amount ≡ r → read_step d quantity first s r ≡ Done g → LinesStand g
+      by (Ok x) i e = judged x (judge_line (number_at s.lines) (length s.lines) first quantity s.block x.value)
           (line_stands s.amount x i) e
-      by (lined.Not f) i e = let j : given.Not f ≡ g = cc in rw (← j) (no_lines f)
+      by (Err f) i e = let j : given.Not f ≡ g = cc in rw (← j) (no_lines f)
 
-    from_none : (a : Amount) (b : Block) → LinesStand (lines_from d quantity first (state_of a b []))
+    from_none : (a : Read Value) (b : Block) → LinesStand (lines_from d quantity first (state_of a b []))
     unfolding lines_from
     from_none a b = loop_keeps (line_step d quantity first) (given.Not (fault 0 0))
         (λ s. Each LineStands s.lines) LinesStand again done (no_lines (fault 0 0)) (suc (4096 - (first + 0))) (state_of a b []) (nil)
@@ -197,21 +183,21 @@ module _ (d : List ℕ) where
     unfolding range_then closed_by
     ranged_stand (ranged.Not f) = no_lines f
     ranged_stand (ranged.Is b with n) = by with where
-      shut : (t : Reading) → LinesStand (closed_by b t)
-      shut (At m) = record { lines_stand = λ {l = l} e. let i : [] ≡ l = cc in rw (← i) (nil) }
-      shut (Refused f) = no_lines f
+      shut : (t : Read ℕ) → LinesStand (closed_by b t)
+      shut (Ok m) = record { lines_stand = λ {l = l} e. let i : [] ≡ l = cc in rw (← i) (nil) }
+      shut (Err f) = no_lines f
 
-      by : (w : Bool) → LinesStand (cond w (lines_from d quantity first (state_of (value_here d (notes_on d (At n))) b []))
-          (closed_by b (word_on d (word_here d (notes_on d (At n)) END) VALUES)))
-      by true = from_none (value_here d (notes_on d (At n))) b
-      by false = shut (word_on d (word_here d (notes_on d (At n)) END) VALUES)
+      by : (w : Bool) → LinesStand (cond w (lines_from d quantity first (state_of (value_here d (notes_on d (Ok n))) b []))
+          (closed_by b (word_on d (word_here d (notes_on d (Ok n)) END) VALUES)))
+      by true = from_none (value_here d (notes_on d (Ok n))) b
+      by false = shut (word_on d (word_here d (notes_on d (Ok n)) END) VALUES)
 
-    values_stand : (t : Reading) → LinesStand (values_on d quantity first t)
+    values_stand : (t : Read ℕ) → LinesStand (values_on d quantity first t)
     unfolding values_on
     values_stand t = by (value_here d (notes_on d (statement_on d t VALUES)))
         (choice_of d (gap_on d (past_value (value_here d (notes_on d (statement_on d t VALUES))))) TO) where
-          by : (a : Amount) (k : Choice) → LinesStand (to_or d quantity first a k)
-          by a (Taken m) = ranged_stand (range_rest d quantity a (At m))
+          by : (a : Read Value) (k : Choice) → LinesStand (to_or d quantity first a k)
+          by a (Taken m) = ranged_stand (range_rest d quantity a (Ok m))
           by a Left = from_none a empty_block
 
   -- ---- what stands behind a position
@@ -221,7 +207,7 @@ module _ (d : List ℕ) where
   no_telling : (f : _) → TellingStands (told.Not f)
   no_telling f = record { telling_stands = λ e. none cc }
 
-  values_rest_lem : (quantity : Bool) (first : ℕ) (t : Reading) (count width : ℕ)
+  values_rest_lem : (quantity : Bool) (first : ℕ) (t : Read ℕ) (count width : ℕ)
       → TellingStands (values_rest d quantity first t count width)
   unfolding values_rest join_values
   values_rest_lem quantity first t count width = by (values_on d quantity first t) (values_stand quantity first t) where
@@ -233,35 +219,35 @@ module _ (d : List ℕ) where
     }
     by (given.Not f) h = no_telling f
 
-  spread_rest_lem : (first : ℕ) (t : Reading) (w : ℕ) → TellingStands (spread_then d first t w)
+  spread_rest_lem : (first : ℕ) (t : Read ℕ) (w : ℕ) → TellingStands (spread_then d first t w)
   unfolding spread_then
   spread_rest_lem first t w = by (choice_of d (notes_on d t) SPREAD) where
-    spread : (s : Spreading) → TellingStands (spread_or d first s)
-    spread (spreading.Is s) = values_rest_lem false first (At s.next) s.count s.width
-    spread (spreading.Not f) = no_telling f
+    spread : (s : Read Subfields) → TellingStands (spread_or d first s)
+    spread (Ok s) = values_rest_lem false first (Ok s.next) s.count s.width
+    spread (Err f) = no_telling f
 
     by : (k : Choice) → TellingStands (optional d first (notes_on d t) w k)
-    by (Taken m) = spread (spread_rest d (At m) w)
+    by (Taken m) = spread (spread_rest d (Ok m) w)
     by Left = values_rest_lem false first (notes_on d t) 0 0
 
-  size_rest : (x : Number) → TellingStands (join_size x)
+  size_rest : (x : Read Figures) → TellingStands (join_size x)
   unfolding join_size
-  size_rest (number.Is y) = record {
+  size_rest (Ok y) = record {
     telling_stands = λ {x} e.
         let j : record { block = empty_block; lines = []; subfields = 0; subwidth = 0; size = y.size; next = y.next } ≡ x = cc in
         rw (← j) (nil);
   }
-  size_rest (number.Not f) = no_telling f
+  size_rest (Err f) = no_telling f
 
-  nothing_rest : (t : Reading) → TellingStands (join_nothing t)
+  nothing_rest : (t : Read ℕ) → TellingStands (join_nothing t)
   unfolding join_nothing
-  nothing_rest (At n) = record {
+  nothing_rest (Ok n) = record {
     telling_stands = λ {x} e.
         let j : record { block = empty_block; lines = []; subfields = 0; subwidth = 0; size = 0; next = n } ≡ x = cc in rw (← j) (nil);
   }
-  nothing_rest (Refused f) = no_telling f
+  nothing_rest (Err f) = no_telling f
 
-  rest_stands : (first kind : ℕ) (t : Reading) (w : ℕ) → TellingStands (rest_of d first kind t w)
+  rest_stands : (first kind : ℕ) (t : Read ℕ) (w : ℕ) → TellingStands (rest_of d first kind t w)
   unfolding rest_of
   rest_stands first kind t w = by (eqb kind 1) (eqb kind 2) (eqb kind 3) (eqb kind 4) where
     by : (a b c e : Bool) → TellingStands (cond a (values_rest d false first t 0 0)
@@ -278,17 +264,17 @@ module _ (d : List ℕ) where
     pub label_stands : Stands v.head.label
     pub lines_stand : Each LineStands (lines_in v)
 
-  head_stands : (i : Number) (h : Head) → head_on d i ≡ headed.Is h → Stands h.name × Stands h.label
+  head_stands : (i : Read Figures) (h : Head) → head_on d i ≡ Ok h → Stands h.name × Stands h.label
   unfolding head_on text_on join_head join_titles
   head_stands i h e = by _ _ i _ _ _ _ refl refl e where
-    by : (t u : Reading) (j : Number) (n l : Phrase) (k : Typed) (p : Stated) → string_on d t ≡ n → string_on d u ≡ l
-        → join_head (join_titles j n l) k p ≡ headed.Is h → Stands h.name × Stands h.label
-    by t u (number.Not f) n l k p a b g = none cc
-    by t u (number.Is x) (phrase.Not f) l k p a b g = none cc
-    by t u (number.Is x) (phrase.Is n) (phrase.Not f) k p a b g = none cc
-    by t u (number.Is x) (phrase.Is n) (phrase.Is l) (typed.Not f) p a b g = none cc
-    by t u (number.Is x) (phrase.Is n) (phrase.Is l) (typed.Is k m) (stated.Not f) a b g = none cc
-    by t u (number.Is x) (phrase.Is n) (phrase.Is l) (typed.Is k m) (stated.Is q) a b g =
+    by : (t u : Read ℕ) (j : Read Figures) (n l : Read Quoted) (k : Typed) (p : Read Position) → string_on d t ≡ n → string_on d u ≡ l
+        → join_head (join_titles j n l) k p ≡ Ok h → Stands h.name × Stands h.label
+    by t u (Err f) n l k p a b g = none cc
+    by t u (Ok x) (Err f) l k p a b g = none cc
+    by t u (Ok x) (Ok n) (Err f) k p a b g = none cc
+    by t u (Ok x) (Ok n) (Ok l) (typed.Not f) p a b g = none cc
+    by t u (Ok x) (Ok n) (Ok l) (typed.Is k m) (Err f) a b g = none cc
+    by t u (Ok x) (Ok n) (Ok l) (typed.Is k m) (Ok q) a b g =
         let j : record {
           ident = x.size;
           name = n;
@@ -302,7 +288,7 @@ module _ (d : List ℕ) where
         ≡ h = cc in
         rw (← j) (string_stands t n a, string_stands u l b)
 
-  entry_stands : (t : Reading) (met : ℕ → Bool) (count before : ℕ) (v : Variable) (n : ℕ) → entry_of d t met count before ≡ entry.Is v n
+  entry_stands : (t : Read ℕ) (met : ℕ → Bool) (count before : ℕ) (v : Variable) (n : ℕ) → entry_of d t met count before ≡ entry.Is v n
       → VariableStands v
   unfolding entry_of rest_then held_by
   entry_stands t met count before v n = by (head_on d (ident_on d t met count)) refl where
@@ -316,14 +302,14 @@ module _ (d : List ℕ) where
           rw (← j) (record { name_stands = a.0; label_stands = a.1; lines_stand = b.telling_stands refl })
       held false m e = none cc
 
-      ends : (r : Reading) → ended r (λ m. held_by before (variable h x) m) ≡ entry.Is v n → VariableStands v
-      ends (At m) e = held (holds_in before (variable h x)) m e
-      ends (Refused f) e = none cc
+      ends : (r : Read ℕ) → ended r (λ m. held_by before (variable h x) m) ≡ entry.Is v n → VariableStands v
+      ends (Ok m) e = held (holds_in before (variable h x)) m e
+      ends (Err f) e = none cc
 
-    by : (r : Headed) → head_on d (ident_on d t met count) ≡ r → head_then r (rest_then d before) ≡ entry.Is v n → VariableStands v
-    by (headed.Not f) i e = none cc
-    by (headed.Is h) i e = told_by h (rest_of d before h.kind (At h.next) (h.finish + 1 - h.start))
-        (head_stands (ident_on d t met count) h i) (rest_stands before h.kind (At h.next) (h.finish + 1 - h.start)) e
+    by : (r : Read Head) → head_on d (ident_on d t met count) ≡ r → head_then r (rest_then d before) ≡ entry.Is v n → VariableStands v
+    by (Err f) i e = none cc
+    by (Ok h) i e = told_by h (rest_of d before h.kind (Ok h.next) (h.finish + 1 - h.start))
+        (head_stands (ident_on d t met count) h i) (rest_stands before h.kind (Ok h.next) (h.finish + 1 - h.start)) e
 
   -- ---- all of them
   record AllStand (v : Variables) : Type 0 where
@@ -340,29 +326,29 @@ module _ (d : List ℕ) where
     unfolding variable_step
     next_course s' = by (next_entry s) refl where
       choice : (v : Variable) (n : ℕ) (k : Choice) → Each VariableStands (s.earlier ++ v ∷ [])
-          → end_or (s.earlier ++ v ∷ []) (notes_on d (At n)) k ≡ Again s' → Each VariableStands s'.earlier
+          → end_or (s.earlier ++ v ∷ []) (notes_on d (Ok n)) k ≡ Again s' → Each VariableStands s'.earlier
       choice v n (Taken m) g e = none cc
-      choice v n Left g e = let j : course (notes_on d (At n)) (s.earlier ++ v ∷ []) ≡ s' = cc in rw (← j) g
+      choice v n Left g e = let j : course (notes_on d (Ok n)) (s.earlier ++ v ∷ []) ≡ s' = cc in rw (← j) g
 
       by : (o : Entry) → next_entry s ≡ o → entered d s.earlier o ≡ Again s' → Each VariableStands s'.earlier
-      by (entry.Is v n) i e = choice v n (choice_of d (notes_on d (At n)) END) (grown v n i) e
+      by (entry.Is v n) i e = choice v n (choice_of d (notes_on d (Ok n)) END) (grown v n i) e
       by (entry.Not f) i e = none cc
 
     last_course : (a : Variables) → variable_step d s ≡ Done a → AllStand a
     unfolding variable_step
     last_course a = by (next_entry s) refl where
       choice : (v : Variable) (n : ℕ) (k : Choice) → Each VariableStands (s.earlier ++ v ∷ [])
-          → end_or (s.earlier ++ v ∷ []) (notes_on d (At n)) k ≡ Done a → AllStand a
+          → end_or (s.earlier ++ v ∷ []) (notes_on d (Ok n)) k ≡ Done a → AllStand a
       choice v n Left g e = none cc
       choice v n (Taken m) g e =
           let j : variables.Is (s.earlier ++ v ∷ []) m ≡ a = cc in
           rw (← j) (record { all_stand = λ {l = l} {m = k} q. let i : s.earlier ++ v ∷ [] ≡ l = cc in rw (← i) g })
 
       by : (o : Entry) → next_entry s ≡ o → entered d s.earlier o ≡ Done a → AllStand a
-      by (entry.Is v n) i e = choice v n (choice_of d (notes_on d (At n)) END) (grown v n i) e
+      by (entry.Is v n) i e = choice v n (choice_of d (notes_on d (Ok n)) END) (grown v n i) e
       by (entry.Not f) i e = let j : variables.Not f ≡ a = cc in rw (← j) (record { all_stand = λ q. none cc })
 
-  variables_stand : (t : Reading) → AllStand (variables_from d (course t []))
+  variables_stand : (t : Read ℕ) → AllStand (variables_from d (course t []))
   unfolding variables_from
   variables_stand t = loop_keeps (variable_step d) (variables.Not (fault 0 0)) (λ s. Each VariableStands s.earlier) AllStand
       (λ s s' h e. next_course s h s' e) (λ s a h e. last_course s h a e) (record { all_stand = λ q. none cc }) (suc (512 - 0))
@@ -371,10 +357,10 @@ module _ (d : List ℕ) where
   survey_stands : (s : Survey) → survey_of d ≡ Whole s → Each VariableStands s.variables
   unfolding survey_of
   survey_stands s = by (variables_from d (course (front_on d).next [])) refl where
-    ends : (v : List Variable) (r : Reading) → Each VariableStands v → variables.ended (front_on d) v r ≡ Whole s
+    ends : (v : List Variable) (r : Read ℕ) → Each VariableStands v → variables.ended (front_on d) v r ≡ Whole s
         → Each VariableStands s.variables
-    ends v (At k) g e = let j : record { front = front_on d; variables = v } ≡ s = cc in rw (← j) g
-    ends v (Refused f) g e = none cc
+    ends v (Ok k) g e = let j : record { front = front_on d; variables = v } ≡ s = cc in rw (← j) g
+    ends v (Err f) g e = none cc
 
     by : (v : Variables) → variables_from d (course (front_on d).next []) ≡ v → variables.closed d (front_on d) v ≡ Whole s
         → Each VariableStands s.variables

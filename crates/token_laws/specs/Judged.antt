@@ -1,6 +1,6 @@
 -- "A statement is judged once read .. then 4 to 8 by lowest number, equal numbers by earlier place": the faults that a statement can have,
 -- each with its number and its place, and that the one that is named is the least of those that hold. Here for POSITION, SPREAD and SIZE.
-use Rattle.std.specs.Prelude.{◌↔◌, ◌≡◌, Bool, cond, List, ℕ, ◌≤◌, ◌<◌, ◌%◌, ◌/◌}
+use Rattle.std.specs.Prelude.{◌↔◌, ◌≡◌, Bool, cond, List, ℕ, ◌≤◌, ◌<◌, ◌%◌, ◌/◌, Ok, Err}
 use Rattle.std.proofs.Math.Path.{refl}
 use Rattle.std.proofs.Common.{ap}
 use Rattle.std.proofs.Math.Bool.{true, false}
@@ -9,16 +9,12 @@ use Rattle.std.proofs.Math.Dec.{eqb, ltb}
 use borrow.Author.Tests.{eqb-true, eqb-false, ltb-true, ltb-false}
 use Rattle.tokens.specs.declared.Fault.{Fault}
 use Rattle.tokens.specs.declared.Figures.{Figures}
-use Rattle.tokens.specs.declared.Number.{Number}
-use Rattle.tokens.specs.declared.Number.TheVariants as number
-use Rattle.tokens.specs.rule.Gap.{fault}
-use Rattle.statements.specs.declared.Stated.{Stated}
-use Rattle.statements.specs.declared.Stated.TheVariants as stated
-use Rattle.statements.specs.declared.Spreading.{Spreading}
-use Rattle.statements.specs.declared.Spreading.TheVariants as spreading
+use Rattle.tokens.specs.rule.Gap.{fault, Read}
 use Rattle.statements.specs.Position.{true_of, below_of, judge_position}
 use Rattle.statements.specs.Spread.{judge_of, judge_even}
 use Rattle.statements.specs.Size.{judge_size}
+use Rattle.statements.specs.declared.Position.{Position}
+use Rattle.statements.specs.declared.Subfields.{Subfields}
 
 -- ---- the words
 -- a fault comes before another: it has a lower number, or the same and no later place
@@ -77,17 +73,17 @@ pub data SizeFault (n : Figures) : Fault → Type 0 where
 
 -- ---- the answers
 module _ (d : List ℕ) (a b : Figures) (n : ℕ) (order : a.place ≤ b.place) where
-  abbrev PositionSays : Stated → Type 0
+  abbrev PositionSays : Read Position → Type 0
   PositionSays =
-      Says (PositionFault d a b) (stated.Is (record { start = a.size; finish = b.size; place = a.place; next = n })) stated.Not
+      Says (PositionFault d a b) (Ok (record { start = a.size; finish = b.size; place = a.place; next = n })) Err
 
   position_says : PositionSays (judge_position (below_of d b a) a b n)
   unfolding judge_position
   position_says = by (eqb a.size 0) (ltb (true_of d b) (true_of d a)) (ltb 16384 a.size) (ltb 16384 b.size) refl refl refl refl where
     by : (p q r s : Bool) → eqb a.size 0 ≡ p → ltb (true_of d b) (true_of d a) ≡ q → ltb 16384 a.size ≡ r → ltb 16384 b.size ≡ s
-        → PositionSays (cond p (stated.Not (fault 7 a.place)) (cond q (stated.Not (fault 7 b.place))
-        (cond r (stated.Not (fault 8 a.place)) (cond s (stated.Not (fault 8 b.place))
-        (stated.Is (record { start = a.size; finish = b.size; place = a.place; next = n }))))))
+        → PositionSays (cond p (Err (fault 7 a.place)) (cond q (Err (fault 7 b.place))
+        (cond r (Err (fault 8 a.place)) (cond s (Err (fault 8 b.place))
+        (Ok (record { start = a.size; finish = b.size; place = a.place; next = n }))))))
     by true q r s e f g h = refused (record { holds = start_0 (eqb-true a.size 0 e); first = on }) where
       on : (g : Fault) → PositionFault d a b g → Before (fault 7 a.place) g
       on g (start_0 x) = earlier refl (omega arith)
@@ -119,19 +115,19 @@ module _ (d : List ℕ) (a b : Figures) (n : ℕ) (order : a.place ≤ b.place) 
       on i (start_far x) = let y = ltb-false 16384 a.size g in omega arith
       on i (finish_far x) = let y = ltb-false 16384 b.size h in omega arith
 
-  pub position_exactly : (r : Stated) → (judge_position (below_of d b a) a b n ≡ r) ↔ PositionSays r
+  pub position_exactly : (r : Read Position) → (judge_position (below_of d b a) a b n ≡ r) ↔ PositionSays r
   position_exactly r = (λ e. rw e at position_says, says_once position_says)
 
 module _ (n w : Figures) (next : ℕ) (order : n.place ≤ w.place) where
-  abbrev SpreadSays : Spreading → Type 0
-  SpreadSays = Says (SpreadFault n w) (spreading.Is (record { count = n.size; width = w.size; next = next })) spreading.Not
+  abbrev SpreadSays : Read Subfields → Type 0
+  SpreadSays = Says (SpreadFault n w) (Ok (record { count = n.size; width = w.size; next = next })) Err
 
   spread_says : SpreadSays (judge_of n w next)
   unfolding judge_of
   spread_says = by (eqb n.size 0) (eqb w.size 0) refl refl where
     by : (p q : Bool) → eqb n.size 0 ≡ p → eqb w.size 0 ≡ q
-        → SpreadSays (cond p (spreading.Not (fault 7 n.place)) (cond q (spreading.Not (fault 7 w.place))
-        (spreading.Is (record { count = n.size; width = w.size; next = next }))))
+        → SpreadSays (cond p (Err (fault 7 n.place)) (cond q (Err (fault 7 w.place))
+        (Ok (record { count = n.size; width = w.size; next = next }))))
     by true q e f = refused (record { holds = SpreadFault.count_0 (eqb-true n.size 0 e); first = on }) where
       on : (i : Fault) → SpreadFault n w i → Before (fault 7 n.place) i
       on i (SpreadFault.count_0 x) = earlier refl (omega arith)
@@ -145,13 +141,13 @@ module _ (n w : Figures) (next : ℕ) (order : n.place ≤ w.place) where
       on i (SpreadFault.count_0 x) = eqb-false n.size 0 e x
       on i (width_0 x) = eqb-false w.size 0 f x
 
-  pub spread_exactly : (r : Spreading) → (judge_of n w next ≡ r) ↔ SpreadSays r
+  pub spread_exactly : (r : Read Subfields) → (judge_of n w next ≡ r) ↔ SpreadSays r
   spread_exactly r = (λ e. rw e at spread_says, says_once spread_says)
 
 module _ (n : Figures) where
   module _ (width next : ℕ) where
-    abbrev EvenSays : Spreading → Type 0
-    EvenSays = Says (EvenFault n width) (spreading.Is (record { count = n.size; width = width / n.size; next = next })) spreading.Not
+    abbrev EvenSays : Read Subfields → Type 0
+    EvenSays = Says (EvenFault n width) (Ok (record { count = n.size; width = width / n.size; next = next })) Err
 
     even_says : EvenSays (judge_even n width next)
     unfolding judge_even
@@ -162,8 +158,8 @@ module _ (n : Figures) where
       on i (inexact x) = earlier refl (omega arith)
 
       by : (p q : Bool) → eqb n.size 0 ≡ p → eqb (width % n.size) 0 ≡ q
-          → EvenSays (cond p (spreading.Not (fault 7 n.place))
-          (cond q (spreading.Is (record { count = n.size; width = width / n.size; next = next })) (spreading.Not (fault 7 n.place))))
+          → EvenSays (cond p (Err (fault 7 n.place))
+          (cond q (Ok (record { count = n.size; width = width / n.size; next = next })) (Err (fault 7 n.place))))
       by true q e f = refused (record { holds = EvenFault.count_0 (eqb-true n.size 0 e); first = on })
       by false false e f = refused (record { holds = inexact (eqb-false (width % n.size) 0 f); first = on })
       by false true e f = stands none where
@@ -171,17 +167,17 @@ module _ (n : Figures) where
         none i (EvenFault.count_0 x) = eqb-false n.size 0 e x
         none i (inexact x) = x (eqb-true (width % n.size) 0 f)
 
-    pub even_exactly : (r : Spreading) → (judge_even n width next ≡ r) ↔ EvenSays r
+    pub even_exactly : (r : Read Subfields) → (judge_even n width next ≡ r) ↔ EvenSays r
     even_exactly r = (λ e. rw e at even_says, says_once even_says)
 
-  abbrev SizeSays : Number → Type 0
-  SizeSays = Says (SizeFault n) (number.Is n) number.Not
+  abbrev SizeSays : Read Figures → Type 0
+  SizeSays = Says (SizeFault n) (Ok n) Err
 
-  size_says : SizeSays (judge_size (number.Is n))
+  size_says : SizeSays (judge_size (Ok n))
   unfolding judge_size
   size_says = by (eqb n.size 0) (ltb 4096 n.size) refl refl where
     by : (p q : Bool) → eqb n.size 0 ≡ p → ltb 4096 n.size ≡ q
-        → SizeSays (cond p (number.Not (fault 7 n.place)) (cond q (number.Not (fault 8 n.place)) (number.Is n)))
+        → SizeSays (cond p (Err (fault 7 n.place)) (cond q (Err (fault 8 n.place)) (Ok n)))
     by true q e f = refused (record { holds = size_0 (eqb-true n.size 0 e); first = on }) where
       on : (i : Fault) → SizeFault n i → Before (fault 7 n.place) i
       on i (size_0 x) = earlier refl (omega arith)
@@ -195,5 +191,5 @@ module _ (n : Figures) where
       on i (size_0 x) = eqb-false n.size 0 e x
       on i (too_large x) = let y = ltb-false 4096 n.size f in omega arith
 
-  pub size_exactly : (r : Number) → (judge_size (number.Is n) ≡ r) ↔ SizeSays r
+  pub size_exactly : (r : Read Figures) → (judge_size (Ok n) ≡ r) ↔ SizeSays r
   size_exactly r = (λ e. rw e at size_says, says_once size_says)

@@ -1,6 +1,6 @@
 -- "`SSS` comes first, with no space before it. Then `VERSION 1.1`": spaces alone stand between, and the version is the run `1.1` as text.
 -- What is read of the opening, both ways.
-use Rattle.std.specs.Prelude.{◌↔◌, Bool, true, false, cond, ℕ, ◌+◌, ◌-◌, ◌<◌, eqb, ltb, leb}
+use Rattle.std.specs.Prelude.{◌↔◌, Bool, true, false, cond, ℕ, ◌+◌, ◌-◌, ◌<◌, eqb, ltb, leb, Ok, Err}
 use Rattle.std.proofs.Math.Path.{◌≡◌, refl}
 use Rattle.std.proofs.Common.{◌∙◌, sym, arith}
 use mathlib.Core.List.{List, [], ◌∷◌}
@@ -17,9 +17,7 @@ use Rattle.statements.specs.rule.Words.{LABEL, TYPE, SINGLE, MULTIPLE, QUANTITY,
 use Rattle.statements.specs.rule.Words.{WITH, SPECIAL, END, NOTE, ONE-ONE}
 use Rattle.scan.proofs.Keywords.{word_exactly}
 use Rattle.scan.proofs.Texts.{From, at_stop, at_sign, from_text}
-use Rattle.tokens.specs.declared.Reading.{Reading}
-use Rattle.tokens.specs.declared.Reading.TheVariants.{At, Refused}
-use Rattle.tokens.specs.rule.Gap.{fault}
+use Rattle.tokens.specs.rule.Gap.{fault, Read}
 use Rattle.tokens.specs.Gap.{then, spaces_on}
 use Rattle.tokens.specs.Token.{of_word, word_here}
 use Rattle.statements.specs.Opening.{whole, version_here, opening_of}
@@ -86,13 +84,13 @@ pub data Goes (d : List ℕ) (n : ℕ) : Type 0 where
 
 -- what the opening says: 1.1, with what is read next behind it; or 2 at what stands where SSS, VERSION or a run is due; or 4 at a run that
 -- is not 1.1
-pub data Opens (d : List ℕ) : Reading → Type 0 where
-  one_one : {a p : ℕ} → Goes d a → Spaces d a p → run_bytes is_value (text d p) ≡ ONE-ONE → Opens d (At (run_of is_value p (text d p)))
-  sss_due : ((n : ℕ) → Begins d n → ⊥) → Opens d (Refused (fault 2 (place_of (text d 0))))
-  version_due : {a p : ℕ} → Begins d a → Spaces d a p → ((n : ℕ) → Written VERSION p (text d p) n → ⊥) → Opens d (Refused (fault 2 p))
-  run_due : {a p : ℕ} → Goes d a → Spaces d a p → run_bytes is_value (text d p) ≡ [] → Opens d (Refused (fault 2 p))
+pub data Opens (d : List ℕ) : Read ℕ → Type 0 where
+  one_one : {a p : ℕ} → Goes d a → Spaces d a p → run_bytes is_value (text d p) ≡ ONE-ONE → Opens d (Ok (run_of is_value p (text d p)))
+  sss_due : ((n : ℕ) → Begins d n → ⊥) → Opens d (Err (fault 2 (place_of (text d 0))))
+  version_due : {a p : ℕ} → Begins d a → Spaces d a p → ((n : ℕ) → Written VERSION p (text d p) n → ⊥) → Opens d (Err (fault 2 p))
+  run_due : {a p : ℕ} → Goes d a → Spaces d a p → run_bytes is_value (text d p) ≡ [] → Opens d (Err (fault 2 p))
   other_run : {a p : ℕ} → Goes d a → Spaces d a p → (run_bytes is_value (text d p) ≡ [] → ⊥) → (run_bytes is_value (text d p) ≡ ONE-ONE → ⊥)
-      → Opens d (Refused (fault 4 p))
+      → Opens d (Err (fault 4 p))
 
 -- ---- spaces
 module _ (d : List ℕ) where
@@ -202,19 +200,19 @@ module _ (d : List ℕ) where
   goes_on : (p : ℕ) → (run_at p ≡ [] → ⊥) → eqb (past p) p ≡ false
   goes_on p f = ne_eqb (past p) p (λ e. f ((run_empty d (from_text d p)).0 e))
 
-  run_none : (p : ℕ) → run_at p ≡ [] → version_here d p ≡ Refused (fault 2 p)
+  run_none : (p : ℕ) → run_at p ≡ [] → version_here d p ≡ Err (fault 2 p)
   unfolding version_here
   run_none p e = rw (eq-eqb (past p) p ((run_empty d (from_text d p)).1 e))
 
-  run_one_one : (p : ℕ) → run_at p ≡ ONE-ONE → version_here d p ≡ At (past p)
+  run_one_one : (p : ℕ) → run_at p ≡ ONE-ONE → version_here d p ≡ Ok (past p)
   unfolding version_here word_at
   run_one_one p e =
       rw (goes_on p (λ f. let z : ◌≡◌ {A = ℕ} 0 1 = cc in omega arith), run_matched (from_text d p) e, eq-eqb (past p) (past p) refl)
 
-  run_other : (p : ℕ) → (run_at p ≡ [] → ⊥) → (run_at p ≡ ONE-ONE → ⊥) → version_here d p ≡ Refused (fault 4 p)
+  run_other : (p : ℕ) → (run_at p ≡ [] → ⊥) → (run_at p ≡ ONE-ONE → ⊥) → version_here d p ≡ Err (fault 4 p)
   unfolding version_here word_at
   run_other p f g = rw (goes_on p f) (by (word_of p (text d p) ONE-ONE) refl) where
-    by : (x : Word) → word_of p (text d p) ONE-ONE ≡ x → whole p (past p) x ≡ Refused (fault 4 p)
+    by : (x : Word) → word_of p (text d p) ONE-ONE ≡ x → whole p (past p) x ≡ Err (fault 4 p)
     by (Matched m) e = rw (ne_eqb m (past p) (λ q. g (matched_run (from_text d p) (ones_of p (past p) (text d p) (rw q at e)))))
     by Not e = refl
 
@@ -251,11 +249,11 @@ module _ (d : List ℕ) where
   version_at n p w = (word_exactly d p n VERSION keywords_capital.1).1 w
 
   not_there : (p : ℕ) (w : List ℕ) → capitals w ≡ true → ((n : ℕ) → Written w p (text d p) n → ⊥) → (x : Word) → word_at d p w ≡ x
-      → of_word p x ≡ Refused (fault 2 p)
+      → of_word p x ≡ Err (fault 2 p)
   not_there p w k f (Matched n) e = absurd (f n ((word_exactly d p n w k).0 e))
   not_there p w k f Not e = refl
 
-  complete : {r : Reading} → Opens d r → opening_of d ≡ r
+  complete : {r : Read ℕ} → Opens d r → opening_of d ≡ r
   unfolding opening_of word_here spaces_on
   complete (one_one {p = p} (version {p = q} b s w) s' e) =
       rw (sss_at b, spaces_complete d s, version_at _ q w, spaces_complete d s') (run_one_one p e)
@@ -297,5 +295,5 @@ module _ (d : List ℕ) where
     by (Matched a) e = from_sss a (begun a e) (word_at d (behind d a) VERSION) refl
     by Not e = sss_due (λ n b. never (sym e ∙ sss_at b))
 
-  pub opening_exactly : (r : Reading) → (opening_of d ≡ r) ↔ Opens d r
+  pub opening_exactly : (r : Read ℕ) → (opening_of d ≡ r) ↔ Opens d r
   opening_exactly r = (λ e. rw e at sound, complete)

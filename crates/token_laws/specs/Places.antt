@@ -2,7 +2,7 @@
 -- order that Judged.antt asks of a pair holds of every pair that is read.
 use Rattle.std.proofs.Math.Path.{◌≡◌, refl}
 use Rattle.std.proofs.Common.{sym, ap}
-use Rattle.std.specs.Prelude.{Bool, ℕ, ◌+◌, ◌≤◌, eqb}
+use Rattle.std.specs.Prelude.{Bool, ℕ, ◌+◌, ◌≤◌, eqb, Ok, Err}
 use Rattle.std.proofs.Math.Bool.{true, false, cond}
 use mathlib.Core.List.{List, [], ◌∷◌}
 use native.Mathlib.Omega.{arith}
@@ -17,12 +17,9 @@ use Rattle.scan.proofs.Texts.{From, at_stop, at_sign, from_text, place_from}
 use Rattle.scan.proofs.Orders.{run_ahead}
 use Rattle.marks.proofs.Levels.{ahead, comment_ahead}
 use Rattle.marks.proofs.Comments.{comment_exactly}
-use Rattle.tokens.specs.declared.Reading.{Reading}
-use Rattle.tokens.specs.declared.Reading.TheVariants.{At, Refused}
 use Rattle.tokens.specs.declared.Choice.TheVariants.{Taken}
 use Rattle.tokens.specs.declared.Figures.{Figures}
-use Rattle.tokens.specs.declared.Number.TheVariants as number
-use Rattle.tokens.specs.rule.Gap.{fault, gap_at}
+use Rattle.tokens.specs.rule.Gap.{fault, gap_at, Read}
 use Rattle.tokens.specs.Gap.{gap_on}
 use Rattle.tokens.specs.Token.{of_choice, choice_of, of_digits, number_here, number_on}
 use Rattle.token_laws.specs.Gaps.{Gap, none, space, comment, Behind, token, ended, gap_exactly}
@@ -43,12 +40,12 @@ module _ (d : List ℕ) where
   gap_on_lem {at} (comment {p = p} {k = k} e c g) =
       omega (arith, first_at at p 60 e, ahead (comment_ahead d (from_text d (p + 1)) 1) ((comment_exactly d 1 (p + 1) k).1 c), gap_on_lem g)
 
-  behind_on : {at p : ℕ} → Behind d at (At p) → at ≤ p
+  behind_on : {at p : ℕ} → Behind d at (Ok p) → at ≤ p
   behind_on {p = p} (token {n = n} {b = b} g e f h) = omega (arith, gap_on_lem g, first_at n p b e)
   behind_on {p = p} (ended {n = n} g e) = omega (arith, gap_on_lem g, end_at n p e)
 
-  gap_later : (at p : ℕ) → gap_at d at ≡ At p → at ≤ p
-  gap_later at p e = behind_on ((gap_exactly d at (At p)).0 e)
+  gap_later : (at p : ℕ) → gap_at d at ≡ Ok p → at ≤ p
+  gap_later at p e = behind_on ((gap_exactly d at (Ok p)).0 e)
 
   word_later : (w : List ℕ) (m : ℕ) {n : ℕ} {t : Text} → From d n t → word_of n t w ≡ Matched m → n ≤ m
   unfolding word_of
@@ -59,7 +56,7 @@ module _ (d : List ℕ) where
     by true ih e = omega (arith, ih e)
     by false ih e = let z : ◌≡◌ {A = ℕ} 0 1 = cc in absurd (omega arith)
 
-  choice_later : (n : ℕ) (w : List ℕ) (m : ℕ) → choice_of d (At n) w ≡ Taken m → n ≤ m
+  choice_later : (n : ℕ) (w : List ℕ) (m : ℕ) → choice_of d (Ok n) w ≡ Taken m → n ≤ m
   unfolding choice_of word_at
   choice_later n w m = by (word_of n (text d n) w) refl where
     by : (x : Word) → word_of n (text d n) w ≡ x → of_choice x ≡ Taken m → n ≤ m
@@ -67,7 +64,7 @@ module _ (d : List ℕ) where
     by Not e f = let z : ◌≡◌ {A = ℕ} 0 1 = cc in absurd (omega arith)
 
   -- a number that is read stands where its gap ends, and what is read next behind it
-  number_at : (k : ℕ) (x : Figures) → number_here d (At k) ≡ number.Is x → (x.place ≡ k) × (k ≤ x.next)
+  number_at : (k : ℕ) (x : Figures) → number_here d (Ok k) ≡ Ok x → (x.place ≡ k) × (k ≤ x.next)
   unfolding number_here of_digits digits_from
   number_at k x = by (eqb (digits_from 0 0 k (text d k)).count 0) where
     read : Figures
@@ -78,26 +75,26 @@ module _ (d : List ℕ) where
       next = run_of is_digit k (text d k);
     }
 
-    by : (q : Bool) → cond q (number.Not (fault 2 k)) (number.Is read) ≡ number.Is x → (x.place ≡ k) × (k ≤ x.next)
+    by : (q : Bool) → cond q (Err (fault 2 k)) (Ok read) ≡ Ok x → (x.place ≡ k) × (k ≤ x.next)
     by true e = let z : ◌≡◌ {A = ℕ} 0 1 = cc in absurd (omega arith)
     by false e =
         let j : read ≡ x = cc in
         let n : run_of is_digit k (text d k) ≡ x.next = ap (λ (y : Figures). y.next) j in
         (sym (ap (λ (y : Figures). y.place) j), omega (arith, run_ahead d is_digit (from_text d k)))
 
-  number_later : (g : Reading) (x : Figures) → number_here d g ≡ number.Is x → (k : ℕ) × (g ≡ At k) × (x.place ≡ k) × (k ≤ x.next)
+  number_later : (g : Read ℕ) (x : Figures) → number_here d g ≡ Ok x → (k : ℕ) × (g ≡ Ok k) × (x.place ≡ k) × (k ≤ x.next)
   unfolding number_here
-  number_later (At k) x e = let h = number_at k x e in (k, refl, h.0, h.1)
-  number_later (Refused f) x e = let z : ◌≡◌ {A = ℕ} 0 1 = cc in absurd (omega arith)
+  number_later (Ok k) x e = let h = number_at k x e in (k, refl, h.0, h.1)
+  number_later (Err f) x e = let z : ◌≡◌ {A = ℕ} 0 1 = cc in absurd (omega arith)
 
-  taken_later : (g : Reading) (w : List ℕ) (m : ℕ) → choice_of d g w ≡ Taken m → (k : ℕ) × (g ≡ At k) × (k ≤ m)
+  taken_later : (g : Read ℕ) (w : List ℕ) (m : ℕ) → choice_of d g w ≡ Taken m → (k : ℕ) × (g ≡ Ok k) × (k ≤ m)
   unfolding choice_of
-  taken_later (At k) w m e = (k, refl, choice_later k w m e)
-  taken_later (Refused f) w m e = let z : ◌≡◌ {A = ℕ} 0 1 = cc in absurd (omega arith)
+  taken_later (Ok k) w m e = (k, refl, choice_later k w m e)
+  taken_later (Err f) w m e = let z : ◌≡◌ {A = ℕ} 0 1 = cc in absurd (omega arith)
 
   -- IN ORDER: a number x, a word w that is taken behind it, and a number y behind that
-  pub pair_ordered : (t : Reading) (w : List ℕ) (m : ℕ) (x y : Figures) → number_on d t ≡ number.Is x
-      → choice_of d (gap_on d (At x.next)) w ≡ Taken m → number_on d (At m) ≡ number.Is y → x.place ≤ y.place
+  pub pair_ordered : (t : Read ℕ) (w : List ℕ) (m : ℕ) (x y : Figures) → number_on d t ≡ Ok x
+      → choice_of d (gap_on d (Ok x.next)) w ≡ Taken m → number_on d (Ok m) ≡ Ok y → x.place ≤ y.place
   unfolding number_on gap_on
   pair_ordered t w m x y e f h =
       let a = number_later (gap_on d t) x e in

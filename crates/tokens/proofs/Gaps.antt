@@ -1,4 +1,5 @@
 -- A gap is its first space or comment, and then the gap from its end on.
+use Rattle.std.specs.Prelude.{Ok}
 use mathlib.Core.Path.{◌≡◌, refl, ap, ◌∙◌, sym}
 use mathlib.Core.Bool.{Bool, true, false, cond, ◌&&◌, ◌||◌}
 use mathlib.Core.List.{List}
@@ -15,19 +16,17 @@ use Rattle.scan.proofs.Texts.{From, at_stop, at_sign, from_text, text_dropped, t
 use Rattle.scan.proofs.Loops.{loop_again, loop_done}
 use Rattle.marks.specs.declared.Skip.{Skip}
 use Rattle.marks.proofs.Levels.{Ahead, by_past, by_none, by_bad, comment_ahead}
-use Rattle.tokens.specs.declared.Reading.{Reading}
-use Rattle.tokens.specs.declared.Reading.TheVariants.{At}
 use Rattle.tokens.specs.declared.Pace.TheVariants.{On, Over}
-use Rattle.tokens.specs.rule.Gap.{gap_skip, gap_step, gap_at}
+use Rattle.tokens.specs.rule.Gap.{gap_skip, gap_step, gap_at, Read}
 use Rattle.tokens.specs.Gap.{pace_of}
 
 -- what the code's step says of the step
-pub pace_on : {s : Next ℕ Reading} {n : ℕ} → pace_of s ≡ On n → s ≡ Again n
+pub pace_on : {s : Next ℕ (Read ℕ)} {n : ℕ} → pace_of s ≡ On n → s ≡ Again n
 unfolding pace_of
 pace_on {s = Again m} e = cc
 pace_on {s = Done r} e = let z : ◌≡◌ {A = ℕ} 0 1 = cc in absurd (omega arith)
 
-pub pace_over : {s : Next ℕ Reading} {r : Reading} → pace_of s ≡ Over r → s ≡ Done r
+pub pace_over : {s : Next ℕ (Read ℕ)} {r : Read ℕ} → pace_of s ≡ Over r → s ≡ Done r
 unfolding pace_of
 pace_over {s = Again m} e = let z : ◌≡◌ {A = ℕ} 0 1 = cc in absurd (omega arith)
 pace_over {s = Done r} e = cc
@@ -37,7 +36,7 @@ skip_less p {n = n} (by_past {n = m} h) e = let q : m ≡ n = cc in omega arith
 skip_less p by_none e = let z : ◌≡◌ {A = ℕ} 0 1 = cc in omega arith
 skip_less p by_bad e = let z : ◌≡◌ {A = ℕ} 0 1 = cc in omega arith
 
-step_less : {at p n : ℕ} {r : Skip} (q q' : Bool) → at ≤ p → Ahead (p + 1) r → cond q (Again (p + 1)) (cond q' (gap_skip p r) (Done (At p)))
+step_less : {at p n : ℕ} {r : Skip} (q q' : Bool) → at ≤ p → Ahead (p + 1) r → cond q (Again (p + 1)) (cond q' (gap_skip p r) (Done (Ok p)))
     ≡ Again n → at < n
 step_less {p = p} {n = n} true q' h a e = let j : p + 1 ≡ n = cc in omega arith
 step_less {p = p} false true h a e = omega (arith, skip_less p a e)
@@ -53,16 +52,16 @@ gap_less d {at} {n} (at_sign {p = p} {b = b} h w _ r) e =
 module _ (d : List ℕ) (n : ℕ) where
   pub gap_again : {m : ℕ} → gap_step (text d n) ≡ Again m → gap_at d n ≡ gap_at d m
   unfolding gap_at
-  gap_again e = loop_again (λ n. gap_step (text d n)) (At 0) (λ n. length d - n) (λ s s'. gap_less d (from_text d s)) e
+  gap_again e = loop_again (λ n. gap_step (text d n)) (Ok 0) (λ n. length d - n) (λ s s'. gap_less d (from_text d s)) e
 
-  pub gap_done : {g : Reading} → gap_step (text d n) ≡ Done g → gap_at d n ≡ g
+  pub gap_done : {g : Read ℕ} → gap_step (text d n) ≡ Done g → gap_at d n ≡ g
   unfolding gap_at
-  gap_done e = loop_done (λ n. gap_step (text d n)) (At 0) (λ n. length d - n) (λ s s'. gap_less d (from_text d s)) e
+  gap_done e = loop_done (λ n. gap_step (text d n)) (Ok 0) (λ n. length d - n) (λ s s'. gap_less d (from_text d s)) e
 
 -- ---- a byte of 32 or below at n is passed: the gap from the next place on ends as it does
 gap_same : (d : List ℕ) (n m : ℕ) → text d n ≡ text d m → gap_at d n ≡ gap_at d m
 gap_same d n m e = by (gap_step (text d n)) refl where
-  by : (s : Next ℕ Reading) → gap_step (text d n) ≡ s → gap_at d n ≡ gap_at d m
+  by : (s : Next ℕ (Read ℕ)) → gap_step (text d n) ≡ s → gap_at d n ≡ gap_at d m
   by (Again k) h = gap_again d n h ∙ sym (gap_again d m (ap gap_step (sym e) ∙ h))
   by (Done g) h = gap_done d n h ∙ sym (gap_done d m (ap gap_step (sym e) ∙ h))
 
@@ -101,7 +100,7 @@ above_space b h = rw (le-ltb b 32 (omega arith), ne_eqb b 32 (λ e. omega arith)
       by false false false false true = refl
       by false false false false false = refl
 
-pub gap_token : (d : List ℕ) (n : ℕ) → n < length d → 32 < get_or d n 0 → (get_or d n 0 ≡ 60 → ⊥) → gap_at d n ≡ At n
+pub gap_token : (d : List ℕ) (n : ℕ) → n < length d → 32 < get_or d n 0 → (get_or d n 0 ≡ 60 → ⊥) → gap_at d n ≡ Ok n
 unfolding gap_step
 gap_token d n h l o =
     gap_done d n (rw (text_kept d n h (kept_byte (get_or d n 0) (omega arith)), above_space (get_or d n 0) l, ne_eqb (get_or d n 0) 60 o))

@@ -1,4 +1,5 @@
 -- Digits that stand side by side, and a value that is nothing else.
+use Rattle.std.specs.Prelude.{Ok}
 use mathlib.Core.Path.{◌≡◌, refl, ◌∙◌, sym, ap}
 use mathlib.Core.Bool.{Bool, true, false, cond, not, ◌||◌}
 use mathlib.Core.List.{List, [], ◌∷◌}
@@ -14,9 +15,6 @@ use Rattle.scan.specs.Number.{digits_from, push_of}
 use Rattle.scan.proofs.Texts.{text_dropped, text_kept, kept_byte}
 use Rattle.scan.proofs.Runs.{low, digits_next, digits_over, digits_end}
 use Rattle.tokens.specs.declared.Mark.{Mark}
-use Rattle.tokens.specs.declared.Number.TheVariants as number
-use Rattle.tokens.specs.declared.Reading.TheVariants.{At}
-use Rattle.tokens.specs.declared.Amount.TheVariants as amount
 use Rattle.tokens.specs.Over.{over_of}
 use Rattle.tokens.proofs.Gaps.{low_dropped}
 use Rattle.tokens.specs.Token.{mark_of, value_at, of_digits, number_here, of_value, value_here}
@@ -123,7 +121,7 @@ module _ (d : List ℕ) (n e v : ℕ) (l : n < e) (w : v ≤ 1000000000000000)
   some = rw whole (omega arith)
 
   -- a number
-  pub lead_number : number_here d (At n) ≡ number.Is (record { size = v; count = e - n; place = n; next = e })
+  pub lead_number : number_here d (Ok n) ≡ Ok (record { size = v; count = e - n; place = n; next = e })
   unfolding number_here of_digits
   lead_number = rw (whole, ne_eqb (e - n) 0 (λ q. omega arith))
 
@@ -152,7 +150,7 @@ module _ (d : List ℕ) (n e v : ℕ) (l : n < e) (w : v ≤ 1000000000000000)
         lt-ltb 0 (e - n) (omega arith),
       )
 
-  pub lead_here : value_here d (At n) ≡ amount.Is (record
+  pub lead_here : value_here d (Ok n) ≡ Ok (record
       { minus = false; size = v; whole = e - n; decimals = 0; point = false; formed = true; place = n; first = n; last = e; next = e })
   unfolding value_here of_value
   lead_here = rw (lead_value, ne_eqb e n (λ q. omega arith))

@@ -2,7 +2,7 @@
 -- The tokens: words, numbers, values, strings, a letter, each behind its spaces and comments. A token that is due and does not stand
 -- there is refusal 2 at the place of what does; a string that does not close is 3 at its opening quote, a bad brace form 3 at its
 -- brace.
-use Rattle.std.specs.Prelude.{ℕ, ◌+◌, ◌-◌, true, false, cond, ◌&&◌, ◌||◌, List, eqb, ltb}
+use Rattle.std.specs.Prelude.{ℕ, ◌+◌, ◌-◌, true, false, cond, ◌&&◌, ◌||◌, List, eqb, ltb, Ok, Err}
 use Rattle.ascii.specs.rule.Class.{class_of}
 use Rattle.scan.specs.rule.Text.{Text, stop, sign, text}
 use Rattle.scan.specs.declared.Word.{Word}
@@ -15,31 +15,25 @@ use Rattle.marks.specs.declared.Inside.TheVariants.{Plain}
 use Rattle.marks.specs.declared.Skip.{Skip}
 use Rattle.marks.specs.declared.Skip.TheVariants.{Past, Unclosed, Bad}
 use Rattle.marks.specs.rule.Marks.{string_of}
-use Rattle.tokens.specs.declared.Reading.{Reading}
-use Rattle.tokens.specs.declared.Reading.TheVariants.{At, Refused}
 use Rattle.tokens.specs.declared.Choice.{Choice}
 use Rattle.tokens.specs.declared.Choice.TheVariants.{Taken, Left}
-use Rattle.tokens.specs.declared.Number.{Number}
-use Rattle.tokens.specs.declared.Number.TheVariants as number
 use Rattle.tokens.specs.declared.Mark.{Mark}
 use Rattle.tokens.specs.declared.Value.{Value}
-use Rattle.tokens.specs.declared.Amount.{Amount}
-use Rattle.tokens.specs.declared.Amount.TheVariants as amount
-use Rattle.tokens.specs.declared.Phrase.{Phrase}
-use Rattle.tokens.specs.declared.Phrase.TheVariants as phrase
-use Rattle.tokens.specs.rule.Gap.{fault}
+use Rattle.tokens.specs.rule.Gap.{fault, Read}
 use Rattle.tokens.specs.Gap.{then, gap_on}
+use Rattle.tokens.specs.declared.Figures.{Figures}
+use Rattle.tokens.specs.declared.Quoted.{Quoted}
 
 -- ---- words
-abbrev pub of_word : ℕ → Word → Reading
-of_word n (Matched m) = At m
-of_word n Not = Refused (fault 2 n)
+abbrev pub of_word : ℕ → Word → Read ℕ
+of_word n (Matched m) = Ok m
+of_word n Not = Err (fault 2 n)
 
 -- a word that is due right here, and one behind a gap
-unfoldable pub word_here : List ℕ → Reading → List ℕ → Reading
+unfoldable pub word_here : List ℕ → Read ℕ → List ℕ → Read ℕ
 word_here d t w = then t λ n. of_word n (word_at d n w)
 
-unfoldable pub word_on : List ℕ → Reading → List ℕ → Reading
+unfoldable pub word_on : List ℕ → Read ℕ → List ℕ → Read ℕ
 word_on d t w = word_here d (gap_on d t) w
 
 -- a word that may stand right here
@@ -47,26 +41,26 @@ abbrev pub of_choice : Word → Choice
 of_choice (Matched m) = Taken m
 of_choice Not = Left
 
-unfoldable pub choice_of : List ℕ → Reading → List ℕ → Choice
-choice_of d (At n) w = of_choice (word_at d n w)
-choice_of d (Refused f) w = Left
+unfoldable pub choice_of : List ℕ → Read ℕ → List ℕ → Choice
+choice_of d (Ok n) w = of_choice (word_at d n w)
+choice_of d (Err f) w = Left
 
 -- ---- numbers: the longest run of digits
-unfoldable pub of_digits : ℕ → Digits → Number
+unfoldable pub of_digits : ℕ → Digits → Read Figures
 of_digits n r =
-    cond (eqb r.count 0) (number.Not (fault 2 n))
-    (number.Is (record { size = r.size; count = r.count; place = n; next = r.next }))
+    cond (eqb r.count 0) (Err (fault 2 n))
+    (Ok (record { size = r.size; count = r.count; place = n; next = r.next }))
 
-unfoldable pub number_here : List ℕ → Reading → Number
-number_here d (At n) = of_digits n (digits_from 0 0 n (text d n))
-number_here d (Refused f) = number.Not f
+unfoldable pub number_here : List ℕ → Read ℕ → Read Figures
+number_here d (Ok n) = of_digits n (digits_from 0 0 n (text d n))
+number_here d (Err f) = Err f
 
-unfoldable pub number_on : List ℕ → Reading → Number
+unfoldable pub number_on : List ℕ → Read ℕ → Read Figures
 number_on d t = number_here d (gap_on d t)
 
-unfoldable pub past_number : Number → Reading
-past_number (number.Is r) = At r.next
-past_number (number.Not f) = Refused f
+unfoldable pub past_number : Read Figures → Read ℕ
+past_number (Ok r) = Ok r.next
+past_number (Err f) = Err f
 
 -- ---- values: the longest run of digits, points, `+` and `-`
 -- the byte b, if it stands at `at`
@@ -95,49 +89,49 @@ value_at d at =
       next = end;
     }
 
-unfoldable pub of_value : ℕ → Value → Amount
-of_value n v = cond (eqb v.next n) (amount.Not (fault 2 n)) (amount.Is v)
+unfoldable pub of_value : ℕ → Value → Read Value
+of_value n v = cond (eqb v.next n) (Err (fault 2 n)) (Ok v)
 
-unfoldable pub value_here : List ℕ → Reading → Amount
-value_here d (At n) = of_value n (value_at d n)
-value_here d (Refused f) = amount.Not f
+unfoldable pub value_here : List ℕ → Read ℕ → Read Value
+value_here d (Ok n) = of_value n (value_at d n)
+value_here d (Err f) = Err f
 
-unfoldable pub value_on : List ℕ → Reading → Amount
+unfoldable pub value_on : List ℕ → Read ℕ → Read Value
 value_on d t = value_here d (gap_on d t)
 
-unfoldable pub past_value : Amount → Reading
-past_value (amount.Is v) = At v.next
-past_value (amount.Not f) = Refused f
+unfoldable pub past_value : Read Value → Read ℕ
+past_value (Ok v) = Ok v.next
+past_value (Err f) = Err f
 
 -- ---- strings: the place is just after the opening quote at p, the length reaches to just before the closing one
-abbrev pub of_skip : ℕ → Skip → Phrase
-of_skip p (Past n) = phrase.Is (record { place = p + 1; length = n - (p + 1) - 1; next = n })
-of_skip p Unclosed = phrase.Not (fault 3 p)
-of_skip p (Bad q) = phrase.Not (fault 3 q)
+abbrev pub of_skip : ℕ → Skip → Read Quoted
+of_skip p (Past n) = Ok (record { place = p + 1; length = n - (p + 1) - 1; next = n })
+of_skip p Unclosed = Err (fault 3 p)
+of_skip p (Bad q) = Err (fault 3 q)
 
 -- from an opening quote at p to a closing one at m
-abbrev pub closed_at : ℕ → ℕ → Phrase
-closed_at p m = phrase.Is (record { place = p + 1; length = m - p - 1; next = m + 1 })
+abbrev pub closed_at : ℕ → ℕ → Read Quoted
+closed_at p m = Ok (record { place = p + 1; length = m - p - 1; next = m + 1 })
 
-unfoldable pub string_in : Text → Phrase
-string_in (stop p) = phrase.Not (fault 2 p)
-string_in (sign p b t) = cond (eqb b 34) (of_skip p (string_of Plain t)) (phrase.Not (fault 2 p))
+unfoldable pub string_in : Text → Read Quoted
+string_in (stop p) = Err (fault 2 p)
+string_in (sign p b t) = cond (eqb b 34) (of_skip p (string_of Plain t)) (Err (fault 2 p))
 
-abbrev pub phrase_on : Reading → (ℕ → Phrase) → Phrase
-phrase_on (At n) k = k n
-phrase_on (Refused f) k = phrase.Not f
+abbrev pub phrase_on : Read ℕ → (ℕ → Read Quoted) → Read Quoted
+phrase_on (Ok n) k = k n
+phrase_on (Err f) k = Err f
 
-unfoldable pub string_on : List ℕ → Reading → Phrase
+unfoldable pub string_on : List ℕ → Read ℕ → Read Quoted
 string_on d t = phrase_on (gap_on d t) λ n. string_in (text d n)
 
-unfoldable pub past_string : Phrase → Reading
-past_string (phrase.Is q) = At q.next
-past_string (phrase.Not f) = Refused f
+unfoldable pub past_string : Read Quoted → Read ℕ
+past_string (Ok q) = Ok q.next
+past_string (Err f) = Err f
 
 -- ---- one letter
-unfoldable pub letter_in : Text → Reading
-letter_in (stop p) = Refused (fault 2 p)
-letter_in (sign p b t) = cond (eqb (class_of b) 3) (At (p + 1)) (Refused (fault 2 p))
+unfoldable pub letter_in : Text → Read ℕ
+letter_in (stop p) = Err (fault 2 p)
+letter_in (sign p b t) = cond (eqb (class_of b) 3) (Ok (p + 1)) (Err (fault 2 p))
 
-unfoldable pub letter_on : List ℕ → Reading → Reading
+unfoldable pub letter_on : List ℕ → Read ℕ → Read ℕ
 letter_on d t = then (gap_on d t) λ n. letter_in (text d n)

@@ -25,18 +25,14 @@ pub struct Fault {
     pub place: usize,
 }
 
-// Where reading stands, or the refusal that ended it.
-#[derive(Clone, Copy)]
-pub enum Reading {
-    At(usize),
-    Refused(Fault),
-}
+// What a reader read, as where reading stands, or the refusal that ended it.
+pub type Read<T> = Result<T, Fault>;
 
 // What stands at a place of a gap: a space or a comment, and the place after it; or the gap is over.
 #[derive(Clone, Copy)]
 pub enum Pace {
     On(usize),
-    Over(Reading),
+    Over(Read<usize>),
 }
 
 fn step_gap(classes: &[u8; 256], d: &[u8], at: usize) -> Pace
@@ -49,18 +45,18 @@ fn step_gap(classes: &[u8; 256], d: &[u8], at: usize) -> Pace
                 return Pace::On(next);
             }
             if byte != 60 {
-                return Pace::Over(Reading::At(place));
+                return Pace::Over(Ok(place));
             }
             match marks::comment(classes, d, next, 1) {
                 Skip::Past(m) => Pace::On(m),
-                Skip::Unclosed => Pace::Over(Reading::Refused(Fault { number: 3, place })),
-                Skip::Bad(p) => Pace::Over(Reading::Refused(Fault {
+                Skip::Unclosed => Pace::Over(Err(Fault { number: 3, place })),
+                Skip::Bad(p) => Pace::Over(Err(Fault {
                     number: 3,
                     place: p,
                 })),
             }
         }
-        Step::End { place } => Pace::Over(Reading::At(place)),
+        Step::End { place } => Pace::Over(Ok(place)),
     }
 }
 
@@ -169,7 +165,7 @@ pub fn pass_blanks(d: &[u8], at: usize) -> usize
 
 // Whether a token stands just here.
 fn token_at(d: &[u8], n: usize) -> bool
-    ensures { result ≡ true → gap_at d.now n ≡ Reading.At n }
+    ensures { result ≡ true → gap_at d.now n ≡ Ok n }
 {
     if d.len() <= n {
         return false;
@@ -182,7 +178,7 @@ fn token_at(d: &[u8], n: usize) -> bool
 }
 
 // The spaces and comments from a place on: the place of the token behind them.
-pub fn skip_gap(classes: &[u8; 256], d: &[u8], at: usize) -> Reading
+pub fn skip_gap(classes: &[u8; 256], d: &[u8], at: usize) -> Read<usize>
     requires { Classes classes.now }
     ensures { result ≡ gap_at d.now at }
 {
@@ -190,7 +186,7 @@ pub fn skip_gap(classes: &[u8; 256], d: &[u8], at: usize) -> Reading
     loop {
         let place = pass_blanks(d, n);
         if token_at(d, place) {
-            return Reading::At(place);
+            return Ok(place);
         }
         match step_gap(classes, d, place) {
             Pace::On(m) => {
@@ -204,56 +200,56 @@ pub fn skip_gap(classes: &[u8; 256], d: &[u8], at: usize) -> Reading
 }
 
 // Most gaps have no comment: what has one is a call of its own.
-pub fn gap_on(classes: &[u8; 256], d: &[u8], t: Reading) -> Reading
+pub fn gap_on(classes: &[u8; 256], d: &[u8], t: Read<usize>) -> Read<usize>
     requires { Classes classes.now }
     ensures { result ≡ gap_on d.now t }
 {
     match t {
-        Reading::At(n) => {
+        Ok(n) => {
             let m = pass_blanks(d, n);
             if m < d.len() {
                 if d[m] != 60 {
-                    return Reading::At(m);
+                    return Ok(m);
                 }
             }
             skip_gap(classes, d, m)
         }
-        Reading::Refused(f) => Reading::Refused(f),
+        Err(f) => Err(f),
     }
 }
 
 // Spaces alone: before the end of the VERSION statement no comment stands.
-pub fn spaces_on(classes: &[u8; 256], d: &[u8], t: Reading) -> Reading
+pub fn spaces_on(classes: &[u8; 256], d: &[u8], t: Read<usize>) -> Read<usize>
     requires { Classes classes.now }
     ensures { result ≡ spaces_on d.now t }
 {
     match t {
-        Reading::At(n) => {
+        Ok(n) => {
             let m = scan::spaces(classes, d, n);
-            Reading::At(scan::place_at(classes, d, m))
+            Ok(scan::place_at(classes, d, m))
         }
-        Reading::Refused(f) => Reading::Refused(f),
+        Err(f) => Err(f),
     }
 }
 
 // A word that is due right here.
-pub fn word_here(classes: &[u8; 256], d: &[u8], t: Reading, w: &[u8]) -> Reading
+pub fn word_here(classes: &[u8; 256], d: &[u8], t: Read<usize>, w: &[u8]) -> Read<usize>
     requires { Classes classes.now }
     ensures { result ≡ word_here d.now t w.now }
 {
     match t {
-        Reading::At(n) => match scan::keyword(classes, d, n, w) {
-            Word::Matched(m) => Reading::At(m),
-            Word::Not => Reading::Refused(Fault {
+        Ok(n) => match scan::keyword(classes, d, n, w) {
+            Word::Matched(m) => Ok(m),
+            Word::Not => Err(Fault {
                 number: 2,
                 place: n,
             }),
         },
-        Reading::Refused(f) => Reading::Refused(f),
+        Err(f) => Err(f),
     }
 }
 
-pub fn word_on(classes: &[u8; 256], d: &[u8], t: Reading, w: &[u8]) -> Reading
+pub fn word_on(classes: &[u8; 256], d: &[u8], t: Read<usize>, w: &[u8]) -> Read<usize>
     requires { Classes classes.now }
     ensures { result ≡ word_on d.now t w.now }
 {
@@ -268,16 +264,16 @@ pub enum Choice {
     Left,
 }
 
-pub fn perhaps(classes: &[u8; 256], d: &[u8], t: Reading, w: &[u8]) -> Choice
+pub fn perhaps(classes: &[u8; 256], d: &[u8], t: Read<usize>, w: &[u8]) -> Choice
     requires { Classes classes.now }
     ensures { result ≡ choice_of d.now t w.now }
 {
     match t {
-        Reading::At(n) => match scan::keyword(classes, d, n, w) {
+        Ok(n) => match scan::keyword(classes, d, n, w) {
             Word::Matched(m) => Choice::Taken(m),
             Word::Not => Choice::Left,
         },
-        Reading::Refused(_) => Choice::Left,
+        Err(_) => Choice::Left,
     }
 }
 
@@ -363,25 +359,19 @@ pub struct Figures {
     pub next: usize,
 }
 
-#[derive(Clone, Copy)]
-pub enum Number {
-    Is(Figures),
-    Not(Fault),
-}
-
 // The same as number_here, whatever stands behind the digits.
-fn number_apart(classes: &[u8; 256], d: &[u8], n: usize) -> Number
+fn number_apart(classes: &[u8; 256], d: &[u8], n: usize) -> Read<Figures>
     requires { Classes classes.now }
-    ensures { result ≡ number_here d.now (Reading.At n) }
+    ensures { result ≡ number_here d.now (Ok n) }
 {
     let r = scan::read_digits(classes, d, n, 0);
     if r.count == 0 {
-        return Number::Not(Fault {
+        return Err(Fault {
             number: 2,
             place: n,
         });
     }
-    Number::Is(Figures {
+    Ok(Figures {
         size: r.size,
         count: r.count,
         place: n,
@@ -389,16 +379,16 @@ fn number_apart(classes: &[u8; 256], d: &[u8], n: usize) -> Number
     })
 }
 
-pub fn number_here(classes: &[u8; 256], d: &[u8], t: Reading) -> Number
+pub fn number_here(classes: &[u8; 256], d: &[u8], t: Read<usize>) -> Read<Figures>
     requires { Classes classes.now }
     ensures { result ≡ number_here d.now t }
 {
     match t {
-        Reading::At(n) => {
+        Ok(n) => {
             let q = lead_at(d, n);
             if n < q.end {
                 if over_soon(d, q.end) {
-                    return Number::Is(Figures {
+                    return Ok(Figures {
                         size: q.size,
                         count: q.end - n,
                         place: n,
@@ -408,11 +398,11 @@ pub fn number_here(classes: &[u8; 256], d: &[u8], t: Reading) -> Number
             }
             number_apart(classes, d, n)
         }
-        Reading::Refused(f) => Number::Not(f),
+        Err(f) => Err(f),
     }
 }
 
-pub fn number_on(classes: &[u8; 256], d: &[u8], t: Reading) -> Number
+pub fn number_on(classes: &[u8; 256], d: &[u8], t: Read<usize>) -> Read<Figures>
     requires { Classes classes.now }
     ensures { result ≡ number_on d.now t }
 {
@@ -420,12 +410,12 @@ pub fn number_on(classes: &[u8; 256], d: &[u8], t: Reading) -> Number
     number_here(classes, d, g)
 }
 
-pub fn past_number(n: Number) -> Reading
+pub fn past_number(n: Read<Figures>) -> Read<usize>
     ensures { result ≡ past_number n }
 {
     match n {
-        Number::Is(f) => Reading::At(f.next),
-        Number::Not(f) => Reading::Refused(f),
+        Ok(f) => Ok(f.next),
+        Err(f) => Err(f),
     }
 }
 
@@ -478,12 +468,6 @@ pub struct Value {
     pub next: usize,
 }
 
-#[derive(Clone, Copy)]
-pub enum Amount {
-    Is(Value),
-    Not(Fault),
-}
-
 pub fn read_value(classes: &[u8; 256], d: &[u8], at: usize) -> Value
     requires { Classes classes.now }
     ensures { result ≡ value_at d.now at }
@@ -508,30 +492,30 @@ pub fn read_value(classes: &[u8; 256], d: &[u8], at: usize) -> Value
 }
 
 // The same as value_here, for a value of any form. The second value of a range is read by it too, for the reason that string_apart has.
-fn value_apart(classes: &[u8; 256], d: &[u8], n: usize) -> Amount
+fn value_apart(classes: &[u8; 256], d: &[u8], n: usize) -> Read<Value>
     requires { Classes classes.now }
-    ensures { result ≡ value_here d.now (Reading.At n) }
+    ensures { result ≡ value_here d.now (Ok n) }
 {
     let v = read_value(classes, d, n);
     if v.next == n {
-        return Amount::Not(Fault {
+        return Err(Fault {
             number: 2,
             place: n,
         });
     }
-    Amount::Is(v)
+    Ok(v)
 }
 
-pub fn value_here(classes: &[u8; 256], d: &[u8], t: Reading) -> Amount
+pub fn value_here(classes: &[u8; 256], d: &[u8], t: Read<usize>) -> Read<Value>
     requires { Classes classes.now }
     ensures { result ≡ value_here d.now t }
 {
     match t {
-        Reading::At(n) => {
+        Ok(n) => {
             let q = lead_at(d, n);
             if n < q.end {
                 if over_here(d, q.end) {
-                    return Amount::Is(Value {
+                    return Ok(Value {
                         minus: false,
                         size: q.size,
                         whole: q.end - n,
@@ -547,26 +531,26 @@ pub fn value_here(classes: &[u8; 256], d: &[u8], t: Reading) -> Amount
             }
             value_apart(classes, d, n)
         }
-        Reading::Refused(f) => Amount::Not(f),
+        Err(f) => Err(f),
     }
 }
 
-pub fn value_on(classes: &[u8; 256], d: &[u8], t: Reading) -> Amount
+pub fn value_on(classes: &[u8; 256], d: &[u8], t: Read<usize>) -> Read<Value>
     requires { Classes classes.now }
     ensures { result ≡ value_on d.now t }
 {
     match gap_on(classes, d, t) {
-        Reading::At(n) => value_apart(classes, d, n),
-        Reading::Refused(f) => Amount::Not(f),
+        Ok(n) => value_apart(classes, d, n),
+        Err(f) => Err(f),
     }
 }
 
-pub fn past_value(v: Amount) -> Reading
+pub fn past_value(v: Read<Value>) -> Read<usize>
     ensures { result ≡ past_value v }
 {
     match v {
-        Amount::Is(f) => Reading::At(f.next),
-        Amount::Not(f) => Reading::Refused(f),
+        Ok(f) => Ok(f.next),
+        Err(f) => Err(f),
     }
 }
 
@@ -579,35 +563,29 @@ pub struct Quoted {
     pub next: usize,
 }
 
-#[derive(Clone, Copy)]
-pub enum Phrase {
-    Is(Quoted),
-    Not(Fault),
-}
-
-pub fn string_at(classes: &[u8; 256], d: &[u8], at: usize) -> Phrase
+pub fn string_at(classes: &[u8; 256], d: &[u8], at: usize) -> Read<Quoted>
     requires { Classes classes.now }
     ensures { result ≡ string_in (text d.now at) }
 {
     match scan::next_byte(classes, d, at) {
         Step::Byte { byte, place, next } => {
             if byte != 34 {
-                return Phrase::Not(Fault { number: 2, place });
+                return Err(Fault { number: 2, place });
             }
             match marks::string(classes, d, next) {
-                Skip::Past(m) => Phrase::Is(Quoted {
+                Skip::Past(m) => Ok(Quoted {
                     place: next,
                     length: m - next - 1,
                     next: m,
                 }),
-                Skip::Unclosed => Phrase::Not(Fault { number: 3, place }),
-                Skip::Bad(p) => Phrase::Not(Fault {
+                Skip::Unclosed => Err(Fault { number: 3, place }),
+                Skip::Bad(p) => Err(Fault {
                     number: 3,
                     place: p,
                 }),
             }
         }
-        Step::End { place } => Phrase::Not(Fault { number: 2, place }),
+        Step::End { place } => Err(Fault { number: 2, place }),
     }
 }
 
@@ -633,26 +611,26 @@ fn closing(d: &[u8], n: usize) -> usize
 
 // The same as string_on, whatever the gap and the string hold. Notes are read by it too: with one caller alone the compiler would lay it
 // into string_on, which would be too large then to be laid into the readers of lines and texts.
-pub fn string_apart(classes: &[u8; 256], d: &[u8], n: usize) -> Phrase
+pub fn string_apart(classes: &[u8; 256], d: &[u8], n: usize) -> Read<Quoted>
     requires { Classes classes.now }
-    ensures { result ≡ string_on d.now (Reading.At n) }
+    ensures { result ≡ string_on d.now (Ok n) }
 {
-    match gap_on(classes, d, Reading::At(n)) {
-        Reading::At(m) => string_at(classes, d, m),
-        Reading::Refused(f) => Phrase::Not(f),
+    match gap_on(classes, d, Ok(n)) {
+        Ok(m) => string_at(classes, d, m),
+        Err(f) => Err(f),
     }
 }
 
-pub fn string_on(classes: &[u8; 256], d: &[u8], t: Reading) -> Phrase
+pub fn string_on(classes: &[u8; 256], d: &[u8], t: Read<usize>) -> Read<Quoted>
     requires { Classes classes.now }
     ensures { result ≡ string_on d.now t }
 {
     match t {
-        Reading::At(n) => {
+        Ok(n) => {
             let q = pass_blanks(d, n);
             let m = closing(d, q);
             if m < d.len() {
-                return Phrase::Is(Quoted {
+                return Ok(Quoted {
                     place: q + 1,
                     length: m - q - 1,
                     next: m + 1,
@@ -660,41 +638,41 @@ pub fn string_on(classes: &[u8; 256], d: &[u8], t: Reading) -> Phrase
             }
             string_apart(classes, d, q)
         }
-        Reading::Refused(f) => Phrase::Not(f),
+        Err(f) => Err(f),
     }
 }
 
-pub fn past_string(s: Phrase) -> Reading
+pub fn past_string(s: Read<Quoted>) -> Read<usize>
     ensures { result ≡ past_string s }
 {
     match s {
-        Phrase::Is(q) => Reading::At(q.next),
-        Phrase::Not(f) => Reading::Refused(f),
+        Ok(q) => Ok(q.next),
+        Err(f) => Err(f),
     }
 }
 
 // One letter.
-pub fn letter_at(classes: &[u8; 256], d: &[u8], at: usize) -> Reading
+pub fn letter_at(classes: &[u8; 256], d: &[u8], at: usize) -> Read<usize>
     requires { Classes classes.now }
     ensures { result ≡ letter_in (text d.now at) }
 {
     match scan::next_byte(classes, d, at) {
         Step::Byte { byte, place, next } => {
             if ascii::class_of(classes, byte) == ascii::LETTER {
-                return Reading::At(next);
+                return Ok(next);
             }
-            Reading::Refused(Fault { number: 2, place })
+            Err(Fault { number: 2, place })
         }
-        Step::End { place } => Reading::Refused(Fault { number: 2, place }),
+        Step::End { place } => Err(Fault { number: 2, place }),
     }
 }
 
-pub fn letter_on(classes: &[u8; 256], d: &[u8], t: Reading) -> Reading
+pub fn letter_on(classes: &[u8; 256], d: &[u8], t: Read<usize>) -> Read<usize>
     requires { Classes classes.now }
     ensures { result ≡ letter_on d.now t }
 {
     match gap_on(classes, d, t) {
-        Reading::At(n) => letter_at(classes, d, n),
-        Reading::Refused(f) => Reading::Refused(f),
+        Ok(n) => letter_at(classes, d, n),
+        Err(f) => Err(f),
     }
 }

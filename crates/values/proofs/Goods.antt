@@ -1,4 +1,5 @@
 -- VALUES that were read are good: the limits of their type, their range and their lines, as specs/Good says it.
+use Rattle.std.specs.Prelude.{Ok, Err}
 use mathlib.Core.Path.{◌≡◌, refl, ◌∙◌, sym, ap}
 use mathlib.Core.Logic.{◌⊎◌, inl, inr, ⊎_elim}
 use mathlib.Core.Bool.{Bool, true, false, cond, not, ◌&&◌}
@@ -20,15 +21,11 @@ use Rattle.scan.specs.Order.{value_of}
 use Rattle.scan.specs.rule.Loop.{Next, Again, Done, on_next, loop_of}
 use Rattle.scan.proofs.Texts.{From, at_stop, at_sign, from_text}
 use Rattle.tokens.specs.declared.Fault.{Fault}
-use Rattle.tokens.specs.declared.Reading.{Reading}
-use Rattle.tokens.specs.declared.Reading.TheVariants.{At, Refused}
 use Rattle.tokens.specs.declared.Choice.{Choice}
 use Rattle.tokens.specs.declared.Choice.TheVariants.{Taken, Left}
 use Rattle.tokens.specs.declared.Mark.{Mark}
 use Rattle.tokens.specs.declared.Value.{Value}
-use Rattle.tokens.specs.declared.Amount.{Amount}
-use Rattle.tokens.specs.declared.Amount.TheVariants as amount
-use Rattle.tokens.specs.rule.Gap.{fault}
+use Rattle.tokens.specs.rule.Gap.{fault, Read}
 use Rattle.tokens.specs.Gap.{gap_on}
 use Rattle.tokens.specs.Token.{choice_of, word_here, word_on, mark_of, value_at, of_value, value_here, value_on, past_value}
 use Rattle.tokens.proofs.Values.{value_true}
@@ -36,14 +33,8 @@ use Rattle.statements.specs.rule.Words.{VALUES, TO, END, WITH}
 use Rattle.statements.specs.Note.{notes_on, statement_on}
 use Rattle.values.specs.declared.Block.{Block}
 use Rattle.values.specs.declared.Said.{Said}
-use Rattle.values.specs.declared.Lined.{Lined}
-use Rattle.values.specs.declared.Lined.TheVariants as lined
-use Rattle.values.specs.declared.Judged.{Judged}
-use Rattle.values.specs.declared.Judged.TheVariants as judged
 use Rattle.values.specs.declared.Ranged.{Ranged}
 use Rattle.values.specs.declared.Ranged.TheVariants as ranged
-use Rattle.values.specs.declared.Verdict.{Verdict}
-use Rattle.values.specs.declared.Verdict.TheVariants.{Good, Bad}
 use Rattle.values.specs.Value.{form_of, large_of, true_of, scaled_of, point_of, points_of}
 use Rattle.values.specs.Range.{limit_range, reversed_of, judge_range, settled, ranged_of, with_or, range_rest}
 use Rattle.values.specs.Line.{Given, Is, Not, line_rest, number_on, number_at, repeated_in, judge_line, grown_point, grown_by}
@@ -100,11 +91,11 @@ value_pointed d at =
     let k = run_of is_digit m (text d m) in
     ⊎_elim (λ e. inl (ap (λ (n : ℕ). 0 + n) e)) inr (mark_pointed d k (text d k) (run_stops d (from_text d m) refl))
 
-pub value_genuine : (d : List ℕ) (t : Reading) (v : Value) → value_here d t ≡ amount.Is v → Genuine (size_in d v) v
+pub value_genuine : (d : List ℕ) (t : Read ℕ) (v : Value) → value_here d t ≡ Ok v → Genuine (size_in d v) v
 unfolding value_here of_value
-value_genuine d (Refused f) v e = let z : ◌≡◌ {A = ℕ} 0 1 = cc in absurd (omega arith)
-value_genuine d (At n) v e = by (eqb (value_at d n).next n) e where
-  by : (x : Bool) → cond x (amount.Not (fault 2 n)) (amount.Is (value_at d n)) ≡ amount.Is v → Genuine (size_in d v) v
+value_genuine d (Err f) v e = let z : ◌≡◌ {A = ℕ} 0 1 = cc in absurd (omega arith)
+value_genuine d (Ok n) v e = by (eqb (value_at d n).next n) e where
+  by : (x : Bool) → cond x (Err (fault 2 n)) (Ok (value_at d n)) ≡ Ok v → Genuine (size_in d v) v
   by true e = let z : ◌≡◌ {A = ℕ} 0 1 = cc in absurd (omega arith)
   by false e = let j : value_at d n ≡ v = cc in rw (← j)
       (record { pointed = value_pointed d n; sized = value_true d n; some = value_some d n; near = value_near d n })
@@ -214,16 +205,16 @@ module _ (quantity : Bool) (below : Bool) (x y : Value) (n m' : ℕ) (gx : Genui
   }
 
   -- a range that stands is a good block, whatever road its values came by
-  pub judged_good : {b : Block} → judge_range below quantity x y ≡ judged.Good b → GoodBlock quantity b × (b.ranged ≡ true)
+  pub judged_good : {b : Block} → judge_range below quantity x y ≡ Ok b → GoodBlock quantity b × (b.ranged ≡ true)
       × (b.known ≡ true)
   unfolding judge_range limit_range
   judged_good {b} = by (form_of quantity x) (form_of quantity y) (eqb x.decimals y.decimals) below (large_of quantity x)
       (large_of quantity y) refl refl refl refl refl refl where
         by : (f g q r l m : Bool) → form_of quantity x ≡ f → form_of quantity y ≡ g → eqb x.decimals y.decimals ≡ q → below ≡ r
             → large_of quantity x ≡ l → large_of quantity y ≡ m
-            → cond f (cond g (cond q (cond r (judged.Bad (fault 6 y.place))
-            (cond l (judged.Bad (fault 8 x.place)) (cond m (judged.Bad (fault 8 y.place)) (judged.Good (range_block x y)))))
-            (judged.Bad (fault 6 y.place))) (judged.Bad (fault 6 y.place))) (judged.Bad (fault 6 x.place)) ≡ judged.Good b
+            → cond f (cond g (cond q (cond r (Err (fault 6 y.place))
+            (cond l (Err (fault 8 x.place)) (cond m (Err (fault 8 y.place)) (Ok (range_block x y)))))
+            (Err (fault 6 y.place))) (Err (fault 6 y.place))) (Err (fault 6 x.place)) ≡ Ok b
             → GoodBlock quantity b × (b.ranged ≡ true) × (b.known ≡ true)
         by false g q r l m ef eg eq er el em e = let z : ◌≡◌ {A = ℕ} 0 1 = cc in absurd (omega arith)
         by true false q r l m ef eg eq er el em e = let z : ◌≡◌ {A = ℕ} 0 1 = cc in absurd (omega arith)
@@ -240,28 +231,28 @@ module _ (d : List ℕ) (quantity : Bool) where
   unfoldable pub Made : Block → Type 0
   Made b = GoodBlock quantity b × (b.ranged ≡ true) × (b.known ≡ true)
 
-  ranged_good : (a c : Amount) (end : Reading) (w : Bool) {b : Block} {with : Bool} {n : ℕ}
-      → ((v : Value) → a ≡ amount.Is v → Genuine (size_in d v) v) → ((v : Value) → c ≡ amount.Is v → Genuine (size_in d v) v)
+  ranged_good : (a c : Read Value) (end : Read ℕ) (w : Bool) {b : Block} {with : Bool} {n : ℕ}
+      → ((v : Value) → a ≡ Ok v → Genuine (size_in d v) v) → ((v : Value) → c ≡ Ok v → Genuine (size_in d v) v)
       → ranged_of d quantity a c end w ≡ ranged.Is b with n → Made b
   unfolding ranged_of Made true_of
-  ranged_good (amount.Not f) c end w ga gc e = let z : ◌≡◌ {A = ℕ} 0 1 = cc in absurd (omega arith)
-  ranged_good (amount.Is x) (amount.Not f) end w ga gc e = let z : ◌≡◌ {A = ℕ} 0 1 = cc in absurd (omega arith)
-  ranged_good (amount.Is x) (amount.Is y) (Refused f) w ga gc e = let z : ◌≡◌ {A = ℕ} 0 1 = cc in absurd (omega arith)
-  ranged_good (amount.Is x) (amount.Is y) (At m) w {b} {with} {n} ga gc e = by (judge_range (reversed_of d x y) quantity x y) refl e where
-    by : (j : Judged) → judge_range (reversed_of d x y) quantity x y ≡ j → settled j w m ≡ ranged.Is b with n → Made b
-    by (judged.Good k) i e = let q : k ≡ b = cc in
+  ranged_good (Err f) c end w ga gc e = let z : ◌≡◌ {A = ℕ} 0 1 = cc in absurd (omega arith)
+  ranged_good (Ok x) (Err f) end w ga gc e = let z : ◌≡◌ {A = ℕ} 0 1 = cc in absurd (omega arith)
+  ranged_good (Ok x) (Ok y) (Err f) w ga gc e = let z : ◌≡◌ {A = ℕ} 0 1 = cc in absurd (omega arith)
+  ranged_good (Ok x) (Ok y) (Ok m) w {b} {with} {n} ga gc e = by (judge_range (reversed_of d x y) quantity x y) refl e where
+    by : (j : Read Block) → judge_range (reversed_of d x y) quantity x y ≡ j → settled j w m ≡ ranged.Is b with n → Made b
+    by (Ok k) i e = let q : k ≡ b = cc in
         judged_good quantity (reversed_of d x y) x y (size_in d x) (size_in d y) (ga x refl) (gc y refl) refl (rw q at i)
-    by (judged.Bad f) i e = let z : ◌≡◌ {A = ℕ} 0 1 = cc in absurd (omega arith)
+    by (Err f) i e = let z : ◌≡◌ {A = ℕ} 0 1 = cc in absurd (omega arith)
 
-  pub rest_good : (a : Amount) (t : Reading) {b : Block} {with : Bool} {n : ℕ} → ((v : Value) → a ≡ amount.Is v → Genuine (size_in d v) v)
+  pub rest_good : (a : Read Value) (t : Read ℕ) {b : Block} {with : Bool} {n : ℕ} → ((v : Value) → a ≡ Ok v → Genuine (size_in d v) v)
       → range_rest d quantity a t ≡ ranged.Is b with n → Made b
   unfolding range_rest value_on
   rest_good a t {b} {with} {n} ga = by (choice_of d (gap_on d (past_value c)) WITH) where
-    c : Amount
+    c : Read Value
     c = value_here d (gap_on d t)
 
     by : (k : Choice) → with_or d quantity a c (gap_on d (past_value c)) k ≡ ranged.Is b with n → Made b
-    by (Taken m) e = ranged_good a c (At m) true ga (value_genuine d (gap_on d t)) e
+    by (Taken m) e = ranged_good a c (Ok m) true ga (value_genuine d (gap_on d t)) e
     by Left e = ranged_good a c (gap_on d (past_value c)) false ga (value_genuine d (gap_on d t)) e
 
 -- ---- lines
@@ -375,7 +366,7 @@ module _ (d : List ℕ) (quantity : Bool) (first : ℕ) (h : length d ≤ 104857
     near : (i : ℕ) → i < length l → Near b (number_at l i)
 
   record Sofar (l : Listing) : Type 0 where
-    value : (v : Value) → l.amount ≡ amount.Is v → Genuine (size_in d v) v
+    value : (v : Value) → l.amount ≡ Ok v → Genuine (size_in d v) v
     block : GoodBlock quantity l.block
     lines : GoodLines quantity first l.lines
     known : Known l.block l.lines
@@ -409,21 +400,21 @@ module _ (d : List ℕ) (quantity : Bool) (first : ℕ) (h : length d ≤ 104857
   more_keeps : (b : Block) (l : List Said) (n : ℕ) → GoodBlock quantity b → GoodLines quantity first l → Known b l → 1 ≤ length l
       → Keeps (after l (more_of d b n))
   unfolding more_of end_of
-  more_keeps b l n gb gl kn some = by (choice_of d (notes_on d (At n)) END) where
-    ends : (r : Reading) → Keeps (after l (end_of b r))
-    ends (At m) = over (is_given b l m (record { block = gb; lines = gl; near = kn.near; something = inr some }))
-    ends (Refused f) = over (not_given f)
+  more_keeps b l n gb gl kn some = by (choice_of d (notes_on d (Ok n)) END) where
+    ends : (r : Read ℕ) → Keeps (after l (end_of b r))
+    ends (Ok m) = over (is_given b l m (record { block = gb; lines = gl; near = kn.near; something = inr some }))
+    ends (Err f) = over (not_given f)
 
-    by : (k : Choice) → Keeps (after l (end_or d b (notes_on d (At n)) k))
-    by (Taken m) = ends (word_on d (At m) VALUES)
-    by Left = on (record { value = value_genuine d (notes_on d (At n)); block = gb; lines = gl; known = kn })
+    by : (k : Choice) → Keeps (after l (end_or d b (notes_on d (Ok n)) k))
+    by (Taken m) = ends (word_on d (Ok m) VALUES)
+    by Left = on (record { value = value_genuine d (notes_on d (Ok n)); block = gb; lines = gl; known = kn })
 
   step_keeps : (l : Listing) → Sofar l → Keeps (line_step d quantity first l)
   unfolding line_step
   step_keeps l k = by (line_rest d l.amount) refl where
-    judge : (s : Said) (v : Verdict) → line_rest d l.amount ≡ lined.Is s
+    judge : (s : Said) (v : Read ℤ) → line_rest d l.amount ≡ Ok s
         → judge_line (number_at l.lines) (length l.lines) first quantity l.block s.value ≡ v → Keeps (judged_step d l s v)
-    judge s (Good z) j i =
+    judge s (Ok z) j i =
         let t = good_line (number_at l.lines) (length l.lines) first quantity l.block s.value i in
         let g = k.value s.value (line_value_lem d l.amount s j) in
         let w = sound_value quantity l.block s.value t.sound in
@@ -434,11 +425,11 @@ module _ (d : List ℕ) (quantity : Bool) (first : ℕ) (h : length d ≤ 104857
         (line_good d l.amount s h j))
         (known_more l.block l.lines s k.known w.2 f)
         (omega (arith, count_more l.lines s))
-    judge s (Bad f) j i = over (not_given f)
+    judge s (Err f) j i = over (not_given f)
 
-    by : (r : Lined) → line_rest d l.amount ≡ r → Keeps (read_step d quantity first l r)
-    by (lined.Is s) j = judge s (judge_line (number_at l.lines) (length l.lines) first quantity l.block s.value) j refl
-    by (lined.Not f) j = over (not_given f)
+    by : (r : Read Said) → line_rest d l.amount ≡ r → Keeps (read_step d quantity first l r)
+    by (Ok s) j = judge s (judge_line (number_at l.lines) (length l.lines) first quantity l.block s.value) j refl
+    by (Err f) j = over (not_given f)
 
   loops : (f : ℕ) (l : Listing) → Sofar l → GoodGiven (loop_of (line_step d quantity first) (Not (fault 0 0)) f l)
   unfolding loop_of
@@ -452,7 +443,7 @@ module _ (d : List ℕ) (quantity : Bool) (first : ℕ) (h : length d ≤ 104857
   no_lines : first ≤ 4096 → GoodLines quantity first []
   no_lines r = record { few = omega arith; limited = λ i e. absurd (omega arith); differ = λ i j a e. absurd (omega arith); each = none }
 
-  lines_given : (a : Amount) (b : Block) → first ≤ 4096 → ((v : Value) → a ≡ amount.Is v → Genuine (size_in d v) v) → GoodBlock quantity b
+  lines_given : (a : Read Value) (b : Block) → first ≤ 4096 → ((v : Value) → a ≡ Ok v → Genuine (size_in d v) v) → GoodBlock quantity b
       → (b.ranged ≡ true → b.known ≡ true) → GoodGiven (lines_from d quantity first (state_of a b []))
   unfolding lines_from
   lines_given a b r ga gb kn =
@@ -469,37 +460,37 @@ module _ (d : List ℕ) (quantity : Bool) (first : ℕ) (h : length d ≤ 104857
   unfolding range_then closed_by Made
   range_given r (ranged.Not f) m = not_given f
   range_given r (ranged.Is b with n) m = by with (m b with n refl) where
-    close : (e : Reading) → GoodBlock quantity b × (b.ranged ≡ true) × (b.known ≡ true) → GoodGiven (closed_by b e)
-    close (At k) g = is_given b [] k (record {
+    close : (e : Read ℕ) → GoodBlock quantity b × (b.ranged ≡ true) × (b.known ≡ true) → GoodGiven (closed_by b e)
+    close (Ok k) g = is_given b [] k (record {
       block = g.0;
       lines = no_lines r;
       near = λ i e. absurd (omega arith);
       something = inl g.1;
     })
-    close (Refused f) g = not_given f
+    close (Err f) g = not_given f
 
     by : (w : Bool) → GoodBlock quantity b × (b.ranged ≡ true) × (b.known ≡ true)
-        → GoodGiven (cond w (lines_from d quantity first (state_of (value_here d (notes_on d (At n))) b []))
-        (closed_by b (word_on d (word_here d (notes_on d (At n)) END) VALUES)))
-    by true g = lines_given (value_here d (notes_on d (At n))) b r (value_genuine d (notes_on d (At n))) g.0 (λ q. g.2)
-    by false g = close (word_on d (word_here d (notes_on d (At n)) END) VALUES) g
+        → GoodGiven (cond w (lines_from d quantity first (state_of (value_here d (notes_on d (Ok n))) b []))
+        (closed_by b (word_on d (word_here d (notes_on d (Ok n)) END) VALUES)))
+    by true g = lines_given (value_here d (notes_on d (Ok n))) b r (value_genuine d (notes_on d (Ok n))) g.0 (λ q. g.2)
+    by false g = close (word_on d (word_here d (notes_on d (Ok n)) END) VALUES) g
 
-  all_given : first ≤ 4096 → (t : Reading) → GoodGiven (values_on d quantity first t)
+  all_given : first ≤ 4096 → (t : Read ℕ) → GoodGiven (values_on d quantity first t)
   unfolding values_on
   all_given r t = by (choice_of d (gap_on d (past_value a)) TO) where
-    n : Reading
+    n : Read ℕ
     n = notes_on d (statement_on d t VALUES)
 
-    a : Amount
+    a : Read Value
     a = value_here d n
 
     by : (k : Choice) → GoodGiven (to_or d quantity first a k)
-    by (Taken m) = range_given r (range_rest d quantity a (At m))
-        (λ b with n e. rest_good d quantity a (At m) (value_genuine d (notes_on d (statement_on d t VALUES))) e)
+    by (Taken m) = range_given r (range_rest d quantity a (Ok m))
+        (λ b with n e. rest_good d quantity a (Ok m) (value_genuine d (notes_on d (statement_on d t VALUES))) e)
     by Left = lines_given a empty_block r (value_genuine d n) (none_good quantity) (λ q. holds_not q refl)
 
 -- VALUES that were read are good
-pub values_good_lem : (d : List ℕ) (quantity : Bool) (first : ℕ) (t : Reading) {b : Block} {l : List Said} {n : ℕ} → length d ≤ 1048576
+pub values_good_lem : (d : List ℕ) (quantity : Bool) (first : ℕ) (t : Read ℕ) {b : Block} {l : List Said} {n : ℕ} → length d ≤ 1048576
     → first
     ≤ 4096 → values_on d quantity first t ≡ Is b l n → GoodValues quantity first b l
 values_good_lem d quantity first t h r e = (all_given d quantity first h r t).of e

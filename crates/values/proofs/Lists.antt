@@ -1,5 +1,6 @@
 -- Lines one after the other: what is stored fits; and what the code does with one line in the room is what the definition does with
 -- the list of lines.
+use Rattle.std.specs.Prelude.{Ok, Err}
 use mathlib.Core.Path.{◌≡◌, refl, ◌∙◌, sym, ap}
 use mathlib.Core.Bool.{Bool, true, false, cond}
 use mathlib.Core.List.{List, [], ◌∷◌, ◌++◌}
@@ -14,17 +15,11 @@ use Rattle.cells.specs.Cell.{paste_more, paste_none}
 use Rattle.scan.specs.rule.Loop.{Again, Done}
 use Rattle.scan.proofs.Loops.{loop_again, loop_done}
 use Rattle.tokens.specs.declared.Fault.{Fault}
-use Rattle.tokens.specs.declared.Reading.{Reading}
-use Rattle.tokens.specs.declared.Reading.TheVariants.{At, Refused}
 use Rattle.tokens.specs.declared.Choice.{Choice}
 use Rattle.tokens.specs.declared.Choice.TheVariants.{Taken, Left}
 use Rattle.tokens.specs.declared.Value.{Value}
 use Rattle.tokens.specs.declared.Quoted.{Quoted}
-use Rattle.tokens.specs.declared.Amount.{Amount}
-use Rattle.tokens.specs.declared.Amount.TheVariants as amount
-use Rattle.tokens.specs.declared.Phrase.{Phrase}
-use Rattle.tokens.specs.declared.Phrase.TheVariants as phrase
-use Rattle.tokens.specs.rule.Gap.{fault}
+use Rattle.tokens.specs.rule.Gap.{fault, Read}
 use Rattle.tokens.specs.Gap.{gap_on}
 use Rattle.tokens.specs.Token.{choice_of, past_value, string_on, past_string}
 use Rattle.tokens.proofs.Aheads.{quoted_within}
@@ -32,10 +27,6 @@ use Rattle.statements.specs.rule.Words.{SPECIAL}
 use Rattle.values.specs.Value.{scaled_of}
 use Rattle.values.specs.declared.Block.{Block}
 use Rattle.values.specs.declared.Said.{Said}
-use Rattle.values.specs.declared.Lined.{Lined}
-use Rattle.values.specs.declared.Lined.TheVariants as lined
-use Rattle.values.specs.declared.Verdict.{Verdict}
-use Rattle.values.specs.declared.Verdict.TheVariants.{Good, Bad}
 use Rattle.values.specs.declared.Turn.{Turn}
 use Rattle.values.specs.declared.Turn.TheVariants as turn
 use Rattle.values.specs.declared.Listed.TheVariants as listed
@@ -58,14 +49,14 @@ pub record Stands (f : ℕ → ℤ) (n first : ℕ) (quantity : Bool) (b : Block
   pub fresh : repeated_in f n (scaled_of v) ≡ false
   pub few : first + n < 4096
 
-pub good_line : (f : ℕ → ℤ) (n first : ℕ) (quantity : Bool) (b : Block) (v : Value) {z : ℤ} → judge_line f n first quantity b v ≡ Good z
+pub good_line : (f : ℕ → ℤ) (n first : ℕ) (quantity : Bool) (b : Block) (v : Value) {z : ℤ} → judge_line f n first quantity b v ≡ Ok z
     → Stands f n first quantity b v z
 unfolding judge_line
 good_line f n first quantity b v {z} = by (eqb (line_fault quantity b v) 0) (repeated_in f n (scaled_of v)) (leb 4096 (first + n)) refl refl
     refl where
       by : (x y w : Bool) → eqb (line_fault quantity b v) 0 ≡ x → repeated_in f n (scaled_of v) ≡ y → leb 4096 (first + n) ≡ w
-          → cond x (cond y (Bad (fault 6 v.place)) (cond w (Bad (fault 8 v.place)) (Good (scaled_of v))))
-          (Bad (fault (line_fault quantity b v) v.place)) ≡ Good z → Stands f n first quantity b v z
+          → cond x (cond y (Err (fault 6 v.place)) (cond w (Err (fault 8 v.place)) (Ok (scaled_of v))))
+          (Err (fault (line_fault quantity b v) v.place)) ≡ Ok z → Stands f n first quantity b v z
       by false y w h k g e = let z : ◌≡◌ {A = ℕ} 0 1 = cc in absurd (omega arith)
       by true true w h k g e = let z : ◌≡◌ {A = ℕ} 0 1 = cc in absurd (omega arith)
       by true false true h k g e = let z : ◌≡◌ {A = ℕ} 0 1 = cc in absurd (omega arith)
@@ -87,40 +78,40 @@ judge_alike f g n first quantity b v h = rw (repeated_alike f g n (scaled_of v) 
 abbrev said : Value → Quoted → ℕ → ℕ → Said
 said v q n m = record { value = v; text = q; special = n; next = m }
 
-said_parts : (a : Amount) (q : Phrase) (n : ℕ) (end : Reading) (s : Said) → said_of a q n end ≡ lined.Is s → (a ≡ amount.Is s.value)
-    × (q ≡ phrase.Is s.text) × (s.special ≡ n)
+said_parts : (a : Read Value) (q : Read Quoted) (n : ℕ) (end : Read ℕ) (s : Said) → said_of a q n end ≡ Ok s → (a ≡ Ok s.value)
+    × (q ≡ Ok s.text) × (s.special ≡ n)
 unfolding said_of
-said_parts (amount.Not f) q n end s e = let z : ◌≡◌ {A = ℕ} 0 1 = cc in absurd (omega arith)
-said_parts (amount.Is v) (phrase.Not f) n end s e = let z : ◌≡◌ {A = ℕ} 0 1 = cc in absurd (omega arith)
-said_parts (amount.Is v) (phrase.Is q) n (Refused f) s e = let z : ◌≡◌ {A = ℕ} 0 1 = cc in absurd (omega arith)
-said_parts (amount.Is v) (phrase.Is q) n (At m) s e = let j : said v q n m ≡ s = cc in rw (← j) (refl, refl, refl)
+said_parts (Err f) q n end s e = let z : ◌≡◌ {A = ℕ} 0 1 = cc in absurd (omega arith)
+said_parts (Ok v) (Err f) n end s e = let z : ◌≡◌ {A = ℕ} 0 1 = cc in absurd (omega arith)
+said_parts (Ok v) (Ok q) n (Err f) s e = let z : ◌≡◌ {A = ℕ} 0 1 = cc in absurd (omega arith)
+said_parts (Ok v) (Ok q) n (Ok m) s e = let j : said v q n m ≡ s = cc in rw (← j) (refl, refl, refl)
 
-module _ (d : List ℕ) (a : Amount) (s : Said) where
-  pub line_value_lem : line_rest d a ≡ lined.Is s → a ≡ amount.Is s.value
+module _ (d : List ℕ) (a : Read Value) (s : Said) where
+  pub line_value_lem : line_rest d a ≡ Ok s → a ≡ Ok s.value
   unfolding line_rest
   line_value_lem = by (choice_of d (gap_on d (past_string (string_on d (past_value a)))) SPECIAL) where
-    by : (k : Choice) → special_or a (string_on d (past_value a)) (gap_on d (past_string (string_on d (past_value a)))) k ≡ lined.Is s → a
-        ≡ amount.Is s.value
-    by (Taken m) e = (said_parts a (string_on d (past_value a)) 1 (At m) s e).0
+    by : (k : Choice) → special_or a (string_on d (past_value a)) (gap_on d (past_string (string_on d (past_value a)))) k ≡ Ok s → a
+        ≡ Ok s.value
+    by (Taken m) e = (said_parts a (string_on d (past_value a)) 1 (Ok m) s e).0
     by Left e = (said_parts a (string_on d (past_value a)) 0 (gap_on d (past_string (string_on d (past_value a)))) s e).0
 
-module _ (d : List ℕ) (a : Amount) (s : Said) (h : length d ≤ 1048576) where
-  within : (q : Phrase) (n : ℕ) → q ≡ string_on d (past_value a) → n ≤ 1 → (a ≡ amount.Is s.value) × (q ≡ phrase.Is s.text)
+module _ (d : List ℕ) (a : Read Value) (s : Said) (h : length d ≤ 1048576) where
+  within : (q : Read Quoted) (n : ℕ) → q ≡ string_on d (past_value a) → n ≤ 1 → (a ≡ Ok s.value) × (q ≡ Ok s.text)
       × (s.special ≡ n) → GoodLine s
   within q n e l p =
       let k = quoted_within d (past_value a) s.text (sym e ∙ p.1) in
       record { special = omega (arith, p.2); text_place = omega (arith, k.0); text_length = omega (arith, k.1) }
 
-  pub line_good : line_rest d a ≡ lined.Is s → GoodLine s
+  pub line_good : line_rest d a ≡ Ok s → GoodLine s
   unfolding line_rest
   line_good = by (choice_of d (gap_on d (past_string (string_on d (past_value a)))) SPECIAL) where
-    by : (k : Choice) → special_or a (string_on d (past_value a)) (gap_on d (past_string (string_on d (past_value a)))) k ≡ lined.Is s
+    by : (k : Choice) → special_or a (string_on d (past_value a)) (gap_on d (past_string (string_on d (past_value a)))) k ≡ Ok s
         → GoodLine s
-    by (Taken m) e = within (string_on d (past_value a)) 1 refl (omega arith) (said_parts a (string_on d (past_value a)) 1 (At m) s e)
+    by (Taken m) e = within (string_on d (past_value a)) 1 refl (omega arith) (said_parts a (string_on d (past_value a)) 1 (Ok m) s e)
     by Left e = within (string_on d (past_value a)) 0 refl (omega arith)
         (said_parts a (string_on d (past_value a)) 0 (gap_on d (past_string (string_on d (past_value a)))) s e)
 
-  pub line_storable : line_rest d a ≡ lined.Is s → storable s
+  pub line_storable : line_rest d a ≡ Ok s → storable s
   line_storable e =
       let g = line_good e in
       record { special = omega (arith, g.special); place = omega (arith, g.text_place); length = omega (arith, g.text_length) }
@@ -204,7 +195,7 @@ pub record Onward (d : List ℕ) (quantity : Bool) (n first : ℕ) (start room :
   pub step : line_step d quantity first l ≡ after (l.lines ++ line ∷ []) t
   pub holds : Holds n first start room stamp marks (last + 1) (l.lines ++ line ∷ [])
 
-module _ (d : List ℕ) (quantity : Bool) (first : ℕ) (a : Amount) (b : Block) {n : ℕ} {start room : List ℤ} {stamp : ℕ} {marks : List ℕ}
+module _ (d : List ℕ) (quantity : Bool) (first : ℕ) (a : Read Value) (b : Block) {n : ℕ} {start room : List ℤ} {stamp : ℕ} {marks : List ℕ}
     {last : ℕ} {l : List Said} (h : Holds n first start room stamp marks last l) where
   abbrev at : Standing
   at = stand_at a b last room
@@ -215,11 +206,11 @@ module _ (d : List ℕ) (quantity : Bool) (first : ℕ) (a : Amount) (b : Block)
       (state_of a b l) t
   unfolding turn_of room_after marks_after line_step
   turned w t = by (line_rest d a) refl where
-    judged : (s : Said) (v : Verdict) → line_rest d a ≡ lined.Is s → judged_at quantity first at s ≡ v → t ≡ judged_turn d b s v
+    judged : (s : Said) (v : Read ℤ) → line_rest d a ≡ Ok s → judged_at quantity first at s ≡ v → t ≡ judged_turn d b s v
         → ((f : Fault) → t ≡ turn.Not f → ⊥) → Onward d quantity n first start (judged_room room last s v) stamp
         (judged_marks marks stamp v)
         last (state_of a b l) t
-    judged s (Good z) j i e o =
+    judged s (Ok z) j i e o =
         let g = good_line (room_at room first) (last - first) first quantity b s.value i in
         let k : last < 4096 = omega (arith, g.few, so_far h, h.count) in
         record {
@@ -228,18 +219,18 @@ module _ (d : List ℕ) (quantity : Bool) (first : ℕ) (a : Amount) (b : Block)
           step = rw (j, sym (judged_here h quantity b s.value) ∙ i, e);
           holds = rw g.says (one_more h s k (w.one_more k));
         }
-    judged s (Bad f) j i e o = absurd (o f e)
+    judged s (Err f) j i e o = absurd (o f e)
 
-    by : (r : Lined) → line_rest d a ≡ r → t ≡ read_turn d quantity first at r → ((f : Fault) → t ≡ turn.Not f → ⊥)
+    by : (r : Read Said) → line_rest d a ≡ r → t ≡ read_turn d quantity first at r → ((f : Fault) → t ≡ turn.Not f → ⊥)
         → Onward d quantity n first start (read_room quantity first at r) stamp (read_marks quantity first at marks stamp r) last
         (state_of a b l) t
-    by (lined.Is s) j e o = judged s (judged_at quantity first at s) j refl e o
-    by (lined.Not f) j e o = absurd (o f e)
+    by (Ok s) j e o = judged s (judged_at quantity first at s) j refl e o
+    by (Err f) j e o = absurd (o f e)
 
   -- the same of what the code gave back
   module _ {t : Turn} {end : List ℤ} {ends : List ℕ} (e : t ≡ turn_of d quantity first at) (f : end ≡ room_after d quantity first at)
       (g : ends ≡ marks_after d quantity first at marks stamp) where
-    pub went_more : Spare n last → {c : Amount} {k : Block} → t ≡ turn.More c k
+    pub went_more : Spare n last → {c : Read Value} {k : Block} → t ≡ turn.More c k
         → Onward d quantity n first start end stamp ends last (state_of a b l) (turn.More c k)
     went_more w i = rw (f, g) (turned w _ (sym i ∙ e) (λ q j. let z : ◌≡◌ {A = ℕ} 0 1 = cc in absurd (omega arith)))
 
@@ -251,15 +242,15 @@ module _ (d : List ℕ) (quantity : Bool) (first : ℕ) (a : Amount) (b : Block)
   pub turned_not : {f : Fault} → turn.Not f ≡ turn_of d quantity first at → line_step d quantity first (state_of a b l) ≡ Done (Not f)
   unfolding turn_of line_step
   turned_not {f} = by (line_rest d a) where
-    judged : (s : Said) (v : Verdict) → judge_line (number_at l) (length l) first quantity b s.value ≡ v → turn.Not f ≡ judged_turn d b s v
+    judged : (s : Said) (v : Read ℤ) → judge_line (number_at l) (length l) first quantity b s.value ≡ v → turn.Not f ≡ judged_turn d b s v
         → judged_step d (state_of a b l) s v ≡ Done (Not f)
-    judged s (Good z) i e = rw (sym e)
-    judged s (Bad g) i e = cc
+    judged s (Ok z) i e = rw (sym e)
+    judged s (Err g) i e = cc
 
-    by : (r : Lined) → turn.Not f ≡ read_turn d quantity first at r → read_step d quantity first (state_of a b l) r ≡ Done (Not f)
-    by (lined.Is s) e = judged s (judge_line (number_at l) (length l) first quantity b s.value) refl
+    by : (r : Read Said) → turn.Not f ≡ read_turn d quantity first at r → read_step d quantity first (state_of a b l) r ≡ Done (Not f)
+    by (Ok s) e = judged s (judge_line (number_at l) (length l) first quantity b s.value) refl
         (rw (judged_here h quantity b s.value) at e)
-    by (lined.Not g) e = cc
+    by (Err g) e = cc
 
 -- ---- all lines: the first, and then those behind it
 module _ (d : List ℕ) (quantity : Bool) (first : ℕ) where
@@ -276,15 +267,15 @@ module _ (d : List ℕ) (quantity : Bool) (first : ℕ) where
     on s (turn.Over b n) h e = let z : ◌≡◌ {A = ℕ} 0 1 = cc in absurd (omega arith)
     on s (turn.Not f) h e = let z : ◌≡◌ {A = ℕ} 0 1 = cc in absurd (omega arith)
 
-    judged : (s : Said) (v : Verdict) → judge_line (number_at l.lines) (length l.lines) first quantity l.block s.value ≡ v
+    judged : (s : Said) (v : Read ℤ) → judge_line (number_at l.lines) (length l.lines) first quantity l.block s.value ≡ v
         → judged_step d l s v ≡ Again m → left m < left l
-    judged s (Good z) i e = on s (more_of d (grown_by l.block s.value) s.next)
+    judged s (Ok z) i e = on s (more_of d (grown_by l.block s.value) s.next)
         (good_line (number_at l.lines) (length l.lines) first quantity l.block s.value i).few e
-    judged s (Bad f) i e = let z : ◌≡◌ {A = ℕ} 0 1 = cc in absurd (omega arith)
+    judged s (Err f) i e = let z : ◌≡◌ {A = ℕ} 0 1 = cc in absurd (omega arith)
 
-    by : (r : Lined) → read_step d quantity first l r ≡ Again m → left m < left l
-    by (lined.Is s) e = judged s (judge_line (number_at l.lines) (length l.lines) first quantity l.block s.value) refl e
-    by (lined.Not f) e = let z : ◌≡◌ {A = ℕ} 0 1 = cc in absurd (omega arith)
+    by : (r : Read Said) → read_step d quantity first l r ≡ Again m → left m < left l
+    by (Ok s) e = judged s (judge_line (number_at l.lines) (length l.lines) first quantity l.block s.value) refl e
+    by (Err f) e = let z : ◌≡◌ {A = ℕ} 0 1 = cc in absurd (omega arith)
 
   pub lines_more : (l : Listing) {m : Listing} → line_step d quantity first l ≡ Again m → lines_from d quantity first l
       ≡ lines_from d quantity first m
@@ -296,9 +287,9 @@ module _ (d : List ℕ) (quantity : Bool) (first : ℕ) where
   lines_done l {g} e = loop_done (line_step d quantity first) (Not (fault 0 0)) left falls {s = l} {a = g} e
 
 -- ---- what the code gives back
-pub record Ran (d : List ℕ) (quantity : Bool) (n first stamp : ℕ) (start : List ℤ) (a₀ : Amount) (b₀ : Block) (room : List ℤ)
+pub record Ran (d : List ℕ) (quantity : Bool) (n first stamp : ℕ) (start : List ℤ) (a₀ : Read Value) (b₀ : Block) (room : List ℤ)
     (marks : List ℕ)
-    (a : Amount) (b : Block) (last : ℕ) : Type 0 where
+    (a : Read Value) (b : Block) (last : ℕ) : Type 0 where
   pub lines : List Said
   pub same : lines_from d quantity first (state_of a₀ b₀ []) ≡ lines_from d quantity first (state_of a b lines)
   pub holds : Holds n first start room stamp marks last lines
@@ -328,11 +319,11 @@ pub listed_none : (first : ℕ) (b : Block) (n : ℕ) → listed.Is b first n �
 unfolding listed_of
 listed_none first b n = let e : first ≡ first + 0 = omega arith in ap (λ (k : ℕ). listed.Is b k n) e
 
-pub stored_none : (first : ℕ) (b : Block) (t : Reading) (room : List ℤ) → Stored first (closed_by b t) room room
+pub stored_none : (first : ℕ) (b : Block) (t : Read ℕ) (room : List ℤ) → Stored first (closed_by b t) room room
 unfolding closed_by cells_of
-stored_none first b (At n) room =
+stored_none first b (Ok n) room =
     record {
       stored = λ {b = b'} {l = l'} {n = n'} q. let j : [] ≡ l' = cc in
           paste_none room (4 * first) ∙ ap (λ (x : List Said). pasted room (4 * first) (cells_of x)) j;
     }
-stored_none first b (Refused f) room = stored_not first f room room
+stored_none first b (Err f) room = stored_not first f room room

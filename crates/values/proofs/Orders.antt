@@ -1,5 +1,6 @@
 -- The order in which a line's value is judged: the reader's gives the same as document 01's wherever the reader can stand, since
 -- lines that stand pass no limit, and so a value too large repeats none of them.
+use Rattle.std.specs.Prelude.{Ok, Err}
 use mathlib.Core.Path.{◌≡◌, refl, ap}
 use mathlib.Core.Logic.{⊎_elim}
 use mathlib.Core.Bool.{Bool, true, false, cond, not, ◌&&◌}
@@ -16,22 +17,15 @@ use Rattle.cells.specs.Cell.{same_true}
 use Rattle.scan.specs.Number.{capped}
 use Rattle.scan.specs.Order.{value_of}
 use Rattle.scan.specs.rule.Loop.{Next, Again, Done, on_next, loop_of}
-use Rattle.tokens.specs.declared.Reading.{Reading}
-use Rattle.tokens.specs.declared.Reading.TheVariants.{At, Refused}
 use Rattle.tokens.specs.declared.Choice.{Choice}
 use Rattle.tokens.specs.declared.Choice.TheVariants.{Taken, Left}
 use Rattle.tokens.specs.declared.Value.{Value}
-use Rattle.tokens.specs.declared.Amount.TheVariants as amount
-use Rattle.tokens.specs.rule.Gap.{fault}
+use Rattle.tokens.specs.rule.Gap.{fault, Read}
 use Rattle.tokens.specs.Token.{choice_of, value_here, word_on}
 use Rattle.statements.specs.rule.Words.{END, VALUES}
 use Rattle.statements.specs.Note.{notes_on}
 use Rattle.values.specs.declared.Block.{Block}
 use Rattle.values.specs.declared.Said.{Said}
-use Rattle.values.specs.declared.Lined.{Lined}
-use Rattle.values.specs.declared.Lined.TheVariants as lined
-use Rattle.values.specs.declared.Verdict.{Verdict}
-use Rattle.values.specs.declared.Verdict.TheVariants.{Good, Bad}
 use Rattle.values.specs.Value.{form_of, large_of, true_of, scaled_of}
 use Rattle.values.specs.Line.{Given, Not, Listing, state_of, line_rest, number_on, numbers, number_at, repeated_in, line_fault}
 use Rattle.values.specs.Line.{judge_line, grown_by, end_of, end_or, more_of, after, judged_step, read_step, line_step, lines_from}
@@ -103,7 +97,7 @@ module _ (d : List ℕ) (quantity : Bool) (first : ℕ) where
 
   -- the lines of a block that has not said its decimals are none
   record Steady (l : Listing) : Type 0 where
-    value : (v : Value) → l.amount ≡ amount.Is v → Genuine (size_in d v) v
+    value : (v : Value) → l.amount ≡ Ok v → Genuine (size_in d v) v
     places : l.block.decimals ≤ 9
     unsaid : l.block.known ≡ false → l.lines ≡ []
     lines : Held l.lines
@@ -139,23 +133,23 @@ module _ (d : List ℕ) (quantity : Bool) (first : ℕ) where
       by true q w = let t = eqb-true v.decimals l.block.decimals (not-false _ w) in other (omega (arith, k.places))
 
     -- both judgements give the same: by the form, decimals that differ, and the size
-    abbrev reader : Bool → Bool → Bool → Verdict
+    abbrev reader : Bool → Bool → Bool → Read ℤ
     reader x y z =
         cond (eqb (cond x (cond y 6 (cond z 8 0)) 6) 0)
-        (cond (again (scaled_of v)) (Bad (fault 6 v.place))
-        (cond (leb 4096 (first + length l.lines)) (Bad (fault 8 v.place))
-        (Good (scaled_of v))))
-        (Bad (fault (cond x (cond y 6 (cond z 8 0)) 6) v.place))
+        (cond (again (scaled_of v)) (Err (fault 6 v.place))
+        (cond (leb 4096 (first + length l.lines)) (Err (fault 8 v.place))
+        (Ok (scaled_of v))))
+        (Err (fault (cond x (cond y 6 (cond z 8 0)) 6) v.place))
 
-    abbrev paper : Bool → Bool → Bool → Verdict
+    abbrev paper : Bool → Bool → Bool → Read ℤ
     paper x y z =
         cond x
-        (cond y (Bad (fault 6 v.place))
-        (cond (again (true_of d v)) (Bad (fault 6 v.place))
-        (cond z (Bad (fault 8 v.place))
-        (cond (leb 4096 (first + length l.lines)) (Bad (fault 8 v.place))
-        (Good (true_of d v))))))
-        (Bad (fault 6 v.place))
+        (cond y (Err (fault 6 v.place))
+        (cond (again (true_of d v)) (Err (fault 6 v.place))
+        (cond z (Err (fault 8 v.place))
+        (cond (leb 4096 (first + length l.lines)) (Err (fault 8 v.place))
+        (Ok (true_of d v))))))
+        (Err (fault 6 v.place))
 
     same_verdict : judge_line (number_at l.lines) (length l.lines) first quantity l.block v
         ≡ paper_line d l.lines first quantity l.block v
@@ -168,34 +162,34 @@ module _ (d : List ℕ) (quantity : Bool) (first : ℕ) where
       by true false false f u e = rw (true_scaled d g (fits (size_in d v) quantity v g f e))
 
   -- ---- it holds at the start of the lines, and behind each
-  start_alone : (t : Reading) → Steady (state_of (value_here d t) empty_block [])
+  start_alone : (t : Read ℕ) → Steady (state_of (value_here d t) empty_block [])
   start_alone t = record { value = value_genuine d t; places = omega arith; unsaid = λ q. refl; lines = none }
 
-  start_behind : (n : ℕ) (b : Block) → Made d quantity b → Steady (state_of (value_here d (notes_on d (At n))) b [])
+  start_behind : (n : ℕ) (b : Block) → Made d quantity b → Steady (state_of (value_here d (notes_on d (Ok n))) b [])
   unfolding Made
-  start_behind n b m = record { value = value_genuine d (notes_on d (At n)); places = m.0.few_decimals; unsaid = λ q. refl; lines = none }
+  start_behind n b m = record { value = value_genuine d (notes_on d (Ok n)); places = m.0.few_decimals; unsaid = λ q. refl; lines = none }
 
   more_steady : (b : Block) (l : List Said) (n : ℕ) {m : Listing} → b.decimals ≤ 9 → b.known ≡ true → Held l
       → after l (more_of d b n) ≡ Again m → Steady m
   unfolding more_of end_of
-  more_steady b l n {m} p q h = by (choice_of d (notes_on d (At n)) END) where
-    ends : (r : Reading) → after l (end_of b r) ≡ Again m → Steady m
-    ends (At k) e = let z : ◌≡◌ {A = ℕ} 0 1 = cc in absurd (omega arith)
-    ends (Refused f) e = let z : ◌≡◌ {A = ℕ} 0 1 = cc in absurd (omega arith)
+  more_steady b l n {m} p q h = by (choice_of d (notes_on d (Ok n)) END) where
+    ends : (r : Read ℕ) → after l (end_of b r) ≡ Again m → Steady m
+    ends (Ok k) e = let z : ◌≡◌ {A = ℕ} 0 1 = cc in absurd (omega arith)
+    ends (Err f) e = let z : ◌≡◌ {A = ℕ} 0 1 = cc in absurd (omega arith)
 
-    by : (c : Choice) → after l (end_or d b (notes_on d (At n)) c) ≡ Again m → Steady m
-    by (Taken k) e = ends (word_on d (At k) VALUES) e
+    by : (c : Choice) → after l (end_or d b (notes_on d (Ok n)) c) ≡ Again m → Steady m
+    by (Taken k) e = ends (word_on d (Ok k) VALUES) e
     by Left e =
-        let j : state_of (value_here d (notes_on d (At n))) b l ≡ m = cc in
-        rw (← j) (record { value = value_genuine d (notes_on d (At n)); places = p; unsaid = λ u. holds_not q u; lines = h })
+        let j : state_of (value_here d (notes_on d (Ok n))) b l ≡ m = cc in
+        rw (← j) (record { value = value_genuine d (notes_on d (Ok n)); places = p; unsaid = λ u. holds_not q u; lines = h })
 
   step_steady : (l : Listing) {m : Listing} → Steady l → line_step d quantity first l ≡ Again m → Steady m
   unfolding line_step grown_by
   step_steady l {m} k = by (line_rest d l.amount) refl where
-    judge : (s : Said) (v : Verdict) → line_rest d l.amount ≡ lined.Is s
+    judge : (s : Said) (v : Read ℤ) → line_rest d l.amount ≡ Ok s
         → judge_line (number_at l.lines) (length l.lines) first quantity l.block s.value ≡ v
         → judged_step d l s v ≡ Again m → Steady m
-    judge s (Good z) j i e =
+    judge s (Ok z) j i e =
         let t = good_line (number_at l.lines) (length l.lines) first quantity l.block s.value i in
         let g = k.value s.value (line_value_lem d l.amount s j) in
         let w = sound_value quantity l.block s.value t.sound in
@@ -203,11 +197,11 @@ module _ (d : List ℕ) (quantity : Bool) (first : ℕ) where
         more_steady (grown_by l.block s.value) (l.lines ++ s ∷ []) s.next f.places refl
         (held_more s k.lines (value_limited quantity s.value f) (true_scaled d g f))
         e
-    judge s (Bad f) j i e = let z : ◌≡◌ {A = ℕ} 0 1 = cc in absurd (omega arith)
+    judge s (Err f) j i e = let z : ◌≡◌ {A = ℕ} 0 1 = cc in absurd (omega arith)
 
-    by : (r : Lined) → line_rest d l.amount ≡ r → read_step d quantity first l r ≡ Again m → Steady m
-    by (lined.Is s) j e = judge s (judge_line (number_at l.lines) (length l.lines) first quantity l.block s.value) j refl e
-    by (lined.Not f) j e = let z : ◌≡◌ {A = ℕ} 0 1 = cc in absurd (omega arith)
+    by : (r : Read Said) → line_rest d l.amount ≡ r → read_step d quantity first l r ≡ Again m → Steady m
+    by (Ok s) j e = judge s (judge_line (number_at l.lines) (length l.lines) first quantity l.block s.value) j refl e
+    by (Err f) j e = let z : ◌≡◌ {A = ℕ} 0 1 = cc in absurd (omega arith)
 
   steady : {l : Listing} → Reached d quantity first l → Steady l
   steady (alone t) = start_alone t
@@ -215,7 +209,7 @@ module _ (d : List ℕ) (quantity : Bool) (first : ℕ) where
   steady (next {l = l} r e) = step_steady l (steady r) e
 
   -- ---- a line is judged as document 01 says
-  pub paper_verdict : (l : Listing) (s : Said) → Reached d quantity first l → line_rest d l.amount ≡ lined.Is s
+  pub paper_verdict : (l : Listing) (s : Said) → Reached d quantity first l → line_rest d l.amount ≡ Ok s
       → judge_line (number_at l.lines) (length l.lines) first quantity l.block s.value
       ≡ paper_line d l.lines first quantity l.block s.value
   paper_verdict l s r j = let k = steady r in same_verdict l k s.value (k.value s.value (line_value_lem d l.amount s j))
@@ -223,9 +217,9 @@ module _ (d : List ℕ) (quantity : Bool) (first : ℕ) where
   pub paper_step_lem : (l : Listing) → Reached d quantity first l → line_step d quantity first l ≡ paper_step d quantity first l
   unfolding line_step paper_step
   paper_step_lem l r = by (line_rest d l.amount) refl where
-    by : (x : Lined) → line_rest d l.amount ≡ x → read_step d quantity first l x ≡ paper_read d quantity first l x
-    by (lined.Is s) j = ap (judged_step d l s) (paper_verdict l s r j)
-    by (lined.Not f) j = refl
+    by : (x : Read Said) → line_rest d l.amount ≡ x → read_step d quantity first l x ≡ paper_read d quantity first l x
+    by (Ok s) j = ap (judged_step d l s) (paper_verdict l s r j)
+    by (Err f) j = refl
 
   loops : (f : ℕ) (l : Listing) → Reached d quantity first l
       → loop_of (line_step d quantity first) (Not (fault 0 0)) f l ≡ loop_of (paper_step d quantity first) (Not (fault 0 0)) f l

@@ -2,22 +2,16 @@
 -- A line is a value, a string, and SPECIAL or not. 6 where its form is wrong, its decimals differ from those before it in the block,
 -- or an earlier line of the block says its number; 8 beyond its limit, or where 4,096 lines were read. Then follow notes, and another
 -- line or END VALUES.
-use Rattle.std.specs.Prelude.{ℕ, suc, ◌+◌, ◌-◌, ◌*◌, Bool, true, cond, not, ◌&&◌, List, [], ◌∷◌, ◌++◌, eqb, leb, ℤ, pos, length, ◌≡◌}
+use Rattle.std.specs.Prelude.{ℕ, suc, ◌+◌, ◌-◌, ◌*◌, Bool, true, cond, not, ◌&&◌, List, [], ◌∷◌, ◌++◌, eqb, leb, ℤ, pos, length, ◌≡◌, Ok, Err}
 use Rattle.below.specs.rule.Below.{any_below}
 use Rattle.cells.specs.rule.Cell.{cell, eq_z, pasted}
 use Rattle.scan.specs.rule.Loop.{Next, Again, Done, loop_of}
 use Rattle.tokens.specs.declared.Fault.{Fault}
-use Rattle.tokens.specs.declared.Reading.{Reading}
-use Rattle.tokens.specs.declared.Reading.TheVariants.{At, Refused}
 use Rattle.tokens.specs.declared.Choice.{Choice}
 use Rattle.tokens.specs.declared.Choice.TheVariants.{Taken, Left}
 use Rattle.tokens.specs.declared.Value.{Value}
 use Rattle.tokens.specs.declared.Quoted.{Quoted}
-use Rattle.tokens.specs.declared.Amount.{Amount}
-use Rattle.tokens.specs.declared.Amount.TheVariants as amount
-use Rattle.tokens.specs.declared.Phrase.{Phrase}
-use Rattle.tokens.specs.declared.Phrase.TheVariants as phrase
-use Rattle.tokens.specs.rule.Gap.{fault}
+use Rattle.tokens.specs.rule.Gap.{fault, Read}
 use Rattle.tokens.specs.Gap.{gap_on}
 use Rattle.tokens.specs.Token.{choice_of, word_on, value_here, past_value, string_on, past_string}
 use Rattle.statements.specs.rule.Words.{SPECIAL, END, VALUES}
@@ -25,10 +19,6 @@ use Rattle.statements.specs.Note.{notes_on}
 use Rattle.values.specs.Value.{form_of, large_of, scaled_of, point_of, points_of}
 use Rattle.values.specs.declared.Block.{Block}
 use Rattle.values.specs.declared.Said.{Said}
-use Rattle.values.specs.declared.Lined.{Lined}
-use Rattle.values.specs.declared.Lined.TheVariants as lined
-use Rattle.values.specs.declared.Verdict.{Verdict}
-use Rattle.values.specs.declared.Verdict.TheVariants.{Good, Bad}
 use Rattle.values.specs.declared.Turn.{Turn}
 use Rattle.values.specs.declared.Turn.TheVariants as turn
 use Rattle.layout.specs.rule.Layout.{line_size}
@@ -36,28 +26,28 @@ use Rattle.values.specs.declared.Listed.{Listed}
 use Rattle.values.specs.declared.Listed.TheVariants as listed
 
 -- ---- reading a line
-abbrev pub valued : Amount → (Value → Lined) → Lined
-valued (amount.Is v) k = k v
-valued (amount.Not f) k = lined.Not f
+abbrev pub valued : Read Value → (Value → Read Said) → Read Said
+valued (Ok v) k = k v
+valued (Err f) k = Err f
 
-abbrev pub phrased : Phrase → (Quoted → Lined) → Lined
-phrased (phrase.Is q) k = k q
-phrased (phrase.Not f) k = lined.Not f
+abbrev pub phrased : Read Quoted → (Quoted → Read Said) → Read Said
+phrased (Ok q) k = k q
+phrased (Err f) k = Err f
 
-abbrev pub ended : Reading → (ℕ → Lined) → Lined
-ended (At n) k = k n
-ended (Refused f) k = lined.Not f
+abbrev pub ended : Read ℕ → (ℕ → Read Said) → Read Said
+ended (Ok n) k = k n
+ended (Err f) k = Err f
 
 -- the first 2 or 3 met
-unfoldable pub said_of : Amount → Phrase → ℕ → Reading → Lined
-said_of a q special end = valued a λ v. phrased q λ t. ended end λ n. lined.Is (record { value = v; text = t; special = special; next = n })
+unfoldable pub said_of : Read Value → Read Quoted → ℕ → Read ℕ → Read Said
+said_of a q special end = valued a λ v. phrased q λ t. ended end λ n. Ok (record { value = v; text = t; special = special; next = n })
 
-abbrev pub special_or : Amount → Phrase → Reading → Choice → Lined
-special_or a q g (Taken m) = said_of a q 1 (At m)
+abbrev pub special_or : Read Value → Read Quoted → Read ℕ → Choice → Read Said
+special_or a q g (Taken m) = said_of a q 1 (Ok m)
 special_or a q g Left = said_of a q 0 g
 
 -- a line whose value is a
-unfoldable pub line_rest : List ℕ → Amount → Lined
+unfoldable pub line_rest : List ℕ → Read Value → Read Said
 line_rest d a =
     let q = string_on d (past_value a) in
     let g = gap_on d (past_string q) in
@@ -88,13 +78,13 @@ line_fault quantity b v =
     6
 
 -- a value too large repeats none, so that it may be judged before the repeats
-unfoldable pub judge_line : (ℕ → ℤ) → ℕ → ℕ → Bool → Block → Value → Verdict
+unfoldable pub judge_line : (ℕ → ℤ) → ℕ → ℕ → Bool → Block → Value → Read ℤ
 judge_line f n first quantity b v =
     cond (eqb (line_fault quantity b v) 0)
-    (cond (repeated_in f n (scaled_of v)) (Bad (fault 6 v.place))
-    (cond (leb 4096 (first + n)) (Bad (fault 8 v.place))
-    (Good (scaled_of v))))
-    (Bad (fault (line_fault quantity b v) v.place))
+    (cond (repeated_in f n (scaled_of v)) (Err (fault 6 v.place))
+    (cond (leb 4096 (first + n)) (Err (fault 8 v.place))
+    (Ok (scaled_of v))))
+    (Err (fault (line_fault quantity b v) v.place))
 
 -- ---- what a line adds
 -- the point's code: that of the first number is its own
@@ -120,17 +110,17 @@ cells_of [] = []
 cells_of (s ∷ l) = line_cells s ++ cells_of l
 
 -- ---- what follows a line
-unfoldable pub end_of : Block → Reading → Turn
-end_of b (At n) = turn.Over b n
-end_of b (Refused f) = turn.Not f
+unfoldable pub end_of : Block → Read ℕ → Turn
+end_of b (Ok n) = turn.Over b n
+end_of b (Err f) = turn.Not f
 
-abbrev pub end_or : List ℕ → Block → Reading → Choice → Turn
-end_or d b t (Taken m) = end_of b (word_on d (At m) VALUES)
+abbrev pub end_or : List ℕ → Block → Read ℕ → Choice → Turn
+end_or d b t (Taken m) = end_of b (word_on d (Ok m) VALUES)
 end_or d b t Left = turn.More (value_here d t) b
 
 unfoldable pub more_of : List ℕ → Block → ℕ → Turn
 more_of d b n =
-    let t = notes_on d (At n) in
+    let t = notes_on d (Ok n) in
     end_or d b t (choice_of d t END)
 
 -- ---- lines one after the other
@@ -141,11 +131,11 @@ pub data Given : Type 0 where
 
 -- where the reader of lines stands: the value of the line that comes, what the block has said, and its lines so far
 pub record Listing : Type 0 where
-  pub amount : Amount
+  pub amount : Read Value
   pub block : Block
   pub lines : List Said
 
-abbrev pub state_of : Amount → Block → List Said → Listing
+abbrev pub state_of : Read Value → Block → List Said → Listing
 state_of a b l = record { amount = a; block = b; lines = l }
 
 abbrev pub after : List Said → Turn → Next Listing Given
@@ -153,14 +143,14 @@ after l (turn.More a b) = Again (state_of a b l)
 after l (turn.Over b n) = Done (Is b l n)
 after l (turn.Not f) = Done (Not f)
 
-abbrev pub judged_step : List ℕ → Listing → Said → Verdict → Next Listing Given
-judged_step d l s (Good z) = after (l.lines ++ s ∷ []) (more_of d (grown_by l.block s.value) s.next)
-judged_step d l s (Bad f) = Done (Not f)
+abbrev pub judged_step : List ℕ → Listing → Said → Read ℤ → Next Listing Given
+judged_step d l s (Ok z) = after (l.lines ++ s ∷ []) (more_of d (grown_by l.block s.value) s.next)
+judged_step d l s (Err f) = Done (Not f)
 
-abbrev pub read_step : List ℕ → Bool → ℕ → Listing → Lined → Next Listing Given
-read_step d quantity first l (lined.Is s) =
+abbrev pub read_step : List ℕ → Bool → ℕ → Listing → Read Said → Next Listing Given
+read_step d quantity first l (Ok s) =
     judged_step d l s (judge_line (number_at l.lines) (length l.lines) first quantity l.block s.value)
-read_step d quantity first l (lined.Not f) = Done (Not f)
+read_step d quantity first l (Err f) = Done (Not f)
 
 -- one line: read, judged, and what follows it
 unfoldable pub line_step : List ℕ → Bool → ℕ → Listing → Next Listing Given

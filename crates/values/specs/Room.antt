@@ -1,20 +1,16 @@
 -- What the code keeps of the lines of a block: their numbers in the room that it is lent, four a line, those of the block from line
 -- `first` to before `last`; and a mark for each, by which a number that no line says is mostly known at once.
-use Rattle.std.specs.Prelude.{ℕ, ◌+◌, ◌*◌, ◌-◌, ◌%◌, ◌≤◌, ◌<◌, ◌≡◌, Bool, true, false, List, ℤ, get_or, set}
+use Rattle.std.specs.Prelude.{ℕ, ◌+◌, ◌*◌, ◌-◌, ◌%◌, ◌≤◌, ◌<◌, ◌≡◌, Bool, true, false, List, ℤ, get_or, set, Ok, Err}
 use Rattle.cells.specs.rule.Cell.{cell, signed_of, pasted}
 use Rattle.layout.specs.rule.Layout.{line_size, most_lines}
-use Rattle.tokens.specs.declared.Amount.{Amount}
 use Rattle.tokens.specs.declared.Fault.{Fault}
-use Rattle.tokens.specs.rule.Gap.{fault}
+use Rattle.tokens.specs.rule.Gap.{fault, Read}
 use Rattle.values.specs.declared.Block.{Block}
 use Rattle.values.specs.declared.Said.{Said}
-use Rattle.values.specs.declared.Lined.{Lined}
-use Rattle.values.specs.declared.Lined.TheVariants as lined
-use Rattle.values.specs.declared.Verdict.{Verdict}
-use Rattle.values.specs.declared.Verdict.TheVariants.{Good, Bad}
 use Rattle.values.specs.declared.Turn.{Turn}
 use Rattle.values.specs.declared.Turn.TheVariants as turn
 use Rattle.values.specs.Line.{line_rest, judge_line, grown_by, line_cells, more_of}
+use Rattle.tokens.specs.declared.Value.{Value}
 
 -- ---- a room of any length
 -- for the lines so far, and for one more unless they are the most
@@ -56,44 +52,44 @@ pub record storable (s : Said) : Type 0 where
   pub length : s.text.length ≤ 1000000000000000
 
 -- ---- a line that was judged: what follows it, the room and the marks; a line that stands goes in behind the others
-abbrev pub judged_turn : List ℕ → Block → Said → Verdict → Turn
-judged_turn d b s (Good z) = more_of d (grown_by b s.value) s.next
-judged_turn d b s (Bad f) = turn.Not f
+abbrev pub judged_turn : List ℕ → Block → Said → Read ℤ → Turn
+judged_turn d b s (Ok z) = more_of d (grown_by b s.value) s.next
+judged_turn d b s (Err f) = turn.Not f
 
-abbrev pub judged_room : List ℤ → ℕ → Said → Verdict → List ℤ
-judged_room room last s (Good z) = pasted room (line_size * last) (line_cells s)
-judged_room room last s (Bad f) = room
+abbrev pub judged_room : List ℤ → ℕ → Said → Read ℤ → List ℤ
+judged_room room last s (Ok z) = pasted room (line_size * last) (line_cells s)
+judged_room room last s (Err f) = room
 
-abbrev pub judged_marks : List ℕ → ℕ → Verdict → List ℕ
-judged_marks marks stamp (Good z) = set marks (slot_of z) stamp
-judged_marks marks stamp (Bad f) = marks
+abbrev pub judged_marks : List ℕ → ℕ → Read ℤ → List ℕ
+judged_marks marks stamp (Ok z) = set marks (slot_of z) stamp
+judged_marks marks stamp (Err f) = marks
 
 -- where the reader of lines stands: the value of the line that comes, what the block has said, how many lines there are in all, and
 -- the room
 pub record Standing : Type 0 where
-  pub amount : Amount
+  pub amount : Read Value
   pub block : Block
   pub last : ℕ
   pub room : List ℤ
 
-abbrev pub stand_at : Amount → Block → ℕ → List ℤ → Standing
+abbrev pub stand_at : Read Value → Block → ℕ → List ℤ → Standing
 stand_at a b n r = record { amount = a; block = b; last = n; room = r }
 
 -- how the line s is judged there
-abbrev pub judged_at : Bool → ℕ → Standing → Said → Verdict
+abbrev pub judged_at : Bool → ℕ → Standing → Said → Read ℤ
 judged_at quantity first l s = judge_line (room_at l.room first) (l.last - first) first quantity l.block s.value
 
-abbrev pub read_turn : List ℕ → Bool → ℕ → Standing → Lined → Turn
-read_turn d quantity first l (lined.Is s) = judged_turn d l.block s (judged_at quantity first l s)
-read_turn d quantity first l (lined.Not f) = turn.Not f
+abbrev pub read_turn : List ℕ → Bool → ℕ → Standing → Read Said → Turn
+read_turn d quantity first l (Ok s) = judged_turn d l.block s (judged_at quantity first l s)
+read_turn d quantity first l (Err f) = turn.Not f
 
-abbrev pub read_room : Bool → ℕ → Standing → Lined → List ℤ
-read_room quantity first l (lined.Is s) = judged_room l.room l.last s (judged_at quantity first l s)
-read_room quantity first l (lined.Not f) = l.room
+abbrev pub read_room : Bool → ℕ → Standing → Read Said → List ℤ
+read_room quantity first l (Ok s) = judged_room l.room l.last s (judged_at quantity first l s)
+read_room quantity first l (Err f) = l.room
 
-abbrev pub read_marks : Bool → ℕ → Standing → List ℕ → ℕ → Lined → List ℕ
-read_marks quantity first l marks stamp (lined.Is s) = judged_marks marks stamp (judged_at quantity first l s)
-read_marks quantity first l marks stamp (lined.Not f) = marks
+abbrev pub read_marks : Bool → ℕ → Standing → List ℕ → ℕ → Read Said → List ℕ
+read_marks quantity first l marks stamp (Ok s) = judged_marks marks stamp (judged_at quantity first l s)
+read_marks quantity first l marks stamp (Err f) = marks
 
 -- one line: read, judged, and what follows it
 unfoldable pub turn_of : List ℕ → Bool → ℕ → Standing → Turn

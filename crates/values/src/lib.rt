@@ -21,7 +21,7 @@ ghost use Rattle.values.specs.Room.{room_after, marks_after, Spare, Cramped, sho
 ghost use Rattle.values.specs.Block.{empty_block, closed_by, range_then, values_on};
 
 use layout::{Header, Line};
-use tokens::{Amount, Choice, Fault, Phrase, Quoted, Reading, Value};
+use tokens::{Choice, Fault, Quoted, Read, Value};
 
 // What the values of a variable have said so far: whether there is a range, and its ends; whether a number was read, and then how
 // many decimals all have; and the code of the point, 0 none, 1 one, 2 one that no number has a digit before.
@@ -110,24 +110,18 @@ fn scaled(quantity: bool, v: Value) -> i64
     cells::number_of(v.minus, v.size)
 }
 
-#[derive(Clone, Copy)]
-pub enum Judged {
-    Good(Block),
-    Bad(Fault),
-}
-
 // A range whose values have form and order: 8 at each beyond its limit, or what the range says.
-fn limit_range(quantity: bool, a: Value, b: Value) -> Judged
+fn limit_range(quantity: bool, a: Value, b: Value) -> Read<Block>
     ensures { result ≡ limit_range quantity a b }
 {
     if large(quantity, a) {
-        return Judged::Bad(Fault {
+        return Err(Fault {
             number: 8,
             place: a.place,
         });
     }
     if large(quantity, b) {
-        return Judged::Bad(Fault {
+        return Err(Fault {
             number: 8,
             place: b.place,
         });
@@ -135,7 +129,7 @@ fn limit_range(quantity: bool, a: Value, b: Value) -> Judged
     let from = scaled(quantity, a);
     let to = scaled(quantity, b);
     let point = point_codes(point_code(a), point_code(b));
-    Judged::Good(Block {
+    Ok(Block {
         ranged: true,
         from,
         to,
@@ -147,29 +141,29 @@ fn limit_range(quantity: bool, a: Value, b: Value) -> Judged
 
 // A range, whose second value lies below the first where `below`: 6 at each value of wrong form, and at the second where decimals differ
 // or the range is reversed; then its limits.
-pub fn judge_range(below: bool, quantity: bool, a: Value, b: Value) -> Judged
+pub fn judge_range(below: bool, quantity: bool, a: Value, b: Value) -> Read<Block>
     ensures { result ≡ judge_range below quantity a b }
 {
     if !formed(quantity, a) {
-        return Judged::Bad(Fault {
+        return Err(Fault {
             number: 6,
             place: a.place,
         });
     }
     if !formed(quantity, b) {
-        return Judged::Bad(Fault {
+        return Err(Fault {
             number: 6,
             place: b.place,
         });
     }
     if a.decimals != b.decimals {
-        return Judged::Bad(Fault {
+        return Err(Fault {
             number: 6,
             place: b.place,
         });
     }
     if below {
-        return Judged::Bad(Fault {
+        return Err(Fault {
             number: 6,
             place: b.place,
         });
@@ -202,8 +196,8 @@ fn settle(
 {
     let below = reversed(classes, d, a, b);
     match judge_range(below, quantity, a, b) {
-        Judged::Good(block) => Ranged::Is { block, with, next },
-        Judged::Bad(f) => Ranged::Not(f),
+        Ok(block) => Ranged::Is { block, with, next },
+        Err(f) => Ranged::Not(f),
     }
 }
 
@@ -212,28 +206,34 @@ fn join_range(
     classes: &[u8; 256],
     d: &[u8],
     quantity: bool,
-    a: Amount,
-    b: Amount,
-    end: Reading,
+    a: Read<Value>,
+    b: Read<Value>,
+    end: Read<usize>,
     with: bool,
 ) -> Ranged
     requires { Classes classes.now }
     ensures { result ≡ ranged_of d.now quantity a b end with }
 {
     match a {
-        Amount::Not(f) => Ranged::Not(f),
-        Amount::Is(x) => match b {
-            Amount::Not(f) => Ranged::Not(f),
-            Amount::Is(y) => match end {
-                Reading::Refused(f) => Ranged::Not(f),
-                Reading::At(next) => settle(classes, d, quantity, x, y, with, next),
+        Err(f) => Ranged::Not(f),
+        Ok(x) => match b {
+            Err(f) => Ranged::Not(f),
+            Ok(y) => match end {
+                Err(f) => Ranged::Not(f),
+                Ok(next) => settle(classes, d, quantity, x, y, with, next),
             },
         },
     }
 }
 
 // What stands behind the TO of a range that begins with a.
-pub fn range_rest(classes: &[u8; 256], d: &[u8], quantity: bool, a: Amount, t: Reading) -> Ranged
+pub fn range_rest(
+    classes: &[u8; 256],
+    d: &[u8],
+    quantity: bool,
+    a: Read<Value>,
+    t: Read<usize>,
+) -> Ranged
     requires { Classes classes.now }
     ensures { result ≡ range_rest d.now quantity a t }
 {
@@ -241,7 +241,7 @@ pub fn range_rest(classes: &[u8; 256], d: &[u8], quantity: bool, a: Amount, t: R
     let p = tokens::past_value(b);
     let g = tokens::gap_on(classes, d, p);
     match tokens::perhaps(classes, d, g, b"WITH") {
-        Choice::Taken(m) => join_range(classes, d, quantity, a, b, Reading::At(m), true),
+        Choice::Taken(m) => join_range(classes, d, quantity, a, b, Ok(m), true),
         Choice::Left => join_range(classes, d, quantity, a, b, g, false),
     }
 }
@@ -255,23 +255,17 @@ pub struct Said {
     pub next: usize,
 }
 
-#[derive(Clone, Copy)]
-pub enum Lined {
-    Is(Said),
-    Not(Fault),
-}
-
 // The first 2 or 3 met in a line.
-fn join_line(a: Amount, q: Phrase, special: usize, end: Reading) -> Lined
+fn join_line(a: Read<Value>, q: Read<Quoted>, special: usize, end: Read<usize>) -> Read<Said>
     ensures { result ≡ said_of a q special end }
 {
     match a {
-        Amount::Not(f) => Lined::Not(f),
-        Amount::Is(value) => match q {
-            Phrase::Not(f) => Lined::Not(f),
-            Phrase::Is(text) => match end {
-                Reading::Refused(f) => Lined::Not(f),
-                Reading::At(next) => Lined::Is(Said {
+        Err(f) => Err(f),
+        Ok(value) => match q {
+            Err(f) => Err(f),
+            Ok(text) => match end {
+                Err(f) => Err(f),
+                Ok(next) => Ok(Said {
                     value,
                     text,
                     special,
@@ -283,7 +277,7 @@ fn join_line(a: Amount, q: Phrase, special: usize, end: Reading) -> Lined
 }
 
 // A line whose value is a: a string, and SPECIAL or not.
-fn line_rest(classes: &[u8; 256], d: &[u8], a: Amount) -> Lined
+fn line_rest(classes: &[u8; 256], d: &[u8], a: Read<Value>) -> Read<Said>
     requires { Classes classes.now }
     ensures { result ≡ line_rest d.now a }
 {
@@ -292,7 +286,7 @@ fn line_rest(classes: &[u8; 256], d: &[u8], a: Amount) -> Lined
     let s = tokens::past_string(q);
     let g = tokens::gap_on(classes, d, s);
     match tokens::perhaps(classes, d, g, b"SPECIAL") {
-        Choice::Taken(m) => join_line(a, q, 1, Reading::At(m)),
+        Choice::Taken(m) => join_line(a, q, 1, Ok(m)),
         Choice::Left => join_line(a, q, 0, g),
     }
 }
@@ -366,12 +360,6 @@ fn line_fault(quantity: bool, b: Block, v: Value) -> usize
     if large(quantity, v) { 8 } else { 0 }
 }
 
-#[derive(Clone, Copy)]
-pub enum Verdict {
-    Good(i64),
-    Bad(Fault),
-}
-
 // A line: a value too large repeats none, so that it may be judged first.
 pub fn judge_line(
     lines: &[i64],
@@ -382,7 +370,7 @@ pub fn judge_line(
     quantity: bool,
     b: Block,
     v: Value,
-) -> Verdict
+) -> Read<i64>
     requires last_in_bounds { (line_size * last ≤ length lines.now) × (first ≤ last) × (last ≤ most_lines) }
     requires marks_len { length marks.now ≡ 16384 }
     requires marked { Marked (room_at lines.now first) (last - first) stamp marks.now }
@@ -390,25 +378,25 @@ pub fn judge_line(
 {
     let f = line_fault(quantity, b, v);
     if f != 0 {
-        return Verdict::Bad(Fault {
+        return Err(Fault {
             number: f,
             place: v.place,
         });
     }
     let z = scaled(quantity, v);
     if said_before(lines, marks, stamp, first, last, v, z) {
-        return Verdict::Bad(Fault {
+        return Err(Fault {
             number: 6,
             place: v.place,
         });
     }
     if Header::MOST_LINES <= last {
-        return Verdict::Bad(Fault {
+        return Err(Fault {
             number: 8,
             place: v.place,
         });
     }
-    Verdict::Good(z)
+    Ok(z)
 }
 
 // A block with one more line, of the value v.
@@ -431,24 +419,24 @@ fn grown(b: Block, v: Value) -> Block
 // What follows a line: another value, or END VALUES and the place after it.
 #[derive(Clone, Copy)]
 pub enum Turn {
-    More { amount: Amount, block: Block },
+    More { amount: Read<Value>, block: Block },
     Over { block: Block, next: usize },
     Not(Fault),
 }
 
-fn end_values(b: Block, t: Reading) -> Turn
+fn end_values(b: Block, t: Read<usize>) -> Turn
     ensures { result ≡ end_of b t }
 {
     match t {
-        Reading::At(next) => Turn::Over { block: b, next },
-        Reading::Refused(f) => Turn::Not(f),
+        Ok(next) => Turn::Over { block: b, next },
+        Err(f) => Turn::Not(f),
     }
 }
 
 // Whether a digit stands just here: then no gap, no note and no END does.
 fn digit_at(d: &[u8], at: usize) -> bool
-    ensures { result ≡ true → (notes_on d.now (Reading.At at) ≡ Reading.At at)
-        × (choice_of d.now (Reading.At at) END ≡ Choice.Left) }
+    ensures { result ≡ true → (notes_on d.now (Ok at) ≡ Ok at)
+        × (choice_of d.now (Ok at) END ≡ Choice.Left) }
 {
     if d.len() <= at {
         return false;
@@ -465,10 +453,10 @@ fn more_apart(classes: &[u8; 256], d: &[u8], b: Block, next: usize) -> Turn
     requires { Classes classes.now }
     ensures { result ≡ more_of d.now b next }
 {
-    let t = statements::notes_on(classes, d, Reading::At(next));
+    let t = statements::notes_on(classes, d, Ok(next));
     match tokens::perhaps(classes, d, t, b"END") {
         Choice::Taken(m) => {
-            let e = tokens::word_on(classes, d, Reading::At(m), b"VALUES");
+            let e = tokens::word_on(classes, d, Ok(m), b"VALUES");
             end_values(b, e)
         }
         Choice::Left => {
@@ -487,7 +475,7 @@ fn more(classes: &[u8; 256], d: &[u8], b: Block, next: usize) -> Turn
     ensures { result ≡ more_of d.now b next }
 {
     if digit_at(d, next) {
-        let a = tokens::value_here(classes, d, Reading::At(next));
+        let a = tokens::value_here(classes, d, Ok(next));
         return Turn::More {
             amount: a,
             block: b,
@@ -523,7 +511,7 @@ pub fn stand_line(
     lines: &mut [i64],
     marks: &mut [u16],
     stamp: u16,
-) -> Verdict
+) -> Read<i64>
     requires spare { Spare (length lines.old) last × (first ≤ last) × (last ≤ most_lines) × (length marks.old ≡ 16384) }
     requires marked { Marked (room_at lines.old first) (last - first) stamp marks.old }
     requires storable { storable s }
@@ -535,12 +523,12 @@ pub fn stand_line(
 {
     let v = s.value;
     match judge_line(lines, marks, stamp, first, last, quantity, b, v) {
-        Verdict::Good(z) => {
+        Ok(z) => {
             store(lines, last, z, s);
             leave_mark(marks, stamp, v);
-            Verdict::Good(z)
+            Ok(z)
         }
-        Verdict::Bad(f) => Verdict::Bad(f),
+        Err(f) => Err(f),
     }
 }
 
@@ -569,11 +557,11 @@ fn place_line(
         (judge_line (room_at lines.old first) (last - first) first quantity b s.value) }
 {
     match stand_line(quantity, first, s, b, last, lines, marks, stamp) {
-        Verdict::Good(_) => {
+        Ok(_) => {
             let g = grown(b, s.value);
             more(classes, d, g, s.next)
         }
-        Verdict::Bad(f) => Turn::Not(f),
+        Err(f) => Turn::Not(f),
     }
 }
 
@@ -583,7 +571,7 @@ fn one_line(
     d: &[u8],
     quantity: bool,
     first: usize,
-    a: Amount,
+    a: Read<Value>,
     b: Block,
     last: usize,
     lines: &mut [i64],
@@ -600,8 +588,8 @@ fn one_line(
         marks.old stamp }
 {
     match line_rest(classes, d, a) {
-        Lined::Is(s) => { place_line(classes, d, quantity, first, s, b, last, lines, marks, stamp) }
-        Lined::Not(f) => Turn::Not(f),
+        Ok(s) => { place_line(classes, d, quantity, first, s, b, last, lines, marks, stamp) }
+        Err(f) => Turn::Not(f),
     }
 }
 
@@ -645,7 +633,7 @@ pub fn read_lines(
     classes: &[u8; 256],
     d: &[u8],
     quantity: bool,
-    a: Amount,
+    a: Read<Value>,
     b: Block,
     first: usize,
     lines: &mut [i64],
@@ -701,16 +689,16 @@ pub fn empty_block() -> Block
 }
 
 // A block without lines, behind its END VALUES.
-fn close_block(b: Block, first: usize, t: Reading) -> Listed
+fn close_block(b: Block, first: usize, t: Read<usize>) -> Listed
     ensures { result ≡ listed_of first (closed_by b t) }
 {
     match t {
-        Reading::At(next) => Listed::Is {
+        Ok(next) => Listed::Is {
             block: b,
             last: first,
             next,
         },
-        Reading::Refused(f) => Listed::Not(f),
+        Err(f) => Listed::Not(f),
     }
 }
 
@@ -735,7 +723,7 @@ fn range_then(
     match r {
         Ranged::Not(f) => Listed::Not(f),
         Ranged::Is { block, with, next } => {
-            let t = statements::notes_on(classes, d, Reading::At(next));
+            let t = statements::notes_on(classes, d, Ok(next));
             if with {
                 let a = tokens::value_here(classes, d, t);
                 return read_lines(classes, d, quantity, a, block, first, lines, marks, stamp);
@@ -753,7 +741,7 @@ pub fn values_on(
     classes: &[u8; 256],
     d: &[u8],
     quantity: bool,
-    t: Reading,
+    t: Read<usize>,
     first: usize,
     lines: &mut [i64],
     marks: &mut [u16],
@@ -774,7 +762,7 @@ pub fn values_on(
     let g = tokens::gap_on(classes, d, p);
     match tokens::perhaps(classes, d, g, b"TO") {
         Choice::Taken(m) => {
-            let r = range_rest(classes, d, quantity, a, Reading::At(m));
+            let r = range_rest(classes, d, quantity, a, Ok(m));
             range_then(classes, d, quantity, r, first, lines, marks, stamp)
         }
         Choice::Left => {

@@ -1,41 +1,35 @@
 -- THE CODE'S BOOKS, which contracts inside the library name; crate `bridge` proves them equal to the rule of crate `reading`.
 -- A variable is VARIABLE id, NAME, LABEL, TYPE, POSITION a [TO b], then what its type has.
-use Rattle.std.specs.Prelude.{ℕ, List}
-use Rattle.tokens.specs.declared.Reading.{Reading}
-use Rattle.tokens.specs.declared.Reading.TheVariants.{At, Refused}
-use Rattle.tokens.specs.declared.Number.{Number}
-use Rattle.tokens.specs.declared.Number.TheVariants as number
-use Rattle.tokens.specs.declared.Phrase.{Phrase}
-use Rattle.tokens.specs.declared.Phrase.TheVariants as phrase
+use Rattle.std.specs.Prelude.{ℕ, List, Ok, Err}
 use Rattle.tokens.specs.Token.{past_number, past_string}
 use Rattle.statements.specs.declared.Typed.{Typed}
 use Rattle.statements.specs.declared.Typed.TheVariants as typed
-use Rattle.statements.specs.declared.Stated.{Stated}
-use Rattle.statements.specs.declared.Stated.TheVariants as stated
 use Rattle.statements.specs.rule.Words.{NAME, LABEL}
 use Rattle.statements.specs.Note.{text_on}
 use Rattle.statements.specs.Kinds.{type_on}
 use Rattle.statements.specs.Position.{position_on}
-use Rattle.variables.specs.declared.Titled.{Titled}
-use Rattle.variables.specs.declared.Titled.TheVariants as titled
-use Rattle.variables.specs.declared.Headed.{Headed}
-use Rattle.variables.specs.declared.Headed.TheVariants.{Is, Not}
+use Rattle.tokens.specs.rule.Gap.{Read}
+use Rattle.variables.specs.declared.Titles.{Titles}
+use Rattle.statements.specs.declared.Position.{Position}
+use Rattle.tokens.specs.declared.Figures.{Figures}
+use Rattle.variables.specs.declared.Head.{Head}
+use Rattle.tokens.specs.declared.Quoted.{Quoted}
 
-unfoldable pub past_type : Typed → Reading
-past_type (typed.Is k n) = At n
-past_type (typed.Not f) = Refused f
+unfoldable pub past_type : Typed → Read ℕ
+past_type (typed.Is k n) = Ok n
+past_type (typed.Not f) = Err f
 
-unfoldable pub join_titles : Number → Phrase → Phrase → Titled
-join_titles (number.Not f) n l = titled.Not f
-join_titles (number.Is x) (phrase.Not f) l = titled.Not f
-join_titles (number.Is x) (phrase.Is n) (phrase.Not f) = titled.Not f
-join_titles (number.Is x) (phrase.Is n) (phrase.Is l) = titled.Is (record { ident = x.size; name = n; label = l })
+unfoldable pub join_titles : Read Figures → Read Quoted → Read Quoted → Read Titles
+join_titles (Err f) n l = Err f
+join_titles (Ok x) (Err f) l = Err f
+join_titles (Ok x) (Ok n) (Err f) = Err f
+join_titles (Ok x) (Ok n) (Ok l) = Ok (record { ident = x.size; name = n; label = l })
 
-unfoldable pub join_head : Titled → Typed → Stated → Headed
-join_head (titled.Not f) k p = Not f
-join_head (titled.Is x) (typed.Not f) p = Not f
-join_head (titled.Is x) (typed.Is k n) (stated.Not f) = Not f
-join_head (titled.Is x) (typed.Is k n) (stated.Is q) = Is (record {
+unfoldable pub join_head : Read Titles → Typed → Read Position → Read Head
+join_head (Err f) k p = Err f
+join_head (Ok x) (typed.Not f) p = Err f
+join_head (Ok x) (typed.Is k n) (Err f) = Err f
+join_head (Ok x) (typed.Is k n) (Ok q) = Ok (record {
   ident = x.ident;
   name = x.name;
   label = x.label;
@@ -47,7 +41,7 @@ join_head (titled.Is x) (typed.Is k n) (stated.Is q) = Is (record {
 })
 
 -- NAME, LABEL, TYPE and POSITION behind the ident i
-unfoldable pub head_on : List ℕ → Number → Headed
+unfoldable pub head_on : List ℕ → Read Figures → Read Head
 head_on d i =
     let n = text_on d (past_number i) NAME in
     let l = text_on d (past_string n) LABEL in

@@ -14,8 +14,8 @@ ghost use Rattle.variables.specs.Head.{past_type, join_titles, join_head, head_o
 ghost use Rattle.variables.specs.Rest.{values_rest, join_size, join_nothing, spread_then, rest_of};
 ghost use Rattle.variables.specs.Rest.{rested_of, Stored};
 
-use statements::{Spreading, Stated, Typed};
-use tokens::{Choice, Fault, Figures, Number, Phrase, Quoted, Reading};
+use statements::Typed;
+use tokens::{Choice, Fault, Figures, Quoted, Read};
 use values::{Block, Listed};
 
 // Whether an ident has more than four digits, is 0, or was met before.
@@ -35,32 +35,38 @@ fn wrong_ident(seen: &[u8], x: Figures) -> bool
 }
 
 // 5 comes before 8 at a 513th variable.
-pub fn judge_ident(seen: &[u8], count: usize, n: Number) -> Number
+pub fn judge_ident(seen: &[u8], count: usize, n: Read<Figures>) -> Read<Figures>
     requires { length seen.now ≡ 10000 }
     ensures { result ≡ judge_ident (marked seen.now) count n }
 {
     match n {
-        Number::Is(x) => {
+        Ok(x) => {
             if wrong_ident(seen, x) {
-                return Number::Not(Fault {
+                return Err(Fault {
                     number: 5,
                     place: x.place,
                 });
             }
             if 512 <= count {
-                return Number::Not(Fault {
+                return Err(Fault {
                     number: 8,
                     place: x.place,
                 });
             }
-            Number::Is(x)
+            Ok(x)
         }
-        Number::Not(f) => Number::Not(f),
+        Err(f) => Err(f),
     }
 }
 
 // VARIABLE and its ident, where so many variables were read before, whose idents are marked.
-pub fn ident_on(classes: &[u8; 256], d: &[u8], t: Reading, seen: &[u8], count: usize) -> Number
+pub fn ident_on(
+    classes: &[u8; 256],
+    d: &[u8],
+    t: Read<usize>,
+    seen: &[u8],
+    count: usize,
+) -> Read<Figures>
     requires classes { Classes classes.now }
     requires seen_len { length seen.now ≡ 10000 }
     ensures { result ≡ ident_on d.now t (marked seen.now) count }
@@ -71,12 +77,12 @@ pub fn ident_on(classes: &[u8; 256], d: &[u8], t: Reading, seen: &[u8], count: u
     judge_ident(seen, count, n)
 }
 
-fn past_type(k: Typed) -> Reading
+fn past_type(k: Typed) -> Read<usize>
     ensures { result ≡ past_type k }
 {
     match k {
-        Typed::Is { kind: _, next } => Reading::At(next),
-        Typed::Not(f) => Reading::Refused(f),
+        Typed::Is { kind: _, next } => Ok(next),
+        Typed::Not(f) => Err(f),
     }
 }
 
@@ -93,12 +99,6 @@ pub struct Head {
     pub next: usize,
 }
 
-#[derive(Clone, Copy)]
-pub enum Headed {
-    Is(Head),
-    Not(Fault),
-}
-
 // The ident and the texts.
 #[derive(Clone, Copy)]
 pub struct Titles {
@@ -107,23 +107,17 @@ pub struct Titles {
     pub label: Quoted,
 }
 
-#[derive(Clone, Copy)]
-pub enum Titled {
-    Is(Titles),
-    Not(Fault),
-}
-
 // The first refusal met among them.
-fn join_titles(i: Number, n: Phrase, l: Phrase) -> Titled
+fn join_titles(i: Read<Figures>, n: Read<Quoted>, l: Read<Quoted>) -> Read<Titles>
     ensures { result ≡ join_titles i n l }
 {
     match i {
-        Number::Not(f) => Titled::Not(f),
-        Number::Is(x) => match n {
-            Phrase::Not(f) => Titled::Not(f),
-            Phrase::Is(name) => match l {
-                Phrase::Not(f) => Titled::Not(f),
-                Phrase::Is(label) => Titled::Is(Titles {
+        Err(f) => Err(f),
+        Ok(x) => match n {
+            Err(f) => Err(f),
+            Ok(name) => match l {
+                Err(f) => Err(f),
+                Ok(label) => Ok(Titles {
                     ident: x.size,
                     name,
                     label,
@@ -133,19 +127,19 @@ fn join_titles(i: Number, n: Phrase, l: Phrase) -> Titled
     }
 }
 
-fn join_head(t: Titled, k: Typed, p: Stated) -> Headed
+fn join_head(t: Read<Titles>, k: Typed, p: Read<Position>) -> Read<Head>
     ensures { result ≡ join_head t k p }
 {
     match t {
-        Titled::Not(f) => Headed::Not(f),
-        Titled::Is(x) => match k {
-            Typed::Not(f) => Headed::Not(f),
+        Err(f) => Err(f),
+        Ok(x) => match k {
+            Typed::Not(f) => Err(f),
             Typed::Is { kind, next: _ } => match p {
-                Stated::Not(f) => Headed::Not(f),
-                Stated::Is(q) => {
+                Err(f) => Err(f),
+                Ok(q) => {
                     let name = x.name;
                     let label = x.label;
-                    Headed::Is(Head {
+                    Ok(Head {
                         ident: x.ident,
                         name,
                         label,
@@ -162,7 +156,7 @@ fn join_head(t: Titled, k: Typed, p: Stated) -> Headed
 }
 
 // NAME and LABEL with their texts. Each knows the word that it compares, as the readers of the other statements do.
-fn name_on(classes: &[u8; 256], d: &[u8], t: Reading) -> Phrase
+fn name_on(classes: &[u8; 256], d: &[u8], t: Read<usize>) -> Read<Quoted>
     requires { Classes classes.now }
     ensures { result ≡ text_on d.now t NAME }
 {
@@ -171,7 +165,7 @@ fn name_on(classes: &[u8; 256], d: &[u8], t: Reading) -> Phrase
     tokens::string_on(classes, d, w)
 }
 
-fn label_on(classes: &[u8; 256], d: &[u8], t: Reading) -> Phrase
+fn label_on(classes: &[u8; 256], d: &[u8], t: Read<usize>) -> Read<Quoted>
     requires { Classes classes.now }
     ensures { result ≡ text_on d.now t LABEL }
 {
@@ -181,7 +175,7 @@ fn label_on(classes: &[u8; 256], d: &[u8], t: Reading) -> Phrase
 }
 
 // NAME, LABEL, TYPE and POSITION behind an ident that stands.
-pub fn head_on(classes: &[u8; 256], d: &[u8], i: Number) -> Headed
+pub fn head_on(classes: &[u8; 256], d: &[u8], i: Read<Figures>) -> Read<Head>
     requires { Classes classes.now }
     ensures { result ≡ head_on d.now i }
 {
@@ -209,33 +203,27 @@ pub struct Rest {
     pub next: usize,
 }
 
-#[derive(Clone, Copy)]
-pub enum Rested {
-    Is(Rest),
-    Not(Fault),
-}
-
 fn values_rest(
     classes: &[u8; 256],
     d: &[u8],
     quantity: bool,
-    t: Reading,
+    t: Read<usize>,
     subfields: u64,
     subwidth: u64,
     first: usize,
     lines: &mut [i64],
     marks: &mut [u16],
     stamp: u16,
-) -> Rested
+) -> Read<Rest>
     requires classes { Classes classes.now }
     requires d_len_bound { length d.now ≤ 1048576 }
     requires first_in_bounds { (line_size * first ≤ length lines.old) × (first ≤ most_lines) × (length marks.old ≡ 16384) }
-    ensures { Unless (result ≡ Rested.Not short) (length lines.old < line_size * most_lines)
+    ensures { Unless (result ≡ Err short) (length lines.old < line_size * most_lines)
         ((result ≡ rested_of first (values_rest d.now quantity first t subfields subwidth))
         × Stored first (values_rest d.now quantity first t subfields subwidth) lines.old lines.new) }
 {
     match values::values_on(classes, d, quantity, t, first, lines, marks, stamp) {
-        Listed::Is { block, last, next } => Rested::Is(Rest {
+        Listed::Is { block, last, next } => Ok(Rest {
             block,
             last,
             subfields,
@@ -243,18 +231,18 @@ fn values_rest(
             size: 0,
             next,
         }),
-        Listed::Not(f) => Rested::Not(f),
+        Listed::Not(f) => Err(f),
     }
 }
 
 // A variable without values: its size, or 0.
-fn join_size(n: Number, first: usize) -> Rested
+fn join_size(n: Read<Figures>, first: usize) -> Read<Rest>
     ensures { result ≡ rested_of first (join_size n) }
 {
     match n {
-        Number::Is(x) => {
+        Ok(x) => {
             let block = values::empty_block();
-            Rested::Is(Rest {
+            Ok(Rest {
                 block,
                 last: first,
                 subfields: 0,
@@ -263,17 +251,17 @@ fn join_size(n: Number, first: usize) -> Rested
                 next: x.next,
             })
         }
-        Number::Not(f) => Rested::Not(f),
+        Err(f) => Err(f),
     }
 }
 
-fn join_nothing(t: Reading, first: usize) -> Rested
+fn join_nothing(t: Read<usize>, first: usize) -> Read<Rest>
     ensures { result ≡ rested_of first (join_nothing t) }
 {
     match t {
-        Reading::At(next) => {
+        Ok(next) => {
             let block = values::empty_block();
-            Rested::Is(Rest {
+            Ok(Rest {
                 block,
                 last: first,
                 subfields: 0,
@@ -282,7 +270,7 @@ fn join_nothing(t: Reading, first: usize) -> Rested
                 next,
             })
         }
-        Reading::Refused(f) => Rested::Not(f),
+        Err(f) => Err(f),
     }
 }
 
@@ -290,29 +278,29 @@ fn join_nothing(t: Reading, first: usize) -> Rested
 fn spread_then(
     classes: &[u8; 256],
     d: &[u8],
-    t: Reading,
+    t: Read<usize>,
     width: u64,
     first: usize,
     lines: &mut [i64],
     marks: &mut [u16],
     stamp: u16,
-) -> Rested
+) -> Read<Rest>
     requires classes { Classes classes.now }
     requires d_len_bound { length d.now ≤ 1048576 }
     requires first_in_bounds { (line_size * first ≤ length lines.old) × (first ≤ most_lines) × (length marks.old ≡ 16384) }
-    ensures { Unless (result ≡ Rested.Not short) (length lines.old < line_size * most_lines)
+    ensures { Unless (result ≡ Err short) (length lines.old < line_size * most_lines)
         ((result ≡ rested_of first (spread_then d.now first t width))
         × Stored first (spread_then d.now first t width) lines.old lines.new) }
 {
     let n = statements::notes_on(classes, d, t);
     match tokens::perhaps(classes, d, n, b"SPREAD") {
-        Choice::Taken(m) => match statements::spread_rest(classes, d, Reading::At(m), width) {
-            Spreading::Is(s) => {
+        Choice::Taken(m) => match statements::spread_rest(classes, d, Ok(m), width) {
+            Ok(s) => {
                 values_rest(
                     classes,
                     d,
                     false,
-                    Reading::At(s.next),
+                    Ok(s.next),
                     s.count,
                     s.width,
                     first,
@@ -321,7 +309,7 @@ fn spread_then(
                     stamp,
                 )
             }
-            Spreading::Not(f) => Rested::Not(f),
+            Err(f) => Err(f),
         },
         Choice::Left => values_rest(classes, d, false, n, 0, 0, first, lines, marks, stamp),
     }
@@ -333,17 +321,17 @@ pub fn rest_on(
     classes: &[u8; 256],
     d: &[u8],
     kind: usize,
-    t: Reading,
+    t: Read<usize>,
     width: u64,
     first: usize,
     lines: &mut [i64],
     marks: &mut [u16],
     stamp: u16,
-) -> Rested
+) -> Read<Rest>
     requires classes { Classes classes.now }
     requires d_len_bound { length d.now ≤ 1048576 }
     requires first_in_bounds { (line_size * first ≤ length lines.old) × (first ≤ most_lines) × (length marks.old ≡ 16384) }
-    ensures { Unless (result ≡ Rested.Not short) (length lines.old < line_size * most_lines)
+    ensures { Unless (result ≡ Err short) (length lines.old < line_size * most_lines)
         ((result ≡ rested_of first (rest_of d.now first kind t width))
         × Stored first (rest_of d.now first kind t width) lines.old lines.new) }
 {

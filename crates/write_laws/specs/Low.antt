@@ -1,15 +1,13 @@
 -- 1 TO 9: a definition that is refused whatever table is lent is refused with one of these, and never with 10. What is met in reading is 2
 -- to 8 (crate `refusals`), and 10 goes where there is room for the table.
-use Rattle.std.specs.Prelude.{◌≡◌, refl, ℕ, suc, ◌-◌, ◌≤◌, ltb}
+use Rattle.std.specs.Prelude.{◌≡◌, refl, ℕ, suc, ◌-◌, ◌≤◌, ltb, Ok, Err}
 use mathlib.Core.List.{List, [], ◌∷◌, ◌++◌}
 use native.Mathlib.Omega.{arith}
 use Rattle.std.proofs.Math.ListN.{length}
 use Rattle.std.proofs.Common.{le-ltb}
-use Rattle.tokens.specs.declared.Reading.{Reading}
-use Rattle.tokens.specs.declared.Reading.TheVariants.{At, Refused}
 use Rattle.tokens.specs.declared.Choice.{Choice}
 use Rattle.tokens.specs.declared.Choice.TheVariants.{Taken, Left}
-use Rattle.tokens.specs.rule.Gap.{fault}
+use Rattle.tokens.specs.rule.Gap.{fault, Read}
 use Rattle.tokens.specs.Token.{choice_of, word_on}
 use Rattle.statements.specs.rule.Words.{END, RECORD, SURVEY, SSS}
 use Rattle.statements.specs.Note.{notes_on, statement_on}
@@ -49,7 +47,7 @@ module _ (d : List ℕ) where
       let count = length s.earlier in
       by (entry_of d s.at met count before) (entry_of_lem d s.at met count before h)
     where
-      ends : (l : List Variable) (t : Reading) (c : Choice) → Stands d t → ChoiceStands d c
+      ends : (l : List Variable) (t : Read ℕ) (c : Choice) → Stands d t → ChoiceStands d c
           → Onward (λ (c : Course). Stands d c.at) VariablesLow (end_or l t c)
       ends l t (Taken m) k i = i
       ends l t Left k i = k
@@ -57,12 +55,12 @@ module _ (d : List ℕ) where
       by : (x : Entry) → EntryStands d (length s.earlier) x
           → Onward (λ (c : Course). Stands d c.at) VariablesLow (entered d s.earlier x)
       by (entry.Is v n) k =
-          let t = notes_on d (At n) in
-          let l = notes_on_lem d (At n) k.next in
+          let t = notes_on d (Ok n) in
+          let l = notes_on_lem d (Ok n) k.next in
           ends (s.earlier ++ v ∷ []) t (choice_of d t END) l (choice_of_lem d t END l)
       by (entry.Not g) k = k.to_eight
 
-  variables_from_lem : (t : Reading) → Stands d t → VariablesLow (variables_from d (course t []))
+  variables_from_lem : (t : Read ℕ) → Stands d t → VariablesLow (variables_from d (course t []))
   unfolding variables_from
   variables_from_lem t h =
       loop_keeps (λ (f : ℕ) (c : Course). Stands d c.at) VariablesLow (variable_step d) (variables.Not (fault 0 0)) (λ s r. omega arith)
@@ -71,9 +69,9 @@ module _ (d : List ℕ) where
   ends_on_lem : (m : ℕ) → m ≤ length d → Stands d (ends_on d m)
   unfolding ends_on
   ends_on_lem m h =
-      let recorded = word_on d (At m) RECORD in
+      let recorded = word_on d (Ok m) RECORD in
       let surveyed = word_on d (statement_on d recorded END) SURVEY in
-      let a = word_on_lem d (At m) RECORD h in
+      let a = word_on_lem d (Ok m) RECORD h in
       let b = word_on_lem d (statement_on d recorded END) SURVEY (statement_on_lem d recorded END a) in
       word_on_lem d (statement_on d surveyed END) SSS (statement_on_lem d surveyed END b)
 
@@ -84,9 +82,9 @@ module _ (d : List ℕ) where
   survey_low : ReadLow (survey_of d)
   unfolding survey_of
   survey_low = by (variables_from d (course (front_on d).next [])) (variables_from_lem (front_on d).next (front_on_lem d)) where
-    ends : (l : List Variable) (t : Reading) → Stands d t → ReadLow (ended (front_on d) l t)
-    ends l (At n) k = tt
-    ends l (Refused f) k = k.to_eight
+    ends : (l : List Variable) (t : Read ℕ) → Stands d t → ReadLow (ended (front_on d) l t)
+    ends l (Ok n) k = tt
+    ends l (Err f) k = k.to_eight
 
     by : (v : Variables) → VariablesLow v → ReadLow (closed d (front_on d) v)
     by (variables.Is l m) h = ends l (ends_on d m) (ends_on_lem m h)

@@ -1,6 +1,6 @@
 -- A VARIABLE IS MEASURED AS THE RULE HAS IT: what the code's settling answers for the structs that a variable's numbers fill is what `held`
 -- says of the variable, also where a spread has numbers beyond their cap.
-use Rattle.std.specs.Prelude.{◌≡◌, Bool, cond, List, [], ◌∷◌, ℕ, ◌+◌, ◌-◌, ◌*◌, ◌≤◌, ℤ, length}
+use Rattle.std.specs.Prelude.{◌≡◌, Bool, cond, List, [], ◌∷◌, ℕ, ◌+◌, ◌-◌, ◌*◌, ◌≤◌, ℤ, length, Ok}
 use Rattle.std.proofs.Math.Path.{refl}
 use Rattle.std.proofs.Common.{◌∙◌, ap, arith}
 use Rattle.std.proofs.Math.Bool.{true, false, not}
@@ -13,7 +13,6 @@ use Rattle.layout.specs.declared.Kind.TheVariants as kind
 use Rattle.layout.specs.declared.Spread.TheVariants.{Bits, Fields}
 use Rattle.scan.specs.Number.{capped}
 use Rattle.sound.specs.rule.Sound.{room_good}
-use Rattle.tokens.specs.declared.Reading.TheVariants.{At}
 use Rattle.tokens.specs.rule.Gap.{fault}
 use Rattle.measures.specs.Width.{number_in, Measurable}
 use Rattle.measures.specs.Survey.{counted_in, holds_in}
@@ -176,8 +175,8 @@ module _ (i j before c w : ℕ) (v : Variable) (told : Told (room_in v) c w v.co
 
   pub settled_same : (n : ℕ)
       → settled_by (number_in (pasted room (4 * before) (cells_of (lines_of v))) before) (head_with i j v)
-      (counted_in before (telling_with c w v.content)) before (At n)
+      (counted_in before (telling_with c w v.content)) before (Ok n)
       ≡ stood_from before (held v n)
   settled_same n =
-      rw (← saids_cells (lines_of v)) (settled_is (head_with i j v) (telling_with c w v.content) before g s room stands (At n))
+      rw (← saids_cells (lines_of v)) (settled_is (head_with i j v) (telling_with c w v.content) before g s room stands (Ok n))
       ∙ held_same i j before v n g.low told

@@ -1,4 +1,5 @@
 -- A definition as a whole, by what the code is told of its parts.
+use Rattle.std.specs.Prelude.{Ok, Err}
 use mathlib.Core.Path.{◌≡◌, refl, ◌∙◌, sym, ap}
 use mathlib.Core.Bool.{Bool, true, false, cond}
 use mathlib.Core.List.{List, [], ◌∷◌, ◌++◌}
@@ -21,8 +22,6 @@ use Rattle.prologs.specs.declared.Prolog.TheVariants as prolog
 use Rattle.prologs.proofs.Steps.{stands_in}
 use Rattle.prologs.proofs.Exactly.{reach, reaches, tells}
 use Rattle.tokens.specs.declared.Fault.{Fault}
-use Rattle.tokens.specs.declared.Reading.{Reading}
-use Rattle.tokens.specs.declared.Reading.TheVariants.{At, Refused}
 use Rattle.survey.specs.rule.Table.{lines_all, highest_in, all_lines}
 use Rattle.reading.specs.rule.Result.{Result, Is, Not, bind}
 use Rattle.reading.specs.rule.Token.{passed}
@@ -52,9 +51,10 @@ use Rattle.sheets.proofs.Few.{few}
 use Rattle.xml_files.proofs.Lists.{highest_low}
 use Rattle.xml_files.proofs.Rans.{moved_rows}
 use Rattle.xml_files.proofs.Settles.{lying_here}
+use Rattle.tokens.specs.rule.Gap.{Read}
 
 -- ---- the code's answers as the rule's
-passed_is : {r : Reading} (x : Result Unit) → r ≡ reading_of x → passed r ≡ x
+passed_is : {r : Read ℕ} (x : Result Unit) → r ≡ reading_of x → passed r ≡ x
 passed_is (Is u n) e = ap passed e
 passed_is (Not f) e = ap passed e
 
@@ -170,17 +170,17 @@ module _ (bad : Bool) (d : List ℕ) (long : length d ≤ 1048576) (m : Manner) 
       unfolding tally_of
       lines_here = ap (λ (z : Tally). z.lines) s.tally
 
-      module _ (latin : Bool) (x : Reading) (shut : x ≡ reading_of (sheet_closed bad d k)) where
-        pub body_ends : (f : Fault) → x ≡ Refused f
+      module _ (latin : Bool) (x : Read ℕ) (shut : x ≡ reading_of (sheet_closed bad d k)) where
+        pub body_ends : (f : Fault) → x ≡ Err f
             → RoomsRead (λ n. xml_settled latin d n (body_of bad d m at)) rows lines (rooms.Refused f.number f.place)
         unfolding body_of
         body_ends f i = rooms_refused f.number f.place (λ n. rw (s.are, sym (passed_is (sheet_closed bad d k) shut) ∙ ap passed i))
 
-        body_is : (j : ℕ) → x ≡ At j → (n : ℕ) → xml_settled latin d n (body_of bad d m at) ≡ judge_xml_names latin d n m.standard s.read
+        body_is : (j : ℕ) → x ≡ Ok j → (n : ℕ) → xml_settled latin d n (body_of bad d m at) ≡ judge_xml_names latin d n m.standard s.read
         unfolding body_of
         body_is j i n = rw (s.are, sym (passed_is (sheet_closed bad d k) shut) ∙ ap passed i)
 
-        pub body_here : (j : ℕ) (o : Rooms) → x ≡ At j → NamesSettled latin d m.standard y rows o
+        pub body_here : (j : ℕ) (o : Rooms) → x ≡ Ok j → NamesSettled latin d m.standard y rows o
             → RoomsRead (λ n. xml_settled latin d n (body_of bad d m at)) rows lines o
         body_here j o i w = record {
           stands = λ {y = z} e.

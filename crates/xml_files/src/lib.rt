@@ -20,7 +20,7 @@ use layout::Row;
 use prefaces::{Manner, Prefaced};
 use prologs::Prolog;
 use sheets::Entered;
-use tokens::{Fault, Reading};
+use tokens::{Fault, Read};
 
 // ---- all variables
 // A variable whose start tag stands there, or another tag.
@@ -215,8 +215,8 @@ fn read_body(
 {
     match read_variables(powers, bad, d, at, m, rows, lines, marks, seen) {
         Run::Is { tally, next } => match prefaces::read_closing(bad, d, next) {
-            Reading::At(_) => settle(classes, latin, d, m.standard, tally, rows),
-            Reading::Refused(f) => Rooms::Refused {
+            Ok(_) => settle(classes, latin, d, m.standard, tally, rows),
+            Err(f) => Rooms::Refused {
                 number: f.number,
                 place: f.place,
             },

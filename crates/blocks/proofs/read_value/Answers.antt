@@ -11,17 +11,17 @@ pub word-requires : goal.word-requires
 word-requires c =
     value_slot _ _ c.args.languages _ _ c.requires (sym c.read_tag.ensures ∙ c.in-Read.is)
 
-pub returns-in-Is : goal.returns-in-Is
-returns-in-Is c =
+pub returns-in-Ok : goal.returns-in-Ok
+returns-in-Ok c =
     let b = rw c.mode_of-mode.ensures at c.body_at.ensures in
     c.word.ensures ∙ value_found _ _ _ _ _ c.requires (sym c.read_tag.ensures
-    ∙ c.in-Read.is) (sym b ∙ c.in-Is.is)
+    ∙ c.in-Read.is) (sym b ∙ c.in-Ok.is)
 
-pub returns-in-Not : goal.returns-in-Not
-returns-in-Not c =
+pub returns-in-Err : goal.returns-in-Err
+returns-in-Err c =
     let b = rw c.mode_of-mode.ensures at c.body_at.ensures in
     value_not _ _ _ _ _ c.requires (sym c.read_tag.ensures
-    ∙ c.in-Read.is) (sym b ∙ c.in-Not.is)
+    ∙ c.in-Read.is) (sym b ∙ c.in-Err.is)
 
 pub returns-in-Fault : goal.returns-in-Fault
 returns-in-Fault c = value_fault _ _ _ _ _ c.requires

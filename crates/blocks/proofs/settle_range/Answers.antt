@@ -10,28 +10,28 @@ below_in-below-requires c =
     below_asks a.d.now a.quantity a.h p.0 p.1 (c.amount_at-a.ensures p.0.fits)
     (c.amount_at-b.ensures p.1.fits)
 
-pub returns-in-Good : goal.returns-in-Good
+pub returns-in-Ok : goal.returns-in-Ok
 unfolding settled_of
-returns-in-Good c =
+returns-in-Ok c =
     let p = c.requires in
     let a = c.args in
     let e =
     sym (range_settled a.d.now a.quantity a.h p.0 p.1
     (c.amount_at-a.ensures p.0.fits)
     (c.amount_at-b.ensures p.1.fits) a.next c.below_in-below.ensures)
-    ∙ sym c.judge_pair.ensures ∙ c.in-Good.is in
+    ∙ sym c.judge_pair.ensures ∙ c.in-Ok.is in
     rw e (c.unless.ensures ∙ rw (c.lower-all.ensures, c.fault_at-own.ensures))
 
-pub returns-in-Bad : goal.returns-in-Bad
+pub returns-in-Err : goal.returns-in-Err
 unfolding settled_of
-returns-in-Bad c =
+returns-in-Err c =
     let p = c.requires in
     let a = c.args in
     let e =
     sym (range_settled a.d.now a.quantity a.h p.0 p.1
     (c.amount_at-a.ensures p.0.fits)
     (c.amount_at-b.ensures p.1.fits) a.next c.below_in-below.ensures)
-    ∙ sym c.judge_pair.ensures ∙ c.in-Bad.is in
+    ∙ sym c.judge_pair.ensures ∙ c.in-Err.is in
     rw e
 
 pub amount_at-a-requires : goal.amount_at-a-requires

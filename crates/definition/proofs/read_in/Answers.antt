@@ -38,22 +38,22 @@ settle-requires c =
       );
     }
 
-pub returns-in-At : goal.returns-in-At
-returns-in-At c =
+pub returns-in-Ok : goal.returns-in-Ok
+returns-in-Ok c =
     let g = c.in-Is.is in
     let e = unless_told c.read_variables.ensures (λ s. let q = sym s ∙ g in none cc) in
     holds (rooms_here c.args.d.now c.requires.d_len_bound _ (ap (λ (f : Front). f.next) c.read_front-front.ensures) _
     c.args.rows.now _ c.args.lines.now _ e.0 e.1 _ _ _ _ _ _ g
-    c.read_ends.ensures c.in-At.is (ap (λ (f : Front). f.heading.standard)
+    c.read_ends.ensures c.in-Ok.is (ap (λ (f : Front). f.heading.standard)
     c.read_front-front.ensures) c.settle.ensures)
 
-pub returns-in-Refused : goal.returns-in-Refused
-returns-in-Refused c =
+pub returns-in-Err : goal.returns-in-Err
+returns-in-Err c =
     let g = c.in-Is.is in
     let e = unless_told c.read_variables.ensures (λ s. let q = sym s ∙ g in none cc) in
     holds (rooms_ends c.args.d.now c.requires.d_len_bound _ (ap (λ (f : Front). f.next) c.read_front-front.ensures) _
     c.args.rows.now _ c.args.lines.now _ e.0 e.1 _ _ _ _ g c.read_ends.ensures
-    c.in-Refused.is)
+    c.in-Err.is)
 
 pub returns-in-Not : goal.returns-in-Not
 returns-in-Not c =

@@ -18,27 +18,27 @@ size_in-requires c =
     let h = c.in-Read in
     let n = (tag_within a.bad a.d.now a.place [] [] [] 0 0 0 0 a.end _ _ _ _ (sym c.read_bare.ensures
     ∙ c.in-Read.is)).2 in
-    body_lies a.bad a.d.now SIZE 0 h.empty h.next n (sym c.body_at.ensures ∙ c.in-Is.is)
+    body_lies a.bad a.d.now SIZE 0 h.empty h.next n (sym c.body_at.ensures ∙ c.in-Ok.is)
 
-pub returns-in-Is : goal.returns-in-Is
+pub returns-in-Ok : goal.returns-in-Ok
 unfolding size
-returns-in-Is c =
+returns-in-Ok c =
     let a = c.args in
     let h = c.in-Read in
     let t = body_is (body a.bad a.d.now SIZE 0 h.empty h.next)
-    (sym c.body_at.ensures ∙ c.in-Is.is) in
+    (sym c.body_at.ensures ∙ c.in-Ok.is) in
     rw (sym c.read_bare.ensures ∙ c.in-Read.is) (rw t.reads
     (c.size_in.ensures a.bad h.held.unknown t.body (body_tells a.bad a.d.now SIZE 0 h.empty h.next t)
     c.behind_tag-behind.ensures))
 
-pub returns-in-Not : goal.returns-in-Not
+pub returns-in-Err : goal.returns-in-Err
 unfolding size
-returns-in-Not c =
+returns-in-Err c =
     let a = c.args in
     let h = c.in-Read in
     rw (sym c.read_bare.ensures ∙ c.in-Read.is)
     (rw (body_refused (body a.bad a.d.now SIZE 0 h.empty h.next)
-    (sym c.body_at.ensures ∙ c.in-Not.is)))
+    (sym c.body_at.ensures ∙ c.in-Err.is)))
 
 pub returns-in-Fault : goal.returns-in-Fault
 unfolding size

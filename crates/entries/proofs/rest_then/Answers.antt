@@ -11,13 +11,13 @@ use Rattle.entries.proofs.rest_then.Goals.{After-end_variable-end}
 known_here : (c : After-end_variable-end)
     → Known c.args.d.now c.args.h
     c.args.before c.args.lines.now c.rest_on.new.lines
-    c.in-Is.r
+    c.in-Ok.r
 known_here c =
     let a = c.args in
     let p = c.requires in
-    let e = unless_told c.rest_on.ensures (λ s. let q = sym s ∙ c.in-Is.is in none cc) in
+    let e = unless_told c.rest_on.ensures (λ s. let q = sym s ∙ c.in-Ok.is in none cc) in
     known a.d.now a.h a.before p.d_len_bound p.before_in_bounds.1 p.good_head a.lines.now _ p.before_in_bounds.0
-    c.rest_on.auto.lines _ _ e.0 e.1 c.in-Is.is
+    c.rest_on.auto.lines _ _ e.0 e.1 c.in-Ok.is
 
 -- the room is as long as before
 kept_here : (c : After-end_variable-end)
@@ -34,12 +34,12 @@ settle-requires c =
           p.before_in_bounds.0 (kept_here c) _ (known_here c);
     }
 
-pub returns-in-Is : goal.returns-in-Is
-returns-in-Is c =
+pub returns-in-Ok : goal.returns-in-Ok
+returns-in-Ok c =
     let a = c.args in
     let p = c.requires in
-    let k = known_here (goal.at.returns-in-Is c).After-end_variable-end in
-    let e = kept_here (goal.at.returns-in-Is c).After-end_variable-end in
+    let k = known_here (goal.at.returns-in-Ok c).After-end_variable-end in
+    let e = kept_here (goal.at.returns-in-Ok c).After-end_variable-end in
     holds (
       stood_here a.d.now a.h a.before p.d_len_bound p.before_in_bounds.1 p.good_head a.lines.now _ p.before_in_bounds.0 e _ k
           _ _ c.end_variable-end.ensures c.settle.ensures,
@@ -47,10 +47,10 @@ returns-in-Is c =
           k,
     )
 
-pub returns-in-Not : goal.returns-in-Not
-returns-in-Not c =
+pub returns-in-Err : goal.returns-in-Err
+returns-in-Err c =
     let a = c.args in
-    let g = c.in-Not.is in
+    let g = c.in-Err.is in
     unless_on (λ s. let q = sym g ∙ s in cc) (λ l. l)
     (λ e. (stood_not a.d.now a.h a.before _ _ e.0 g, stored_not a.d.now a.h a.before _ _ _ _ e.0 g))
     c.rest_on.ensures

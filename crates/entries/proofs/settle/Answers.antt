@@ -1,20 +1,20 @@
 use mathlib.Core.Path.{◌∙◌, sym}
 use Rattle.entries.proofs.settle.Goals as goal
 
-pub returns-in-Is : goal.returns-in-Is
-returns-in-Is c =
+pub returns-in-Ok : goal.returns-in-Ok
+returns-in-Ok c =
     rw (
-      c.in-At.is,
-      sym c.measure.ensures ∙ c.in-Is.is,
+      c.in-Ok.is,
+      sym c.measure.ensures ∙ c.in-Ok.is,
     )
 
-pub returns-in-Not : goal.returns-in-Not
-returns-in-Not c =
+pub returns-in-Err : goal.returns-in-Err
+returns-in-Err c =
     rw (
-      c.in-At.is,
-      sym c.measure.ensures ∙ c.in-Not.is,
+      c.in-Ok.is,
+      sym c.measure.ensures ∙ c.in-Err.is,
     )
 
-pub returns-in-Refused : goal.returns-in-Refused
-returns-in-Refused c =
-    rw c.in-Refused.is
+pub returns-in-Err : goal.returns-in-Err
+returns-in-Err c =
+    rw c.in-Err.is

@@ -12,18 +12,18 @@ rest_then-requires c =
       tens = p.tens;
       d_len_bound = p.d_len_bound;
       before_in_bounds = p.before_in_bounds;
-      good_head = good_head _ _ _ _ c.head_on.ensures c.in-Is.is;
+      good_head = good_head _ _ _ _ c.head_on.ensures c.in-Ok.is;
     }
 
-pub returns-in-Is : goal.returns-in-Is
-returns-in-Is c =
+pub returns-in-Ok : goal.returns-in-Ok
+returns-in-Ok c =
     let e = entry_is_lem _ _ _ _ c.args.before _ _ c.ident_on-i.ensures
-    c.head_on.ensures _ c.in-Is.is in
+    c.head_on.ensures _ c.in-Ok.is in
     rw e c.rest_then.ensures
 
-pub returns-in-Not : goal.returns-in-Not
+pub returns-in-Err : goal.returns-in-Err
 unfolding stood_of
-returns-in-Not c =
+returns-in-Err c =
     let e = entry_not _ _ _ _ c.args.before _ _
-    c.ident_on-i.ensures c.head_on.ensures _ c.in-Not.is in
+    c.ident_on-i.ensures c.head_on.ensures _ c.in-Err.is in
     rw e (holds (refl, record { stored = λ i. none cc }))

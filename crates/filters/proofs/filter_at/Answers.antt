@@ -13,7 +13,7 @@ find_filter-filter-requires c =
       known = c.requires.known;
       m_in_bounds = (
         c.requires.m_in_bounds.0,
-        (text_is a.bad a.d.now FILTER 0 a.place a.end c.text_at.ensures c.in-Is.is).inside,
+        (text_is a.bad a.d.now FILTER 0 a.place a.end c.text_at.ensures c.in-Ok.is).inside,
       );
     }
 
@@ -23,7 +23,7 @@ returns-then-filter-eq0 c =
     filter_wrong a.bad a.latin a.standard a.d.now a.rows.now a.count a.place a.end (text_at a.q a.m)
     a.usage _
     (text_is a.bad a.d.now FILTER 0 a.place a.end c.text_at.ensures
-    c.in-Is.is) _ c.if-filter-eq0.true c.find_filter-filter.ensures
+    c.in-Ok.is) _ c.if-filter-eq0.true c.find_filter-filter.ensures
 
 pub returns-else-filter-eq0 : goal.returns-else-filter-eq0
 returns-else-filter-eq0 c =
@@ -31,11 +31,11 @@ returns-else-filter-eq0 c =
     filter_right a.bad a.latin a.standard a.d.now a.rows.now a.count a.place a.end (text_at a.q a.m)
     a.usage _
     (text_is a.bad a.d.now FILTER 0 a.place a.end c.text_at.ensures
-    c.in-Is.is) _ c.if-filter-eq0.false c.find_filter-filter.ensures
+    c.in-Ok.is) _ c.if-filter-eq0.false c.find_filter-filter.ensures
 
-pub returns-in-Not : goal.returns-in-Not
-returns-in-Not c =
+pub returns-in-Err : goal.returns-in-Err
+returns-in-Err c =
     let a = c.args in
     filter_not a.bad a.latin a.standard a.d.now a.rows.now a.count a.place a.end (text_at a.q a.m) a.usage
     _
-    (text_not a.bad a.d.now FILTER 0 a.place a.end c.text_at.ensures c.in-Not.is)
+    (text_not a.bad a.d.now FILTER 0 a.place a.end c.text_at.ensures c.in-Err.is)

@@ -1,12 +1,12 @@
 use Rattle.heading.specs.Heading.{again}
 use Rattle.heading.proofs.met_again.Goals as goal
 
-pub returns-in-At : goal.returns-in-At
+pub returns-in-Ok : goal.returns-in-Ok
 unfolding again
-returns-in-At c =
-    rw c.in-At.is
+returns-in-Ok c =
+    rw c.in-Ok.is
 
-pub returns-in-Refused : goal.returns-in-Refused
+pub returns-in-Err : goal.returns-in-Err
 unfolding again
-returns-in-Refused c =
-    rw c.in-Refused.is
+returns-in-Err c =
+    rw c.in-Err.is

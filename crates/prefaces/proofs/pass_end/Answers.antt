@@ -1,9 +1,9 @@
+use Rattle.std.specs.Prelude.{Err}
 use mathlib.Core.Path.{sym, ap, ◌∙◌}
 use Rattle.xml_reading.specs.rule.Open.{within_element}
 use Rattle.elements.specs.Code.{read_of}
 use Rattle.elements.proofs.Dues.{missed}
 use Rattle.prefaces.specs.Code.{end_of}
-use Rattle.tokens.specs.declared.Reading.TheVariants.{Refused}
 use Rattle.prefaces.proofs.Binds.{opened_is}
 use Rattle.prefaces.proofs.pass_end.Goals as goal
 
@@ -17,7 +17,7 @@ returns-in-Start c =
     let e = sym (opened_is (within_element a.bad a.d.now a.w.now a.at)
     c.find_open.ensures.0)
     ∙ ap read_of c.in-Start.is in
-    (rw (e, missed a.bad a.d.now {A = Unit} _ _) (ap Refused c.misplaced.ensures), tt)
+    (rw (e, missed a.bad a.d.now {A = Unit} _ _) (ap Err c.misplaced.ensures), tt)
 
 pub returns-in-Shut : goal.returns-in-Shut
 unfolding end_of

@@ -6,18 +6,18 @@ use Rattle.prefaces.proofs.Binds.{passed_is, closing_is}
 use Rattle.prefaces.proofs.read_closing.Goals as goal
 
 pub close_sss-requires : goal.close_sss-requires
-close_sss-requires c = rw c.in-At.is at c.pass_end.ensures.1
+close_sss-requires c = rw c.in-Ok.is at c.pass_end.ensures.1
 
-pub returns-in-At : goal.returns-in-At
-returns-in-At c =
+pub returns-in-Ok : goal.returns-in-Ok
+returns-in-Ok c =
     let a = c.args in
     let e = sym (passed_is (end_of a.bad a.d.now SURVEY a.at) c.pass_end.ensures.0)
-    ∙ ap passed c.in-At.is in
+    ∙ ap passed c.in-Ok.is in
     (rw (closing_is a.bad a.d.now a.at, e) c.close_sss.ensures.0, c.close_sss.ensures.1)
 
-pub returns-in-Refused : goal.returns-in-Refused
-returns-in-Refused c =
+pub returns-in-Err : goal.returns-in-Err
+returns-in-Err c =
     let a = c.args in
     let e = sym (passed_is (end_of a.bad a.d.now SURVEY a.at) c.pass_end.ensures.0)
-    ∙ ap passed c.in-Refused.is in
+    ∙ ap passed c.in-Err.is in
     (rw (closing_is a.bad a.d.now a.at, e), tt)

@@ -8,22 +8,22 @@ pub find_open-requires : goal.find_open-requires
 find_open-requires c =
     let a = c.args in
     let e = sym (phrase_is (text a.bad a.d.now a.w.now a.mode a.place a.end)
-    c.text_at.ensures) ∙ ap phrase_read c.in-Is.is in
+    c.text_at.ensures) ∙ ap phrase_read c.in-Ok.is in
     (text_good a.bad a.d.now a.w.now a.mode a.place a.end e).within
 
-pub returns-in-Is : goal.returns-in-Is
-returns-in-Is c =
+pub returns-in-Ok : goal.returns-in-Ok
+returns-in-Ok c =
     let a = c.args in
     let e = sym (phrase_is (text a.bad a.d.now a.w.now a.mode a.place a.end)
-    c.text_at.ensures) ∙ ap phrase_read c.in-Is.is in (
+    c.text_at.ensures) ∙ ap phrase_read c.in-Ok.is in (
       rw e c.find_open.ensures.0,
-      within_first a.d.now c.in-Is.t.next c.find_open.result
+      within_first a.d.now c.in-Ok.t.next c.find_open.result
           c.find_open.ensures.1,
     )
 
-pub returns-in-Not : goal.returns-in-Not
-returns-in-Not c =
+pub returns-in-Err : goal.returns-in-Err
+returns-in-Err c =
     let a = c.args in
     let e = sym (phrase_is (text a.bad a.d.now a.w.now a.mode a.place a.end)
-    c.text_at.ensures) ∙ ap phrase_read c.in-Not.is in
+    c.text_at.ensures) ∙ ap phrase_read c.in-Err.is in
     (rw e, tt)

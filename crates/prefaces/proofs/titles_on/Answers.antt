@@ -1,10 +1,10 @@
 use Rattle.prefaces.proofs.titles_on.Goals as goal
 
 pub read_titles-requires : goal.read_titles-requires
-read_titles-requires c = rw c.in-At.is at c.requires
+read_titles-requires c = rw c.in-Ok.is at c.requires
 
-pub returns-in-At : goal.returns-in-At
-returns-in-At c = (rw c.in-At.is c.read_titles.ensures.0, c.read_titles.ensures.1)
+pub returns-in-Ok : goal.returns-in-Ok
+returns-in-Ok c = (rw c.in-Ok.is c.read_titles.ensures.0, c.read_titles.ensures.1)
 
-pub returns-in-Refused : goal.returns-in-Refused
-returns-in-Refused c = (rw c.in-Refused.is, tt)
+pub returns-in-Err : goal.returns-in-Err
+returns-in-Err c = (rw c.in-Err.is, tt)

@@ -1,6 +1,6 @@
 -- Tokens, each behind its spaces and comments: "Letter case of keywords and parameters is not significant. Tokens need no space between.
 -- No space within a keyword or number." A token that is due and does not stand is 2 where another stands, or at the file's length.
-use Rattle.std.specs.Prelude.{Bool, true, false, cond, ◌&&◌, List, [], ◌∷◌, ◌++◌, ℕ, ◌+◌, ◌-◌, eqb, ltb, length}
+use Rattle.std.specs.Prelude.{Bool, true, false, cond, ◌&&◌, List, [], ◌∷◌, ◌++◌, ℕ, ◌+◌, ◌-◌, eqb, ltb, length, Ok, Err}
 use Rattle.std.proofs.Math.Option.{Option, none, some}
 use Rattle.ascii.specs.rule.Class.{class_of}
 use Rattle.scan.specs.rule.Text.{stop, sign, text}
@@ -13,9 +13,7 @@ use Rattle.marks.specs.declared.Inside.TheVariants.{Plain}
 use Rattle.marks.specs.declared.Skip.{Skip}
 use Rattle.marks.specs.declared.Skip.TheVariants.{Past, Unclosed, Bad}
 use Rattle.marks.specs.rule.Marks.{string_of}
-use Rattle.tokens.specs.declared.Reading.{Reading}
-use Rattle.tokens.specs.declared.Reading.TheVariants.{At, Refused}
-use Rattle.tokens.specs.rule.Gap.{fault, gap_at}
+use Rattle.tokens.specs.rule.Gap.{fault, gap_at, Read}
 use Rattle.survey.specs.rule.Survey.{Figure, Amount, KeptText}
 use Rattle.reading.specs.rule.Result.{Result, Is, Not, Reader, ◌>>=◌, ◌>>◌, give, due}
 
@@ -68,9 +66,9 @@ unfoldable pub letter_in : scan.Text → Result ℕ
 letter_in (stop p) = due p
 letter_in (sign p b t) = cond (eqb (class_of b) 3) (Is b (p + 1)) (due p)
 
-abbrev pub passed : Reading → Result Unit
-passed (At n) = Is tt n
-passed (Refused f) = Not f
+abbrev pub passed : Read ℕ → Result Unit
+passed (Ok n) = Is tt n
+passed (Err f) = Not f
 
 abbrev pub on_word : {A : Type 0} → Reader A → Reader A → ℕ → Word → Result A
 on_word p q n (spelled.Matched m) = p m

@@ -41,7 +41,7 @@ settle-requires c =
     let p = c.requires in record {
       tens = p.tens;
       measurable = measured_all _ _ p.d_len_bound.0 _ _ _ _ _ _ _ _ c.sift_in-s.ensures _ _
-          p.lines_len.0 _ (rw c.in-Is.is at c.rest_in.ensures) _ c.placeless-q.ensures
+          p.lines_len.0 _ (rw c.in-Ok.is at c.rest_in.ensures) _ c.placeless-q.ensures
           p.d_len_bound.1.sofar p.front_read;
     }
 
@@ -53,28 +53,28 @@ enter-requires c =
         p.d_len_bound.1.sofar.rows_long,
       );
       small_row = small_all _ _ p.d_len_bound.0 _ _ _ _ _ _ _ _
-          c.sift_in-s.ensures _ _ p.lines_len.0 _ (rw c.in-Is.is at
+          c.sift_in-s.ensures _ _ p.lines_len.0 _ (rw c.in-Ok.is at
           c.rest_in.ensures) _ c.placeless-q.ensures _ _ _
-          (sym c.in-Is-settle.is ∙ c.settle.ensures) p.d_len_bound.1.sofar p.front_read;
+          (sym c.in-Ok-settle.is ∙ c.settle.ensures) p.d_len_bound.1.sofar p.front_read;
     }
 
-pub returns-in-Is-settle : goal.returns-in-Is-settle
-returns-in-Is-settle c =
+pub returns-in-Ok-settle : goal.returns-in-Ok-settle
+returns-in-Ok-settle c =
     let p = c.requires in
     body_held _ _ p.d_len_bound.0 _ _ _ _ _ _ _ _ c.sift_in-s.ensures _ _ p.lines_len.0 _
-    (rw c.in-Is.is at c.rest_in.ensures) _ c.placeless-q.ensures _ _ _
-    (sym c.in-Is-settle.is ∙ c.settle.ensures) _ _ c.enter.ensures.value c.enter.ensures.rows_after
+    (rw c.in-Ok.is at c.rest_in.ensures) _ c.placeless-q.ensures _ _ _
+    (sym c.in-Ok-settle.is ∙ c.settle.ensures) _ _ c.enter.ensures.value c.enter.ensures.rows_after
 
-pub returns-in-Not-settle : goal.returns-in-Not-settle
-returns-in-Not-settle c =
+pub returns-in-Err-settle : goal.returns-in-Err-settle
+returns-in-Err-settle c =
     let p = c.requires in
     body_unheld _ _ p.d_len_bound.0 _ _ _ _ _ _ _ _
-    c.sift_in-s.ensures _ _ p.lines_len.0 _ (rw c.in-Is.is at
+    c.sift_in-s.ensures _ _ p.lines_len.0 _ (rw c.in-Ok.is at
     c.rest_in.ensures) _ c.placeless-q.ensures _ _
-    (sym c.in-Not-settle.is ∙ c.settle.ensures)
+    (sym c.in-Err-settle.is ∙ c.settle.ensures)
 
-pub returns-in-Not : goal.returns-in-Not
-returns-in-Not c =
+pub returns-in-Err : goal.returns-in-Err
+returns-in-Err c =
     let p = c.requires in
     body_not _ _ p.d_len_bound.0 _ _ _ _ _ _ _ _ c.sift_in-s.ensures _ _ p.lines_len.0 _ _
-    (rw c.in-Not.is at c.rest_in.ensures)
+    (rw c.in-Err.is at c.rest_in.ensures)

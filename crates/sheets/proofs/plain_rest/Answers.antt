@@ -1,7 +1,7 @@
 use Rattle.sheets.proofs.plain_rest.Goals as goal
 
-pub returns-in-At : goal.returns-in-At
-returns-in-At c = rw (c.nothing_said-block.ensures, c.in-At.is)
+pub returns-in-Ok : goal.returns-in-Ok
+returns-in-Ok c = rw (c.nothing_said-block.ensures, c.in-Ok.is)
 
-pub returns-in-Refused : goal.returns-in-Refused
-returns-in-Refused c = rw c.in-Refused.is
+pub returns-in-Err : goal.returns-in-Err
+returns-in-Err c = rw c.in-Err.is

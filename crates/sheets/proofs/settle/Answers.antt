@@ -1,8 +1,8 @@
 use mathlib.Core.Path.{◌∙◌, sym}
 use Rattle.sheets.proofs.settle.Goals as goal
 
-pub returns-in-Is : goal.returns-in-Is
-returns-in-Is c = rw (sym c.measure.ensures ∙ c.in-Is.is)
+pub returns-in-Ok : goal.returns-in-Ok
+returns-in-Ok c = rw (sym c.measure.ensures ∙ c.in-Ok.is)
 
-pub returns-in-Not : goal.returns-in-Not
-returns-in-Not c = rw (sym c.measure.ensures ∙ c.in-Not.is)
+pub returns-in-Err : goal.returns-in-Err
+returns-in-Err c = rw (sym c.measure.ensures ∙ c.in-Err.is)

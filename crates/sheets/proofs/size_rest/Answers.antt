@@ -15,23 +15,23 @@ end_in-e-requires c =
     let a = c.args in
     let b = due_within a.bad a.d.now SIZE a.o c.requires (sym c.tag_due.ensures
     ∙ c.in-At.is) in
-    size_next a.bad a.d.now _ _ _ b.0 (sym c.size_at.ensures ∙ c.in-Is.is)
+    size_next a.bad a.d.now _ _ _ b.0 (sym c.size_at.ensures ∙ c.in-Ok.is)
 
-pub returns-in-Is : goal.returns-in-Is
-returns-in-Is c =
+pub returns-in-Ok : goal.returns-in-Ok
+returns-in-Ok c =
     let a = c.args in
     let e = size_ended_lem a.bad a.d.now a.o (sym c.tag_due.ensures ∙ c.in-At.is) in
     c.plain_rest.ensures ∙ rw c.end_in-e.ensures.0 (sized_by a.bad a.d.now a.before
-    (size a.bad a.d.now c.in-At.place c.in-At.end) c.in-Is.x
-    (sym c.size_at.ensures ∙ c.in-Is.is) ∙ ap (sized_of a.before) (sym e))
+    (size a.bad a.d.now c.in-At.place c.in-At.end) c.in-Ok.x
+    (sym c.size_at.ensures ∙ c.in-Ok.is) ∙ ap (sized_of a.before) (sym e))
 
-pub returns-in-Not-size_at : goal.returns-in-Not-size_at
-returns-in-Not-size_at c =
+pub returns-in-Err-size_at : goal.returns-in-Err-size_at
+returns-in-Err-size_at c =
     let a = c.args in
     let e = size_ended_lem a.bad a.d.now a.o (sym c.tag_due.ensures ∙ c.in-At.is) in
     sized_not a.bad a.d.now a.before (size a.bad a.d.now c.in-At.place c.in-At.end)
-    (sym c.size_at.ensures ∙ c.in-Not-size_at.is) ∙ ap (sized_of a.before) (sym e)
+    (sym c.size_at.ensures ∙ c.in-Err-size_at.is) ∙ ap (sized_of a.before) (sym e)
 
-pub returns-in-Not : goal.returns-in-Not
-returns-in-Not c = let a = c.args in
-    rw (size_never a.bad a.d.now a.o (sym c.tag_due.ensures ∙ c.in-Not.is))
+pub returns-in-Err : goal.returns-in-Err
+returns-in-Err c = let a = c.args in
+    rw (size_never a.bad a.d.now a.o (sym c.tag_due.ensures ∙ c.in-Err.is))

@@ -38,45 +38,45 @@ find_open-p-requires c =
     let a = c.args in
     let p = c.requires in
     let y = spread_read a.room (spread a.bad a.d.now a.room _ _)
-    (sym c.spread_at.ensures ∙ c.in-Is.is) in
+    (sym c.spread_at.ensures ∙ c.in-Ok.is) in
     (spread_fine a.bad a.d.now a.room _ _ p.within.2 p.within.3 y.is).next
 
-pub values_rest-requires-in-Is : goal.values_rest-requires-in-Is
-values_rest-requires-in-Is c =
+pub values_rest-requires-in-Ok : goal.values_rest-requires-in-Ok
+values_rest-requires-in-Ok c =
     let a = c.args in
     let p = c.requires in record {
       within = (
-        within_first a.d.now c.in-Is.s.next c.find_open-p.result
+        within_first a.d.now c.in-Ok.s.next c.find_open-p.result
             c.find_open-p.ensures.1,
         p.within.1,
       );
       lines_len = p.lines_len;
     }
 
-pub returns-in-Is : goal.returns-in-Is
-returns-in-Is c =
+pub returns-in-Ok : goal.returns-in-Ok
+returns-in-Ok c =
     let a = c.args in
-    let n = c.in-Is.s.next in
+    let n = c.in-Ok.s.next in
     let y = spread_read a.room (spread a.bad a.d.now a.room _ _) (sym c.spread_at.ensures
-    ∙ c.in-Is.is) in
+    ∙ c.in-Ok.is) in
     let e = content_spread a.bad a.d.now (rule_of a.m) a.before a.room a.o
     (sym c.is_start.ensures ∙ c.if-not-is_start.false) (sym c.tag_due.ensures ∙ c.in-At.is) y.spread n y.is in
     let o : read_of c.find_open-p.result ≡ within_element a.bad a.d.now VARIABLE n =
     ap read_of c.find_open-p.ensures.0 ∙ read_open (within_element a.bad a.d.now VARIABLE n) in
     rests_spread y.spread y.count_is y.width_is
     (e ∙ ap (λ (r : Result Open). bind (bind r (values_ended a.bad a.d.now a.m.languages false a.before))
-    (λ b n. Is (multiple (some y.spread) b) n)) (sym o)) c.values_rest-in-Is.ensures
+    (λ b n. Is (multiple (some y.spread) b) n)) (sym o)) c.values_rest-in-Ok.ensures
 
-pub returns-in-Not-spread_at : goal.returns-in-Not-spread_at
-returns-in-Not-spread_at c =
+pub returns-in-Err-spread_at : goal.returns-in-Err-spread_at
+returns-in-Err-spread_at c =
     let a = c.args in
     rests_not (spread_not a.bad a.d.now (rule_of a.m) a.before a.room a.o (sym c.is_start.ensures
     ∙ c.if-not-is_start.false) (sym c.tag_due.ensures ∙ c.in-At.is)
     (spread_refused a.room (spread a.bad a.d.now a.room _ _)
-    (sym c.spread_at.ensures ∙ c.in-Not-spread_at.is)))
+    (sym c.spread_at.ensures ∙ c.in-Err-spread_at.is)))
 
-pub returns-in-Not : goal.returns-in-Not
-returns-in-Not c =
+pub returns-in-Err : goal.returns-in-Err
+returns-in-Err c =
     let a = c.args in
     spread_stands a.bad a.d.now (rule_of a.m) a.before a.o (sym c.is_start.ensures
-    ∙ c.if-not-is_start.false) (sym c.tag_due.ensures ∙ c.in-Not.is)
+    ∙ c.if-not-is_start.false) (sym c.tag_due.ensures ∙ c.in-Err.is)

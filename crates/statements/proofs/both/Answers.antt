@@ -1,43 +1,27 @@
-use mathlib.Core.Path.{◌∙◌}
+use Rattle.std.proofs.Common.{rules}
 use Rattle.statements.specs.Position.{both_of}
 use Rattle.statements.proofs.Helds.{held_size}
 use Rattle.statements.proofs.both.Goals as goal
 
-pub returns-in-At : goal.returns-in-At
+pub returns-in_err-x : goal.returns-in_err-x
 unfolding both_of
-returns-in-At c =
-    c.judge_position.ensures ∙ rw (
-      c.says_less-below.ensures,
-      c.in-Is.is,
-      c.in-Is-b.is,
-      c.in-At.is,
-    )
+returns-in_err-x c = search rules
 
-pub returns-in-Refused : goal.returns-in-Refused
+pub returns-in_err-y : goal.returns-in_err-y
 unfolding both_of
-returns-in-Refused c =
-    rw (
-      c.in-Is.is,
-      c.in-Is-b.is,
-      c.in-Refused.is,
-    )
+returns-in_err-y c = search rules
 
-pub returns-in-Not-b : goal.returns-in-Not-b
+pub returns-in_err-next : goal.returns-in_err-next
 unfolding both_of
-returns-in-Not-b c =
-    rw (
-      c.in-Is.is,
-      c.in-Not-b.is,
-    )
+returns-in_err-next c = search rules
 
-pub returns-in-Not : goal.returns-in-Not
+pub returns : goal.returns
 unfolding both_of
-returns-in-Not c =
-    rw c.in-Not.is
+returns c = search rules
 
 pub says_less-below-requires : goal.says_less-below-requires
 says_less-below-requires c =
     let pre = c.requires in record {
       classes = pre.classes;
-      size_value = (held_size pre.held.1 c.in-Is-b.is, held_size pre.held.0 c.in-Is.is);
+      size_value = (held_size pre.held.1 c.in_ok-y.was, held_size pre.held.0 c.in_ok-x.was);
     }

@@ -1,25 +1,15 @@
-use mathlib.Core.Path.{sym}
+use Rattle.std.proofs.Common.{rules}
 use Rattle.statements.specs.Spread.{even_of}
 use Rattle.statements.proofs.even.Goals as goal
 
-pub returns-in-At : goal.returns-in-At
+pub returns-in_err-x : goal.returns-in_err-x
 unfolding even_of
-returns-in-At c =
-    rw (
-      c.in-Is.is,
-      c.in-At.is,
-      sym c.judge_even.ensures,
-    )
+returns-in_err-x c = search rules
 
-pub returns-in-Refused : goal.returns-in-Refused
+pub returns-in_err-next : goal.returns-in_err-next
 unfolding even_of
-returns-in-Refused c =
-    rw (
-      c.in-Is.is,
-      c.in-Refused.is,
-    )
+returns-in_err-next c = search rules
 
-pub returns-in-Not : goal.returns-in-Not
+pub returns : goal.returns
 unfolding even_of
-returns-in-Not c =
-    rw c.in-Not.is
+returns c = search rules

@@ -1,25 +1,15 @@
-use mathlib.Core.Path.{sym}
+use Rattle.std.proofs.Common.{rules}
 use Rattle.statements.specs.Spread.{fields_of}
 use Rattle.statements.proofs.fields.Goals as goal
 
-pub returns-in-Is-b : goal.returns-in-Is-b
+pub returns-in_err-x : goal.returns-in_err-x
 unfolding fields_of
-returns-in-Is-b c =
-    rw (
-      c.in-Is.is,
-      c.in-Is-b.is,
-      sym c.judge_fields.ensures,
-    )
+returns-in_err-x c = search rules
 
-pub returns-in-Not-b : goal.returns-in-Not-b
+pub returns-in_err-y : goal.returns-in_err-y
 unfolding fields_of
-returns-in-Not-b c =
-    rw (
-      c.in-Is.is,
-      c.in-Not-b.is,
-    )
+returns-in_err-y c = search rules
 
-pub returns-in-Not : goal.returns-in-Not
+pub returns : goal.returns
 unfolding fields_of
-returns-in-Not c =
-    rw c.in-Not.is
+returns c = search rules

@@ -1,19 +1,20 @@
 use mathlib.Core.Path.{◌∙◌, sym}
+use Rattle.std.proofs.Common.{rules}
 use Rattle.statements.proofs.Notes.{notes_same, notes_refused}
 use Rattle.statements.proofs.notes_on.Goals as goal
+
+pub returns-in_err-n : goal.returns-in_err-n
+returns-in_err-n c = search (rules, notes_refused)
 
 pub returns-then-no_note : goal.returns-then-no_note
 returns-then-no_note c =
     let p = c.pass_blanks-m in
-    rw c.in-At.is
+    rw c.in_ok-n.was
     (sym (notes_same _ _ _ p.ensures.0 ∙ c.no_note.ensures c.if-no_note.true))
 
-pub returns-else-no_note : goal.returns-else-no_note
-returns-else-no_note c = rw c.in-At.is
+pub returns : goal.returns
+returns c = rw c.in_ok-n.was
     (c.notes_apart.ensures ∙ sym (notes_same _ _ _ c.pass_blanks-m.ensures.0))
-
-pub returns-in-Refused : goal.returns-in-Refused
-returns-in-Refused c = rw c.in-Refused.is (sym (notes_refused _ _))
 
 pub no_note-requires : goal.no_note-requires
 no_note-requires c = c.pass_blanks-m.ensures.2

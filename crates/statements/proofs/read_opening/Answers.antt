@@ -1,26 +1,11 @@
-use mathlib.Core.Path.{◌∙◌, sym}
+use Rattle.std.proofs.Common.{rules}
 use Rattle.statements.specs.Opening.{opening_of}
 use Rattle.statements.proofs.read_opening.Goals as goal
 
-pub returns-in-At : goal.returns-in-At
+pub returns-in_err-n : goal.returns-in_err-n
 unfolding opening_of
-returns-in-At c =
-    rw (
-      sym c.place_at-start.ensures,
-      sym c.word_here-a.ensures,
-      sym c.spaces_on-b.ensures,
-      sym c.word_here-e.ensures,
-      sym c.spaces_on.ensures ∙ c.in-At.is,
-      sym c.version_at.ensures,
-    )
+returns-in_err-n c = search rules
 
-pub returns-in-Refused : goal.returns-in-Refused
+pub returns : goal.returns
 unfolding opening_of
-returns-in-Refused c =
-    rw (
-      sym c.place_at-start.ensures,
-      sym c.word_here-a.ensures,
-      sym c.spaces_on-b.ensures,
-      sym c.word_here-e.ensures,
-      sym c.spaces_on.ensures ∙ c.in-Refused.is,
-    )
+returns c = search rules

@@ -35,24 +35,24 @@ returns-in-Taken-perhaps-3 c =
       sym c.perhaps-4.ensures ∙ c.in-Taken-perhaps-3.is,
     )
 
-pub returns-in-At : goal.returns-in-At
+pub returns-in-Ok : goal.returns-in-Ok
 unfolding type_here
-returns-in-At c =
+returns-in-Ok c =
     rw (
       sym c.perhaps.ensures ∙ c.in_default.is,
       sym c.perhaps-2.ensures ∙ c.in_default-perhaps.is,
       sym c.perhaps-3.ensures ∙ c.in_default-perhaps-2.is,
       sym c.perhaps-4.ensures ∙ c.in_default-perhaps-3.is,
-      sym c.word_here.ensures ∙ c.in-At.is,
+      sym c.word_here.ensures ∙ c.in-Ok.is,
     )
 
-pub returns-in-Refused : goal.returns-in-Refused
+pub returns-in-Err : goal.returns-in-Err
 unfolding type_here
-returns-in-Refused c =
+returns-in-Err c =
     rw (
       sym c.perhaps.ensures ∙ c.in_default.is,
       sym c.perhaps-2.ensures ∙ c.in_default-perhaps.is,
       sym c.perhaps-3.ensures ∙ c.in_default-perhaps-2.is,
       sym c.perhaps-4.ensures ∙ c.in_default-perhaps-3.is,
-      sym c.word_here.ensures ∙ c.in-Refused.is,
+      sym c.word_here.ensures ∙ c.in-Err.is,
     )

@@ -1,10 +1,10 @@
 use Rattle.steps.specs.Step.{number_in}
 use Rattle.steps.proofs.number_in.Goals as goal
 
-pub returns-in-Is : goal.returns-in-Is
+pub returns-in-Ok : goal.returns-in-Ok
 unfolding number_in
-returns-in-Is c = rw c.in-Is.is
+returns-in-Ok c = rw c.in-Ok.is
 
-pub returns-in-Not : goal.returns-in-Not
+pub returns-in-Err : goal.returns-in-Err
 unfolding number_in
-returns-in-Not c = rw c.in-Not.is
+returns-in-Err c = rw c.in-Err.is

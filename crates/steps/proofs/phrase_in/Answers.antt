@@ -1,10 +1,10 @@
 use Rattle.steps.specs.Step.{phrase_in}
 use Rattle.steps.proofs.phrase_in.Goals as goal
 
-pub returns-in-Is : goal.returns-in-Is
+pub returns-in-Ok : goal.returns-in-Ok
 unfolding phrase_in
-returns-in-Is c = rw (c.quote_before-end.ensures, c.in-Is.is)
+returns-in-Ok c = rw (c.quote_before-end.ensures, c.in-Ok.is)
 
-pub returns-in-Not : goal.returns-in-Not
+pub returns-in-Err : goal.returns-in-Err
 unfolding phrase_in
-returns-in-Not c = rw c.in-Not.is
+returns-in-Err c = rw c.in-Err.is

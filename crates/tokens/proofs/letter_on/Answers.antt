@@ -2,15 +2,15 @@ use Rattle.tokens.specs.Token.{letter_on}
 use mathlib.Core.Path.{◌∙◌, sym}
 use Rattle.tokens.proofs.letter_on.Goals as goal
 
-pub returns-in-At : goal.returns-in-At
+pub returns-in-Ok : goal.returns-in-Ok
 unfolding letter_on
-returns-in-At c =
+returns-in-Ok c =
     rw (
-      sym c.gap_on.ensures ∙ c.in-At.is,
+      sym c.gap_on.ensures ∙ c.in-Ok.is,
       sym c.letter_at.ensures,
     )
 
-pub returns-in-Refused : goal.returns-in-Refused
+pub returns-in-Err : goal.returns-in-Err
 unfolding letter_on
-returns-in-Refused c =
-    rw (sym c.gap_on.ensures ∙ c.in-Refused.is)
+returns-in-Err c =
+    rw (sym c.gap_on.ensures ∙ c.in-Err.is)

@@ -7,16 +7,16 @@ use Rattle.tokens.proofs.number_here.Goals as goal
 pub returns-then-over_soon : goal.returns-then-over_soon
 returns-then-over_soon c =
     let q = c.lead_at-q.ensures in
-    rw c.in-At.is
+    rw c.in-Ok.is
     (sym (lead_number _ _ _ _ c.if-n-q.true q.at_le_end.1 q.at_value
     (c.over_soon.ensures c.if-over_soon.true)))
 
 pub returns-after-n-q : goal.returns-after-n-q
-returns-after-n-q c = rw c.in-At.is c.number_apart.ensures
+returns-after-n-q c = rw c.in-Ok.is c.number_apart.ensures
 
-pub returns-in-Refused : goal.returns-in-Refused
+pub returns-in-Err : goal.returns-in-Err
 unfolding number_here
-returns-in-Refused c = rw c.in-Refused.is
+returns-in-Err c = rw c.in-Err.is
 
 pub number_apart-requires : goal.number_apart-requires
 number_apart-requires c = c.requires

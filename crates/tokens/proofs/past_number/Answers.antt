@@ -1,12 +1,12 @@
 use Rattle.tokens.specs.Token.{past_number}
 use Rattle.tokens.proofs.past_number.Goals as goal
 
-pub returns-in-Is : goal.returns-in-Is
+pub returns-in-Ok : goal.returns-in-Ok
 unfolding past_number
-returns-in-Is c =
-    rw c.in-Is.is
+returns-in-Ok c =
+    rw c.in-Ok.is
 
-pub returns-in-Not : goal.returns-in-Not
+pub returns-in-Err : goal.returns-in-Err
 unfolding past_number
-returns-in-Not c =
-    rw c.in-Not.is
+returns-in-Err c =
+    rw c.in-Err.is

@@ -2,16 +2,16 @@ use Rattle.tokens.specs.Gap.{spaces_on}
 use mathlib.Core.Path.{sym}
 use Rattle.tokens.proofs.spaces_on.Goals as goal
 
-pub returns-in-At : goal.returns-in-At
+pub returns-in-Ok : goal.returns-in-Ok
 unfolding spaces_on
-returns-in-At c =
+returns-in-Ok c =
     rw (
-      c.in-At.is,
+      c.in-Ok.is,
       sym c.spaces-m.ensures,
       sym c.place_at.ensures,
     )
 
-pub returns-in-Refused : goal.returns-in-Refused
+pub returns-in-Err : goal.returns-in-Err
 unfolding spaces_on
-returns-in-Refused c =
-    rw c.in-Refused.is
+returns-in-Err c =
+    rw c.in-Err.is

@@ -2,10 +2,10 @@ use mathlib.Core.Path.{◌∙◌, sym}
 use Rattle.tokens.specs.Token.{string_on}
 use Rattle.tokens.proofs.string_apart.Goals as goal
 
-pub returns-in-At : goal.returns-in-At
+pub returns-in-Ok : goal.returns-in-Ok
 unfolding string_on
-returns-in-At c = rw (sym c.gap_on.ensures ∙ c.in-At.is, sym c.string_at.ensures)
+returns-in-Ok c = rw (sym c.gap_on.ensures ∙ c.in-Ok.is, sym c.string_at.ensures)
 
-pub returns-in-Refused : goal.returns-in-Refused
+pub returns-in-Err : goal.returns-in-Err
 unfolding string_on
-returns-in-Refused c = rw (sym c.gap_on.ensures ∙ c.in-Refused.is)
+returns-in-Err c = rw (sym c.gap_on.ensures ∙ c.in-Err.is)

@@ -20,7 +20,7 @@ returns-then-m-d c =
     let z = c.closing-m.ensures c.if-m-d.true in
     let p = c.pass_blanks-q in
     rw (
-      c.in-At.is,
+      c.in-Ok.is,
       p.ensures.0,
       gap_token c.args.d.now p.result (omega arith) (omega arith)
           (λ e. omega arith),
@@ -29,12 +29,12 @@ returns-then-m-d c =
 
 pub returns-else-m-d : goal.returns-else-m-d
 unfolding string_on gap_on
-returns-else-m-d c = rw (c.in-At.is, c.pass_blanks-q.ensures.0)
+returns-else-m-d c = rw (c.in-Ok.is, c.pass_blanks-q.ensures.0)
     c.string_apart.ensures
 
-pub returns-in-Refused : goal.returns-in-Refused
+pub returns-in-Err : goal.returns-in-Err
 unfolding string_on gap_on
-returns-in-Refused c = rw c.in-Refused.is
+returns-in-Err c = rw c.in-Err.is
 
 pub string_apart-requires : goal.string_apart-requires
 string_apart-requires c = c.requires

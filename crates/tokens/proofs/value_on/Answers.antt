@@ -2,10 +2,10 @@ use mathlib.Core.Path.{◌∙◌, sym}
 use Rattle.tokens.specs.Token.{value_here, value_on}
 use Rattle.tokens.proofs.value_on.Goals as goal
 
-pub returns-in-At : goal.returns-in-At
+pub returns-in-Ok : goal.returns-in-Ok
 unfolding value_on
-returns-in-At c = rw (sym c.gap_on.ensures ∙ c.in-At.is) c.value_apart.ensures
+returns-in-Ok c = rw (sym c.gap_on.ensures ∙ c.in-Ok.is) c.value_apart.ensures
 
-pub returns-in-Refused : goal.returns-in-Refused
+pub returns-in-Err : goal.returns-in-Err
 unfolding value_on value_here
-returns-in-Refused c = rw (sym c.gap_on.ensures ∙ c.in-Refused.is)
+returns-in-Err c = rw (sym c.gap_on.ensures ∙ c.in-Err.is)

@@ -6,7 +6,7 @@ pub returns-in-Matched : goal.returns-in-Matched
 unfolding word_here
 returns-in-Matched c =
     rw (
-      c.in-At.is,
+      c.in-Ok.is,
       sym c.keyword.ensures ∙ c.in-Matched.is,
     )
 
@@ -14,11 +14,11 @@ pub returns-in-Not : goal.returns-in-Not
 unfolding word_here
 returns-in-Not c =
     rw (
-      c.in-At.is,
+      c.in-Ok.is,
       sym c.keyword.ensures ∙ c.in-Not.is,
     )
 
-pub returns-in-Refused : goal.returns-in-Refused
+pub returns-in-Err : goal.returns-in-Err
 unfolding word_here
-returns-in-Refused c =
-    rw c.in-Refused.is
+returns-in-Err c =
+    rw c.in-Err.is

@@ -3,12 +3,12 @@ use Rattle.values.specs.Block.{closed_by}
 use Rattle.values.proofs.Lists.{listed_none}
 use Rattle.values.proofs.close_block.Goals as goal
 
-pub returns-in-At : goal.returns-in-At
+pub returns-in-Ok : goal.returns-in-Ok
 unfolding closed_by
-returns-in-At c =
-    rw c.in-At.is (listed_none _ _ _)
+returns-in-Ok c =
+    rw c.in-Ok.is (listed_none _ _ _)
 
-pub returns-in-Refused : goal.returns-in-Refused
+pub returns-in-Err : goal.returns-in-Err
 unfolding closed_by listed_of
-returns-in-Refused c =
-    rw c.in-Refused.is
+returns-in-Err c =
+    rw c.in-Err.is

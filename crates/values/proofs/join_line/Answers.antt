@@ -1,33 +1,33 @@
 use Rattle.values.specs.Line.{said_of}
 use Rattle.values.proofs.join_line.Goals as goal
 
-pub returns-in-Not : goal.returns-in-Not
+pub returns-in-Err : goal.returns-in-Err
 unfolding said_of
-returns-in-Not c =
-    rw c.in-Not.is
+returns-in-Err c =
+    rw c.in-Err.is
 
-pub returns-in-Not-q : goal.returns-in-Not-q
+pub returns-in-Err-q : goal.returns-in-Err-q
 unfolding said_of
-returns-in-Not-q c =
+returns-in-Err-q c =
     rw (
-      c.in-Is.is,
-      c.in-Not-q.is,
+      c.in-Ok.is,
+      c.in-Err-q.is,
     )
 
-pub returns-in-Refused : goal.returns-in-Refused
+pub returns-in-Err : goal.returns-in-Err
 unfolding said_of
-returns-in-Refused c =
+returns-in-Err c =
     rw (
-      c.in-Is.is,
-      c.in-Is-q.is,
-      c.in-Refused.is,
+      c.in-Ok.is,
+      c.in-Ok-q.is,
+      c.in-Err.is,
     )
 
-pub returns-in-At : goal.returns-in-At
+pub returns-in-Ok : goal.returns-in-Ok
 unfolding said_of
-returns-in-At c =
+returns-in-Ok c =
     rw (
-      c.in-Is.is,
-      c.in-Is-q.is,
-      c.in-At.is,
+      c.in-Ok.is,
+      c.in-Ok-q.is,
+      c.in-Ok.is,
     )

@@ -2,34 +2,34 @@ use mathlib.Core.Path.{sym}
 use Rattle.values.specs.Range.{ranged_of}
 use Rattle.values.proofs.join_range.Goals as goal
 
-pub returns-in-Not : goal.returns-in-Not
+pub returns-in-Err : goal.returns-in-Err
 unfolding ranged_of
-returns-in-Not c =
-    rw c.in-Not.is
+returns-in-Err c =
+    rw c.in-Err.is
 
-pub returns-in-Not-b : goal.returns-in-Not-b
+pub returns-in-Err-b : goal.returns-in-Err-b
 unfolding ranged_of
-returns-in-Not-b c =
+returns-in-Err-b c =
     rw (
-      c.in-Is.is,
-      c.in-Not-b.is,
+      c.in-Ok.is,
+      c.in-Err-b.is,
     )
 
-pub returns-in-Refused : goal.returns-in-Refused
+pub returns-in-Err : goal.returns-in-Err
 unfolding ranged_of
-returns-in-Refused c =
+returns-in-Err c =
     rw (
-      c.in-Is.is,
-      c.in-Is-b.is,
-      c.in-Refused.is,
+      c.in-Ok.is,
+      c.in-Ok-b.is,
+      c.in-Err.is,
     )
 
-pub returns-in-At : goal.returns-in-At
+pub returns-in-Ok : goal.returns-in-Ok
 unfolding ranged_of
-returns-in-At c =
+returns-in-Ok c =
     rw (
-      c.in-Is.is,
-      c.in-Is-b.is,
-      c.in-At.is,
+      c.in-Ok.is,
+      c.in-Ok-b.is,
+      c.in-Ok.is,
       sym c.settle.ensures,
     )

@@ -1,17 +1,17 @@
 use mathlib.Core.Path.{◌∙◌, sym}
 use Rattle.values.proofs.place_line.Goals as goal
 
-pub returns-in-Good : goal.returns-in-Good
-returns-in-Good c =
-    let e = sym c.stand_line.ensures.value ∙ c.in-Good.is in record {
+pub returns-in-Ok : goal.returns-in-Ok
+returns-in-Ok c =
+    let e = sym c.stand_line.ensures.value ∙ c.in-Ok.is in record {
       value = rw e (c.more.ensures ∙ rw c.grown-g.ensures);
       lines_after = c.stand_line.ensures.lines_after;
       marks_after = c.stand_line.ensures.marks_after;
     }
 
-pub returns-in-Bad : goal.returns-in-Bad
-returns-in-Bad c =
-    let e = sym c.stand_line.ensures.value ∙ c.in-Bad.is in record {
+pub returns-in-Err : goal.returns-in-Err
+returns-in-Err c =
+    let e = sym c.stand_line.ensures.value ∙ c.in-Err.is in record {
       value = rw e;
       lines_after = c.stand_line.ensures.lines_after;
       marks_after = c.stand_line.ensures.marks_after;

@@ -1,16 +1,16 @@
 use mathlib.Core.Path.{◌∙◌, sym}
 use Rattle.values.proofs.settle.Goals as goal
 
-pub returns-in-Good : goal.returns-in-Good
-returns-in-Good c =
+pub returns-in-Ok : goal.returns-in-Ok
+returns-in-Ok c =
     rw (
       ← c.reversed-below.ensures,
-      sym c.judge_range.ensures ∙ c.in-Good.is,
+      sym c.judge_range.ensures ∙ c.in-Ok.is,
     )
 
-pub returns-in-Bad : goal.returns-in-Bad
-returns-in-Bad c =
+pub returns-in-Err : goal.returns-in-Err
+returns-in-Err c =
     rw (
       ← c.reversed-below.ensures,
-      sym c.judge_range.ensures ∙ c.in-Bad.is,
+      sym c.judge_range.ensures ∙ c.in-Err.is,
     )

@@ -7,7 +7,7 @@ use Rattle.values.proofs.Lists.{good_line}
 use Rattle.values.proofs.stand_line.Goals as goal
 use Rattle.values.proofs.stand_line.Goals.{In-Good}
 
-z_back : (c : In-Good) → to_z w64 (of_z w64 c.in-Good.z) ≡ c.in-Good.z
+z_back : (c : In-Good) → to_z w64 (of_z w64 c.in-Ok.z) ≡ c.in-Ok.z
 z_back c = search rules
 
 pub judge_line-requires : goal.judge_line-requires
@@ -21,24 +21,24 @@ judge_line-requires c =
 pub store-requires : goal.store-requires
 store-requires c =
     let p = c.requires.spare in
-    let g = good_line _ _ _ _ _ _ (sym c.judge_line.ensures ∙ c.in-Good.is) in record {
+    let g = good_line _ _ _ _ _ _ (sym c.judge_line.ensures ∙ c.in-Ok.is) in record {
       line_size_in_bounds = (p.0.one_more (omega (arith, g.few, p.1)), p.2);
       storable = c.requires.storable;
       z_value = z_back (goal.at.store-requires c).In-Good ∙ g.says;
     }
 
-pub returns-in-Good : goal.returns-in-Good
-returns-in-Good c =
-    let e = sym c.judge_line.ensures ∙ c.in-Good.is in
+pub returns-in-Ok : goal.returns-in-Ok
+returns-in-Ok c =
+    let e = sym c.judge_line.ensures ∙ c.in-Ok.is in
     let g = good_line _ _ _ _ _ _ e in record {
-      value = rw (e, z_back (goal.at.returns-in-Good c).In-Good);
+      value = rw (e, z_back (goal.at.returns-in-Ok c).In-Good);
       lines_after = rw e c.store.ensures;
       marks_after = rw e (c.leave_mark.ensures ∙ rw g.says);
     }
 
-pub returns-in-Bad : goal.returns-in-Bad
-returns-in-Bad c =
-    let e = sym c.judge_line.ensures ∙ c.in-Bad.is in record {
+pub returns-in-Err : goal.returns-in-Err
+returns-in-Err c =
+    let e = sym c.judge_line.ensures ∙ c.in-Err.is in record {
       value = rw e;
       lines_after = rw e;
       marks_after = rw e;

@@ -1,33 +1,33 @@
 use Rattle.variables.specs.Head.{join_head}
 use Rattle.variables.proofs.join_head.Goals as goal
 
-pub returns-in-Not : goal.returns-in-Not
+pub returns-in-Err : goal.returns-in-Err
 unfolding join_head
-returns-in-Not c =
-    rw c.in-Not.is
+returns-in-Err c =
+    rw c.in-Err.is
 
-pub returns-in-Not-k : goal.returns-in-Not-k
+pub returns-in-Err-k : goal.returns-in-Err-k
 unfolding join_head
-returns-in-Not-k c =
+returns-in-Err-k c =
     rw (
-      c.in-Is.is,
-      c.in-Not-k.is,
+      c.in-Ok.is,
+      c.in-Err-k.is,
     )
 
-pub returns-in-Not-p : goal.returns-in-Not-p
+pub returns-in-Err-p : goal.returns-in-Err-p
 unfolding join_head
-returns-in-Not-p c =
+returns-in-Err-p c =
     rw (
-      c.in-Is.is,
-      c.in-Is-k.is,
-      c.in-Not-p.is,
+      c.in-Ok.is,
+      c.in-Ok-k.is,
+      c.in-Err-p.is,
     )
 
-pub returns-in-Is-p : goal.returns-in-Is-p
+pub returns-in-Ok-p : goal.returns-in-Ok-p
 unfolding join_head
-returns-in-Is-p c =
+returns-in-Ok-p c =
     rw (
-      c.in-Is.is,
-      c.in-Is-k.is,
-      c.in-Is-p.is,
+      c.in-Ok.is,
+      c.in-Ok-k.is,
+      c.in-Ok-p.is,
     )

@@ -3,10 +3,10 @@ use Rattle.variables.specs.Rest.{rested_of}
 use Rattle.variables.proofs.Tellings.{rested_none}
 use Rattle.variables.proofs.join_nothing.Goals as goal
 
-pub returns-in-At : goal.returns-in-At
+pub returns-in-Ok : goal.returns-in-Ok
 unfolding join_nothing
-returns-in-At c = rw (c.in-At.is, c.empty_block-block.ensures) (rested_none _ _ _)
+returns-in-Ok c = rw (c.in-Ok.is, c.empty_block-block.ensures) (rested_none _ _ _)
 
-pub returns-in-Refused : goal.returns-in-Refused
+pub returns-in-Err : goal.returns-in-Err
 unfolding join_nothing rested_of
-returns-in-Refused c = rw c.in-Refused.is
+returns-in-Err c = rw c.in-Err.is

@@ -3,10 +3,10 @@ use Rattle.variables.specs.Rest.{rested_of}
 use Rattle.variables.proofs.Tellings.{rested_none}
 use Rattle.variables.proofs.join_size.Goals as goal
 
-pub returns-in-Is : goal.returns-in-Is
+pub returns-in-Ok : goal.returns-in-Ok
 unfolding join_size
-returns-in-Is c = rw (c.in-Is.is, c.empty_block-block.ensures) (rested_none _ _ _)
+returns-in-Ok c = rw (c.in-Ok.is, c.empty_block-block.ensures) (rested_none _ _ _)
 
-pub returns-in-Not : goal.returns-in-Not
+pub returns-in-Err : goal.returns-in-Err
 unfolding join_size rested_of
-returns-in-Not c = rw c.in-Not.is
+returns-in-Err c = rw c.in-Err.is

@@ -1,33 +1,33 @@
 use Rattle.variables.specs.Head.{join_titles}
 use Rattle.variables.proofs.join_titles.Goals as goal
 
-pub returns-in-Not : goal.returns-in-Not
+pub returns-in-Err : goal.returns-in-Err
 unfolding join_titles
-returns-in-Not c =
-    rw c.in-Not.is
+returns-in-Err c =
+    rw c.in-Err.is
 
-pub returns-in-Not-n : goal.returns-in-Not-n
+pub returns-in-Err-n : goal.returns-in-Err-n
 unfolding join_titles
-returns-in-Not-n c =
+returns-in-Err-n c =
     rw (
-      c.in-Is.is,
-      c.in-Not-n.is,
+      c.in-Ok.is,
+      c.in-Err-n.is,
     )
 
-pub returns-in-Not-l : goal.returns-in-Not-l
+pub returns-in-Err-l : goal.returns-in-Err-l
 unfolding join_titles
-returns-in-Not-l c =
+returns-in-Err-l c =
     rw (
-      c.in-Is.is,
-      c.in-Is-n.is,
-      c.in-Not-l.is,
+      c.in-Ok.is,
+      c.in-Ok-n.is,
+      c.in-Err-l.is,
     )
 
-pub returns-in-Is-l : goal.returns-in-Is-l
+pub returns-in-Ok-l : goal.returns-in-Ok-l
 unfolding join_titles
-returns-in-Is-l c =
+returns-in-Ok-l c =
     rw (
-      c.in-Is.is,
-      c.in-Is-n.is,
-      c.in-Is-l.is,
+      c.in-Ok.is,
+      c.in-Ok-n.is,
+      c.in-Ok-l.is,
     )

@@ -7,7 +7,7 @@ pub returns-then-wrong_ident : goal.returns-then-wrong_ident
 unfolding judge_ident
 returns-then-wrong_ident c =
     rw (
-      c.in-Is.is,
+      c.in-Ok.is,
       sym c.wrong_ident.ensures ∙ c.if-wrong_ident.true,
     )
 
@@ -15,7 +15,7 @@ pub returns-then-count-ge512 : goal.returns-then-count-ge512
 unfolding judge_ident
 returns-then-count-ge512 c =
     rw (
-      c.in-Is.is,
+      c.in-Ok.is,
       sym c.wrong_ident.ensures ∙ c.if-wrong_ident.false,
       le-leb _ _ c.if-count-ge512.true,
     )
@@ -24,12 +24,12 @@ pub returns-else-count-ge512 : goal.returns-else-count-ge512
 unfolding judge_ident
 returns-else-count-ge512 c =
     rw (
-      c.in-Is.is,
+      c.in-Ok.is,
       sym c.wrong_ident.ensures ∙ c.if-wrong_ident.false,
       lt-leb _ _ c.if-count-ge512.false,
     )
 
-pub returns-in-Not : goal.returns-in-Not
+pub returns-in-Err : goal.returns-in-Err
 unfolding judge_ident
-returns-in-Not c =
-    rw c.in-Not.is
+returns-in-Err c =
+    rw c.in-Err.is

@@ -5,22 +5,22 @@ use Rattle.variables.specs.Rest.{rested_of}
 use Rattle.variables.proofs.Tellings.{stored_not}
 use Rattle.variables.proofs.spread_then.Goals as goal
 
-pub returns-in-Is : goal.returns-in-Is
+pub returns-in-Ok : goal.returns-in-Ok
 unfolding spread_then
-returns-in-Is c =
+returns-in-Ok c =
     rw (
       sym c.notes_on-n.ensures,
       sym c.perhaps.ensures ∙ c.in-Taken.is,
-      sym c.spread_rest.ensures ∙ c.in-Is.is,
+      sym c.spread_rest.ensures ∙ c.in-Ok.is,
     ) c.values_rest.ensures
 
-pub returns-in-Not : goal.returns-in-Not
+pub returns-in-Err : goal.returns-in-Err
 unfolding spread_then rested_of
-returns-in-Not c =
+returns-in-Err c =
     rw (
       sym c.notes_on-n.ensures,
       sym c.perhaps.ensures ∙ c.in-Taken.is,
-      sym c.spread_rest.ensures ∙ c.in-Not.is,
+      sym c.spread_rest.ensures ∙ c.in-Err.is,
     ) (holds (refl, stored_not _ _ _ _))
 
 pub returns-in-Left : goal.returns-in-Left

@@ -27,19 +27,19 @@ settle-requires c =
           c.read_variables.ensures.laid _ _ c.in-Is.is (k.rows ∙ p.rows_len.0);
     }
 
-pub returns-in-At : goal.returns-in-At
-returns-in-At c =
+pub returns-in-Ok : goal.returns-in-Ok
+returns-in-Ok c =
     let a = c.args in
     body_here a.bad a.d.now c.requires.d_len_bound.0 (rule_of a.m) a.at _ _ _ c.read_variables.ensures.value
     c.read_variables.ensures.laid _ _ c.in-Is.is
-    a.latin _ c.read_closing.ensures.0 _ _ c.in-At.is c.settle.ensures
+    a.latin _ c.read_closing.ensures.0 _ _ c.in-Ok.is c.settle.ensures
 
-pub returns-in-Refused : goal.returns-in-Refused
-returns-in-Refused c =
+pub returns-in-Err : goal.returns-in-Err
+returns-in-Err c =
     let a = c.args in
     body_ends a.bad a.d.now c.requires.d_len_bound.0 (rule_of a.m) a.at _ _ _ c.read_variables.ensures.value
     c.read_variables.ensures.laid _ _ c.in-Is.is
-    a.latin _ c.read_closing.ensures.0 _ c.in-Refused.is
+    a.latin _ c.read_closing.ensures.0 _ c.in-Err.is
 
 pub returns-in-Not : goal.returns-in-Not
 returns-in-Not c =
