@@ -259,21 +259,15 @@ pub struct Said {
 fn join_line(a: Read<Value>, q: Read<Quoted>, special: usize, end: Read<usize>) -> Read<Said>
     ensures { result ≡ said_of a q special end }
 {
-    match a {
-        Err(f) => Err(f),
-        Ok(value) => match q {
-            Err(f) => Err(f),
-            Ok(text) => match end {
-                Err(f) => Err(f),
-                Ok(next) => Ok(Said {
-                    value,
-                    text,
-                    special,
-                    next,
-                }),
-            },
-        },
-    }
+    let value = a?;
+    let text = q?;
+    let next = end?;
+    Ok(Said {
+        value,
+        text,
+        special,
+        next,
+    })
 }
 
 // A line whose value is a: a string, and SPECIAL or not.

@@ -1,33 +1,19 @@
+use Rattle.std.proofs.Common.{rules}
 use Rattle.values.specs.Line.{said_of}
 use Rattle.values.proofs.join_line.Goals as goal
 
-pub returns-in-Err : goal.returns-in-Err
+pub returns-in_err-value : goal.returns-in_err-value
 unfolding said_of
-returns-in-Err c =
-    rw c.in-Err.is
+returns-in_err-value c = search rules
 
-pub returns-in-Err-q : goal.returns-in-Err-q
+pub returns-in_err-text : goal.returns-in_err-text
 unfolding said_of
-returns-in-Err-q c =
-    rw (
-      c.in-Ok.is,
-      c.in-Err-q.is,
-    )
+returns-in_err-text c = search rules
 
-pub returns-in-Err : goal.returns-in-Err
+pub returns-in_err-next : goal.returns-in_err-next
 unfolding said_of
-returns-in-Err c =
-    rw (
-      c.in-Ok.is,
-      c.in-Ok-q.is,
-      c.in-Err.is,
-    )
+returns-in_err-next c = search rules
 
-pub returns-in-Ok : goal.returns-in-Ok
+pub returns : goal.returns
 unfolding said_of
-returns-in-Ok c =
-    rw (
-      c.in-Ok.is,
-      c.in-Ok-q.is,
-      c.in-Ok.is,
-    )
+returns c = search rules

@@ -15,21 +15,21 @@ returns-in-Err-b c =
       c.in-Err-b.is,
     )
 
-pub returns-in-Err : goal.returns-in-Err
+pub returns-in-Err-end : goal.returns-in-Err-end
 unfolding ranged_of
-returns-in-Err c =
+returns-in-Err-end c =
     rw (
       c.in-Ok.is,
       c.in-Ok-b.is,
-      c.in-Err.is,
+      c.in-Err-end.is,
     )
 
-pub returns-in-Ok : goal.returns-in-Ok
+pub returns-in-Ok-end : goal.returns-in-Ok-end
 unfolding ranged_of
-returns-in-Ok c =
+returns-in-Ok-end c =
     rw (
       c.in-Ok.is,
       c.in-Ok-b.is,
-      c.in-Ok.is,
+      c.in-Ok-end.is,
       sym c.settle.ensures,
     )
