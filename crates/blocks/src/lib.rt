@@ -24,7 +24,7 @@ ghost use Rattle.blocks.specs.Lines.{Closed};
 use elements::{Body, Open, Passed};
 use ranks::Found;
 use tags::{Held, Tag};
-use tokens::{Fault, Quoted, Value};
+use tokens::{Fault, Quoted, Read, Value};
 use values::{Block, Listed, Said};
 
 // The value that the stretch from v to e says, whose form was asked.

@@ -22,7 +22,7 @@ use contents::{Cursor, Part};
 use layout::{Header, Row};
 use signs::Sign;
 use tags::Tag;
-use tokens::{Fault, Figures, Read};
+use tokens::{Fault, Figures, Quoted, Read};
 
 // ---- names, sign by sign
 fn same_byte(standard: bool, b: u8, c: u8) -> bool

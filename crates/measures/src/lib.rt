@@ -8,7 +8,7 @@ ghost use Rattle.measures.specs.Width.{flag_of, plain_columns, widened, lines_wi
 ghost use Rattle.measures.specs.Width.{number_in, Ready, Measurable, measured};
 
 use layout::{Columns, Kind, Line, Row};
-use tokens::Fault;
+use tokens::{Fault, Read};
 use variables::{Head, Rest};
 
 fn flag(b: bool) -> usize

@@ -40,6 +40,7 @@ use laying::{Rooms, Tally};
 use layout::{Columns, Row};
 use prefaces::{Manner, Prefaced};
 use prologs::Prolog;
+use statements::Position;
 use tokens::{Fault, Quoted, Read, Read};
 use values::{Block, Listed};
 use variables::{Head, Rest};

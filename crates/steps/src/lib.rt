@@ -12,7 +12,7 @@ ghost use Rattle.steps.specs.Step.{statement_found};
 ghost use Rattle.steps.specs.Step.{number_in, number_span, phrase_in, string_span, value_span};
 
 use scan::Word;
-use tokens::Read;
+use tokens::{Figures, Quoted, Read};
 
 // A stretch of the definition, the place where reading goes on behind it, and of a number what it says.
 #[derive(Clone, Copy)]

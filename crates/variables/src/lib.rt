@@ -14,7 +14,7 @@ ghost use Rattle.variables.specs.Head.{past_type, join_titles, join_head, head_o
 ghost use Rattle.variables.specs.Rest.{values_rest, join_size, join_nothing, spread_then, rest_of};
 ghost use Rattle.variables.specs.Rest.{rested_of, Stored};
 
-use statements::Typed;
+use statements::{Position, Typed};
 use tokens::{Choice, Fault, Figures, Quoted, Read};
 use values::{Block, Listed};
 
@@ -111,47 +111,31 @@ pub struct Titles {
 fn join_titles(i: Read<Figures>, n: Read<Quoted>, l: Read<Quoted>) -> Read<Titles>
     ensures { result ≡ join_titles i n l }
 {
-    match i {
-        Err(f) => Err(f),
-        Ok(x) => match n {
-            Err(f) => Err(f),
-            Ok(name) => match l {
-                Err(f) => Err(f),
-                Ok(label) => Ok(Titles {
-                    ident: x.size,
-                    name,
-                    label,
-                }),
-            },
-        },
-    }
+    let ident = i?.size;
+    let name = n?;
+    let label = l?;
+    Ok(Titles { ident, name, label })
 }
 
 fn join_head(t: Read<Titles>, k: Typed, p: Read<Position>) -> Read<Head>
     ensures { result ≡ join_head t k p }
 {
-    match t {
-        Err(f) => Err(f),
-        Ok(x) => match k {
-            Typed::Not(f) => Err(f),
-            Typed::Is { kind, next: _ } => match p {
-                Err(f) => Err(f),
-                Ok(q) => {
-                    let name = x.name;
-                    let label = x.label;
-                    Ok(Head {
-                        ident: x.ident,
-                        name,
-                        label,
-                        kind,
-                        start: q.start,
-                        finish: q.finish,
-                        place: q.place,
-                        next: q.next,
-                    })
-                }
-            },
-        },
+    let x = t?;
+    match k {
+        Typed::Not(f) => Err(f),
+        Typed::Is { kind, next: _ } => {
+            let q = p?;
+            Ok(Head {
+                ident: x.ident,
+                name: x.name,
+                label: x.label,
+                kind,
+                start: q.start,
+                finish: q.finish,
+                place: q.place,
+                next: q.next,
+            })
+        }
     }
 }
 
@@ -239,39 +223,31 @@ fn values_rest(
 fn join_size(n: Read<Figures>, first: usize) -> Read<Rest>
     ensures { result ≡ rested_of first (join_size n) }
 {
-    match n {
-        Ok(x) => {
-            let block = values::empty_block();
-            Ok(Rest {
-                block,
-                last: first,
-                subfields: 0,
-                subwidth: 0,
-                size: x.size,
-                next: x.next,
-            })
-        }
-        Err(f) => Err(f),
-    }
+    let x = n?;
+    let block = values::empty_block();
+    Ok(Rest {
+        block,
+        last: first,
+        subfields: 0,
+        subwidth: 0,
+        size: x.size,
+        next: x.next,
+    })
 }
 
 fn join_nothing(t: Read<usize>, first: usize) -> Read<Rest>
     ensures { result ≡ rested_of first (join_nothing t) }
 {
-    match t {
-        Ok(next) => {
-            let block = values::empty_block();
-            Ok(Rest {
-                block,
-                last: first,
-                subfields: 0,
-                subwidth: 0,
-                size: 0,
-                next,
-            })
-        }
-        Err(f) => Err(f),
-    }
+    let next = t?;
+    let block = values::empty_block();
+    Ok(Rest {
+        block,
+        last: first,
+        subfields: 0,
+        subwidth: 0,
+        size: 0,
+        next,
+    })
 }
 
 // SPREAD or not, and then VALUES.

@@ -25,8 +25,8 @@ returns-in-Is c =
     (c.share.ensures (unknown_at a.h.unknown ∷ p.charges) (omega arith, h)
     (behind_found a.h.unknown p.charges h p.found c.behind_tag-behind.ensures))
 
-pub returns-in-Err : goal.returns-in-Err
-returns-in-Err c =
+pub returns-in-Not : goal.returns-in-Not
+returns-in-Not c =
     let a = c.args in
     rw (passed_refused (nothing a.bad a.d.now SPREAD a.empty a.at)
-    (sym c.pass_pair.ensures ∙ c.in-Err.is))
+    (sym c.pass_pair.ensures ∙ c.in-Not.is))

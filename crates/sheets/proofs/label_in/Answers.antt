@@ -25,9 +25,9 @@ returns-in-At c =
           (λ t n f. text_long a.bad a.d.now LABEL (rich a.languages) _ _ (sym e ∙ f))),
     )
 
-pub returns-in-Err : goal.returns-in-Err
-returns-in-Err c =
+pub returns-in-Not : goal.returns-in-Not
+returns-in-Not c =
     let a = c.args in
     let e = due_stops a.bad a.d.now LABEL (text a.bad a.d.now LABEL (rich a.languages)) a.at
-    (sym c.next_due.ensures.0 ∙ c.in-Err.is) in
+    (sym c.next_due.ensures.0 ∙ c.in-Not.is) in
     (rw e, tt)

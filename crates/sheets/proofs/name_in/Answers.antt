@@ -22,10 +22,10 @@ returns-in-At c =
       ends = name_ends a.d.now c.naming_at.result c.naming_at.ensures.inside c.naming_at.ensures.next;
     }
 
-pub returns-in-Err : goal.returns-in-Err
-returns-in-Err c =
+pub returns-in-Not : goal.returns-in-Not
+returns-in-Not c =
     let a = c.args in
-    let e = sym c.next_due.ensures.0 ∙ c.in-Err.is in
+    let e = sym c.next_due.ensures.0 ∙ c.in-Not.is in
     record {
       is = λ l h. rw (due_stops a.bad a.d.now NAME (naming a.bad a.d.now a.m.latin a.m.standard l) a.at e);
       ends = tt;

@@ -21,9 +21,9 @@ returns-in-At c =
           (λ p n f. position_fine a.bad a.d.now _ _ (sym e ∙ f))),
     )
 
-pub returns-in-Err : goal.returns-in-Err
-returns-in-Err c =
+pub returns-in-Not : goal.returns-in-Not
+returns-in-Not c =
     let a = c.args in
     let e = due_stops a.bad a.d.now POSITION (position a.bad a.d.now) a.at
-    (sym c.next_due.ensures.0 ∙ c.in-Err.is) in
+    (sym c.next_due.ensures.0 ∙ c.in-Not.is) in
     (rw e, tt)

@@ -18,31 +18,31 @@ pub end_in-requires : goal.end_in-requires
 end_in-requires c =
     let a = c.args in
     listed_next a.bad a.d.now a.languages a.quantity a.before _ (λ x m e. c.values_at.ensures.next e)
-    (sym c.values_at.ensures.answer ∙ c.in-Ok.is)
+    (sym c.values_at.ensures.answer ∙ c.in-Is.is)
 
 pub returns-in-Ok-end_in : goal.returns-in-Ok-end_in
 returns-in-Ok-end_in c =
     let a = c.args in
     valued_is a.bad a.d.now a.languages a.quantity a.before a.count a.width a.o _ _ (sym c.tag_due.ensures ∙ c.in-Ok.is)
-    (sym c.values_at.ensures.answer ∙ c.in-Ok.is)
+    (sym c.values_at.ensures.answer ∙ c.in-Is.is)
     (sym c.end_in.ensures.0 ∙ c.in-Ok-end_in.is) c.values_at.ensures.stored
 
 pub returns-in-Err : goal.returns-in-Err
 returns-in-Err c =
     let a = c.args in
     valued_ended a.bad a.d.now a.languages a.quantity a.before a.count a.width a.o _ _ (sym c.tag_due.ensures ∙ c.in-Ok.is)
-    (sym c.values_at.ensures.answer ∙ c.in-Ok.is)
+    (sym c.values_at.ensures.answer ∙ c.in-Is.is)
     (sym c.end_in.ensures.0 ∙ c.in-Err.is)
 
-pub returns-in-Err-values_at : goal.returns-in-Err-values_at
-returns-in-Err-values_at c =
+pub returns-in-Not-values_at : goal.returns-in-Not-values_at
+returns-in-Not-values_at c =
     let a = c.args in
     valued_not a.bad a.d.now a.languages a.quantity a.before a.count a.width a.o _ _
     (sym c.tag_due.ensures ∙ c.in-Ok.is)
-    (sym c.values_at.ensures.answer ∙ c.in-Err-values_at.is)
+    (sym c.values_at.ensures.answer ∙ c.in-Not-values_at.is)
 
-pub returns-in-Err : goal.returns-in-Err
-returns-in-Err c =
+pub returns-in-Not : goal.returns-in-Not
+returns-in-Not c =
     let a = c.args in
     valued_due a.bad a.d.now a.languages a.quantity a.before a.count a.width a.o _ _
-    (sym c.tag_due.ensures ∙ c.in-Err.is)
+    (sym c.tag_due.ensures ∙ c.in-Not.is)

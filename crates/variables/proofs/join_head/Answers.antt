@@ -1,33 +1,19 @@
+use Rattle.std.proofs.Common.{rules}
 use Rattle.variables.specs.Head.{join_head}
 use Rattle.variables.proofs.join_head.Goals as goal
 
-pub returns-in-Err : goal.returns-in-Err
+pub returns-in_err-x : goal.returns-in_err-x
 unfolding join_head
-returns-in-Err c =
-    rw c.in-Err.is
+returns-in_err-x c = search rules
 
-pub returns-in-Err-k : goal.returns-in-Err-k
+pub returns-in-Not : goal.returns-in-Not
 unfolding join_head
-returns-in-Err-k c =
-    rw (
-      c.in-Ok.is,
-      c.in-Err-k.is,
-    )
+returns-in-Not c = search rules
 
-pub returns-in-Err-p : goal.returns-in-Err-p
+pub returns-in_err-q-in-Is : goal.returns-in_err-q-in-Is
 unfolding join_head
-returns-in-Err-p c =
-    rw (
-      c.in-Ok.is,
-      c.in-Ok-k.is,
-      c.in-Err-p.is,
-    )
+returns-in_err-q-in-Is c = search rules
 
-pub returns-in-Ok-p : goal.returns-in-Ok-p
+pub returns-in_ok-q-in-Is : goal.returns-in_ok-q-in-Is
 unfolding join_head
-returns-in-Ok-p c =
-    rw (
-      c.in-Ok.is,
-      c.in-Ok-k.is,
-      c.in-Ok-p.is,
-    )
+returns-in_ok-q-in-Is c = search rules

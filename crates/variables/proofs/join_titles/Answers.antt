@@ -1,33 +1,19 @@
+use Rattle.std.proofs.Common.{rules}
 use Rattle.variables.specs.Head.{join_titles}
 use Rattle.variables.proofs.join_titles.Goals as goal
 
-pub returns-in-Err : goal.returns-in-Err
+pub returns-in_err-ident : goal.returns-in_err-ident
 unfolding join_titles
-returns-in-Err c =
-    rw c.in-Err.is
+returns-in_err-ident c = search rules
 
-pub returns-in-Err-n : goal.returns-in-Err-n
+pub returns-in_err-name : goal.returns-in_err-name
 unfolding join_titles
-returns-in-Err-n c =
-    rw (
-      c.in-Ok.is,
-      c.in-Err-n.is,
-    )
+returns-in_err-name c = search rules
 
-pub returns-in-Err-l : goal.returns-in-Err-l
+pub returns-in_err-label : goal.returns-in_err-label
 unfolding join_titles
-returns-in-Err-l c =
-    rw (
-      c.in-Ok.is,
-      c.in-Ok-n.is,
-      c.in-Err-l.is,
-    )
+returns-in_err-label c = search rules
 
-pub returns-in-Ok-l : goal.returns-in-Ok-l
+pub returns : goal.returns
 unfolding join_titles
-returns-in-Ok-l c =
-    rw (
-      c.in-Ok.is,
-      c.in-Ok-n.is,
-      c.in-Ok-l.is,
-    )
+returns c = search rules
