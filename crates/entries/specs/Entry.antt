@@ -19,7 +19,7 @@ use Rattle.variables.specs.declared.Rest.{Rest}
 use Rattle.measures.specs.Width.{measured}
 use Rattle.entries.specs.declared.Stood.{Stood}
 use Rattle.entries.specs.declared.Stood.TheVariants as stood
-use Rattle.measures.specs.declared.Columns.{Columns}
+use Rattle.layout.specs.declared.Columns.{Columns}
 
 -- a variable, and the place after its END VARIABLE; or a refusal
 pub data Entry : Type 0 where

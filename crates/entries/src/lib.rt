@@ -12,7 +12,7 @@ ghost use Rattle.entries.specs.Entry.{end_variable, rest_then, entry_of};
 ghost use Rattle.entries.specs.Entry.{settled_by, GoodHead, stood_of, Stored};
 
 use layout::Columns;
-use tokens::{Fault, Read, Read};
+use tokens::{Fault, Read};
 use variables::{Head, Rest};
 
 // A variable that stands: its columns, how many value lines there are then in all, and the place after END VARIABLE.

@@ -41,7 +41,7 @@ use layout::{Columns, Row};
 use prefaces::{Manner, Prefaced};
 use prologs::Prolog;
 use statements::Position;
-use tokens::{Fault, Quoted, Read, Read};
+use tokens::{Fault, Quoted, Read};
 use values::{Block, Listed};
 use variables::{Head, Rest};
 
