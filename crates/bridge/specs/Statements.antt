@@ -25,12 +25,13 @@ use Rattle.bridge.specs.Facts.{capped_limit, capped_zero, capped_mod, gap_ahead,
 use Rattle.bridge.specs.Facts.{choose_on}
 use Rattle.bridge.specs.Tokens.{to_reading, to_number, number_on_lem}
 use Rattle.bridge.specs.Notes.{statement_on_lem}
+use Rattle.statements.specs.declared.Position as books
 use Rattle.statements.specs.declared.Subfields.{Subfields}
 
 abbrev pub figures : Figure → ℕ → Figures
 figures x n = record { size = capped x.value; count = x.digits; place = x.place; next = n }
 
-abbrev pub to_stated : Result Position → Read Position
+abbrev pub to_stated : Result Position → Read books.Position
 to_stated (Is p n) = Ok (record {
   start = capped p.start.value;
   finish = capped (get_or p.finish p.start).value;

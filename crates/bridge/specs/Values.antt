@@ -172,7 +172,7 @@ module _ (d : List ℕ) (quantity : Bool) (first : ℕ) where
     unfolding rising range_charges goes_before
     charges_rise = rw (le-leb a.place b.place rises, le-leb b.place b.place (omega arith))
 
-    abbrev judge : Bool → Bool → Bool → Bool → Bool → Bool → Read Block
+    abbrev judge : Bool → Bool → Bool → Bool → Bool → Bool → Read books.Block
     judge p q e v g h =
         cond p (cond q (cond e (cond v (Err (fault 6 b.place))
         (cond g (Err (fault 8 a.place)) (cond h (Err (fault 8 b.place)) (Ok (said a b)))))

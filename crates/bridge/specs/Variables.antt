@@ -10,6 +10,7 @@ use Rattle.scan.specs.declared.Word.{Word}
 use Rattle.scan.specs.declared.Word.TheVariants as spelled
 use Rattle.tokens.specs.declared.Fault.{Fault}
 use Rattle.tokens.specs.rule.Gap.{fault, gap_at, Read}
+use Rattle.tokens.specs.declared.Figures.{Figures}
 use Rattle.tokens.specs.Gap.{gap_on}
 use Rattle.tokens.specs.Token.{of_word, word_here, of_choice, choice_of, number_on}
 use Rattle.statements.specs.rule.Words.{VARIABLE, TYPE, SINGLE, MULTIPLE, QUANTITY, CHARACTER, LOGICAL}
@@ -104,8 +105,7 @@ module _ (d : List ℕ) where
           by : (q : Bool) → ltb 4 x.digits ≡ q
               → judge_ident met (length earlier) (to_number (Is x m)) ≡ chain Err (to_number (Is x m)) (ident_charges earlier x)
           by true e = rw e (over (eqb x.value 0)) where
-            over : (z : Bool) → Err (fault 5 x.place)
-                ≡ cond z (Err (fault 5 x.place)) (Err (fault 5 x.place))
+            over : (z : Bool) → ◌≡◌ {A = Read Figures} (Err (fault 5 x.place)) (cond z (Err (fault 5 x.place)) (Err (fault 5 x.place)))
             over true = refl
             over false = refl
           by false e =
