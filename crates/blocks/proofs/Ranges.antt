@@ -9,7 +9,7 @@ use lib.Dec.{eqb, ltb, leb}
 use lib.Signed.{lt_z}
 use borrow.Author.Tests.{le-leb, lt-leb, ltb-true, ltb-false, eqb-true, not-false}
 use Rattle.scan.specs.Number.{capped}
-use Rattle.tokens.specs.rule.Gap.{fault, Read}
+use Rattle.tokens.specs.rule.Gap.{fault, OrFault}
 use Rattle.values.specs.declared.Block as books
 use Rattle.values.specs.Value.{scaled_of, point_of, points_of}
 use Rattle.values.specs.Range.{limit_range, judge_range}
@@ -127,13 +127,13 @@ module _ (quantity below : Bool) (x y : Amount) (n : ℕ) where
   abbrev b : ℕ
   b = y.place
 
-  abbrev refused : ℕ → ℕ → Read Block
+  abbrev refused : ℕ → ℕ → OrFault Block
   refused k p = Err (fault k p)
 
-  abbrev limit : Bool → Bool → Read Block
+  abbrev limit : Bool → Bool → OrFault Block
   limit g h = cond g (refused 8 a) (cond h (refused 8 b) (Ok (made x y)))
 
-  abbrev judge : Bool → Bool → Bool → Bool → Bool → Bool → Read Block
+  abbrev judge : Bool → Bool → Bool → Bool → Bool → Bool → OrFault Block
   judge p q e v g h = cond p (cond q (cond e (cond v (refused 6 b) (limit g h)) (refused 6 b)) (refused 6 b)) (refused 6 a)
 
   judge_is : judge_range below quantity (held_as x) (held_as y)

@@ -15,7 +15,7 @@ use Rattle.tags.specs.rule.Tag.{tag_of}
 use Rattle.tags.specs.declared.Held.{Held}
 use Rattle.tags.specs.declared.Tag.{Tag}
 use Rattle.tags.specs.declared.Tag.TheVariants as tag
-use Rattle.tokens.specs.rule.Gap.{fault, Read}
+use Rattle.tokens.specs.rule.Gap.{fault, OrFault}
 use Rattle.values.specs.declared.Block as books
 use Rattle.values.specs.Value.{scaled_of}
 use Rattle.values.specs.Line.{judge_line, grown_by, line_cells}
@@ -142,7 +142,7 @@ module _ {quantity : Bool} {before : ℕ} {start room : List ℤ} {stamp : ℕ} 
 
   pub line_went : (top : ℕ) (y : Found) → (Clear w.charges → n ≤ top) → Late 51 w.charges
       → judged w.charges x n ≡ cond (eqb y.number 0) (Is x n) (Not (fault y.number y.place))
-      → (v : Read ℤ) → v ≡ judge_line (room_at room before) (last - before) before quantity b (held_as a)
+      → (v : OrFault ℤ) → v ≡ judge_line (room_at room before) (last - before) before quantity b (held_as a)
       → Went top quantity before start (judged_room room last (said_for w n) v) stamp (judged_marks marks stamp v) last
       (bind (judged (line_charges quantity before c a ++ w.charges) x n) more) (placed_of b (said_for w n) y v)
   unfolding line_charges

@@ -13,7 +13,7 @@ use Rattle.below.specs.rule.Below.{any_below}
 use Rattle.below.specs.Below.{holds_not}
 use Rattle.cells.specs.rule.Cell.{signed_of, eq_z}
 use Rattle.cells.specs.Cell.{same_true}
-use Rattle.tokens.specs.rule.Gap.{fault, Read}
+use Rattle.tokens.specs.rule.Gap.{fault, OrFault}
 use Rattle.values.specs.declared.Block as books
 use Rattle.values.specs.Value.{scaled_of}
 use Rattle.values.specs.Line as lines
@@ -129,7 +129,7 @@ module _ (quantity : Bool) (first : ℕ) (b : books.Block) (c : Block) (kept : K
   unfolding rising line_charges goes_before
   rise = rw (le-leb a.place a.place (omega arith))
 
-  abbrev bad : ℕ → Read ℤ
+  abbrev bad : ℕ → OrFault ℤ
   bad k = Err (fault k a.place)
 
   abbrev again : Bool

@@ -8,7 +8,7 @@ use Rattle.layout.specs.rule.Layout.{line_size}
 use Rattle.spans.specs.rule.Heard.{heard, All}
 use Rattle.amounts.specs.rule.Said.{true_in}
 use Rattle.tokens.specs.declared.Value.{Value}
-use Rattle.tokens.specs.rule.Gap.{fault, Read}
+use Rattle.tokens.specs.rule.Gap.{fault, OrFault}
 use Rattle.values.specs.declared.Block as books
 use Rattle.values.specs.declared.Said.{Said}
 use Rattle.values.specs.declared.Listed.{Listed}
@@ -50,12 +50,12 @@ Below d a b r =
     → r ≡ lt_z (number_of b.minus (true_in y)) (number_of a.minus (true_in x))
 
 -- ---- a range, whose second value may stand first: of equal numbers its place goes before then
-abbrev pub turned : Bool → Value → Read Block → Read Block
+abbrev pub turned : Bool → Value → OrFault Block → OrFault Block
 turned quantity b (Ok k) = Ok k
 turned quantity b (Err f) =
     Err (cond (eqb f.number 8 && large_of quantity b) (fault 8 b.place) f)
 
-unfoldable pub pair_of : Bool → Bool → Value → Value → Read Block
+unfoldable pub pair_of : Bool → Bool → Value → Value → OrFault Block
 pair_of below quantity a b =
     cond (ltb b.place a.place)
     (cond (form_of quantity b) (turned quantity b (judge_range below quantity a b)) (Err (fault 6 b.place)))
@@ -79,7 +79,7 @@ block_of c = record {
 abbrev pub range_block : Range → Block
 range_block r = unlisted (some r)
 
-abbrev pub judged_of : Result Range → Read Block
+abbrev pub judged_of : Result Range → OrFault Block
 judged_of (Is r n) = Ok (block_of (range_block r))
 judged_of (Not f) = Err f
 
@@ -92,7 +92,7 @@ told [] = []
 told (x ∷ l) = said_of x ∷ told l
 
 -- what is judged of a line, in the books
-abbrev pub verdict_of : Result Line → Read ℤ
+abbrev pub verdict_of : Result Line → OrFault ℤ
 verdict_of (Is x n) = Ok (scaled x.value)
 verdict_of (Not f) = Err f
 
@@ -105,12 +105,12 @@ abbrev pub unless_of : Found → books.Block → ℕ → Lined
 unless_of x b n = cond (eqb x.number 0) (lined.Is b n) (lined.Not (fault x.number x.place))
 
 -- a line that was judged: the block has grown by it
-abbrev pub placed_of : books.Block → Said → Found → Read ℤ → Lined
+abbrev pub placed_of : books.Block → Said → Found → OrFault ℤ → Lined
 placed_of b s x (Ok z) = unless_of x (grown_by b s.value) s.next
 placed_of b s x (Err f) = lined.Not f
 
 -- a range that was judged
-abbrev pub ranged_of : Found → ℕ → Read Block → Lined
+abbrev pub ranged_of : Found → ℕ → OrFault Block → Lined
 ranged_of x n (Ok b) = unless_of x b n
 ranged_of x n (Err f) = lined.Not f
 

@@ -24,7 +24,7 @@ ghost use Rattle.blocks.specs.Lines.{Closed};
 use elements::{Body, Open, Passed};
 use ranks::Found;
 use tags::{Held, Tag};
-use tokens::{Fault, Quoted, Read, Value};
+use tokens::{Fault, OrFault, Quoted, Value};
 use values::{Block, Listed, Said};
 
 // The value that the stretch from v to e says, whose form was asked.
@@ -59,7 +59,7 @@ fn below_in(d: &[u8], a: Value, b: Value) -> bool
 }
 
 // A range whose second value stands first, and has its form: an 8 is at that one, if it has one.
-fn turn(quantity: bool, b: Value, j: Read<Block>) -> Read<Block>
+fn turn(quantity: bool, b: Value, j: OrFault<Block>) -> OrFault<Block>
     ensures { result ≡ turned quantity b j }
 {
     match j {
@@ -77,7 +77,7 @@ fn turn(quantity: bool, b: Value, j: Read<Block>) -> Read<Block>
 }
 
 // A range from a to b, whose second value may stand first.
-fn judge_pair(below: bool, quantity: bool, a: Value, b: Value) -> Read<Block>
+fn judge_pair(below: bool, quantity: bool, a: Value, b: Value) -> OrFault<Block>
     ensures { result ≡ pair_of below quantity a b }
 {
     if b.place < a.place {

@@ -19,7 +19,7 @@ use Rattle.scan.proofs.Runs.{held}
 use Rattle.tokens.specs.declared.Fault.{Fault}
 use Rattle.tokens.specs.declared.Mark.{Mark}
 use Rattle.tokens.specs.declared.Value.{Value}
-use Rattle.tokens.specs.rule.Gap.{fault, Read}
+use Rattle.tokens.specs.rule.Gap.{fault, OrFault}
 use Rattle.tokens.specs.Token.{mark_of, value_at, of_value, value_here}
 use Rattle.survey.specs.rule.Survey.{Amount}
 use Rattle.reading.specs.rule.Result.{Result, Is, Not}
@@ -41,7 +41,7 @@ written a x y m = record {
   next = m;
 }
 
-pub data Valued (d : List ℕ) (n : ℕ) : Read Value → Result Amount → Type 0 where
+pub data Valued (d : List ℕ) (n : ℕ) : OrFault Value → Result Amount → Type 0 where
   valued : {a : Amount} {x y m : ℕ} → value_of d x y ≡ a.size → n ≤ a.place → a.place ≤ m
       → Valued d n (Ok (written a x y m)) (Is a m)
   unvalued : {f : Fault} → Valued d n (Err f) (Not f)

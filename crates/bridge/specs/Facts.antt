@@ -22,7 +22,7 @@ use Rattle.marks.specs.rule.Marks.{comment_of}
 use Rattle.tokens.specs.declared.Fault.{Fault}
 use Rattle.tokens.specs.declared.Choice.{Choice}
 use Rattle.tokens.specs.declared.Choice.TheVariants.{Taken, Left}
-use Rattle.tokens.specs.rule.Gap.{fault, gap_skip, gap_step, gap_at, Read}
+use Rattle.tokens.specs.rule.Gap.{fault, gap_skip, gap_step, gap_at, OrFault}
 use Rattle.tokens.specs.Gap.{left}
 use Rattle.tokens.specs.Token.{of_choice, choice_of}
 use Rattle.tokens.proofs.Gaps.{gap_less, gap_again, gap_done}
@@ -100,7 +100,7 @@ module _ (d : List ℕ) where
   gap_within : (f n : ℕ) → length d - n < f → {m : ℕ} → gap_at d n ≡ Ok m → n ≤ m
   gap_within zero n h e = absurd (omega arith)
   gap_within (suc f) n h {m} e = by (gap_step (text d n)) refl (λ k l. gap_within f k l) where
-    by : (s : Next ℕ (Read ℕ)) → gap_step (text d n) ≡ s → ((k : ℕ) → length d - k < f → gap_at d k ≡ Ok m → k ≤ m) → n ≤ m
+    by : (s : Next ℕ (OrFault ℕ)) → gap_step (text d n) ≡ s → ((k : ℕ) → length d - k < f → gap_at d k ≡ Ok m → k ≤ m) → n ≤ m
     by (Again k) i ih = let l = gap_less d (from_text d n) i in let j = ih k (omega arith) (sym (gap_again d n i) ∙ e) in omega arith
     by (Done r) i ih = let q = sym (gap_done d n i) ∙ e in step_place n (text d n) (place_from d n) (rw q at i)
 
@@ -146,12 +146,12 @@ module _ (d : List ℕ) where
 
   pub number_told : (n : ℕ) → Told n (number d n)
   number_told n = by (gap_at d n) refl where
-    by : (t : Read ℕ) → gap_at d n ≡ t → Told n (bind (passed t) λ a. figure d)
+    by : (t : OrFault ℕ) → gap_at d n ≡ t → Told n (bind (passed t) λ a. figure d)
     by (Ok m) e = told_on (gap_ahead e) (figure_told m)
     by (Err f) e = untold
 
   -- ---- a word that may stand behind a gap, in the code's books and in the rule
-  pub choose : {A B R : Type 0} (T : R → Result B → Type 0) (m : ℕ) (w : List ℕ) (P Q : Reader A) (old : Read ℕ → Choice → R)
+  pub choose : {A B R : Type 0} (T : R → Result B → Type 0) (m : ℕ) (w : List ℕ) (P Q : Reader A) (old : OrFault ℕ → Choice → R)
       (K : A → Reader B)
       → ((f : Fault) → gap_at d m ≡ Err f → T (old (Err f) Left) (Not f))
       → ((k j : ℕ) → gap_at d m ≡ Ok k → word_at d k w ≡ spelled.Matched j → T (old (Ok k) (Taken j)) (bind (P j) K))
@@ -163,11 +163,11 @@ module _ (d : List ℕ) where
     at k e (spelled.Matched j) i = taken k j e i
     at k e spelled.Not i = left k e i
 
-    by : (t : Read ℕ) → gap_at d m ≡ t → T (old t (choice_of d t w)) (bind (bind (passed t) λ a. either d w P Q) K)
+    by : (t : OrFault ℕ) → gap_at d m ≡ t → T (old t (choice_of d t w)) (bind (bind (passed t) λ a. either d w P Q) K)
     by (Ok k) e = at k e (word_at d k w) refl
     by (Err f) e = refused f e
 
-  pub choose_on : {A B R : Type 0} (m : ℕ) (w : List ℕ) (P Q : Reader A) (old : Read ℕ → Choice → R) (to : Result B → R) (K : A → Reader B)
+  pub choose_on : {A B R : Type 0} (m : ℕ) (w : List ℕ) (P Q : Reader A) (old : OrFault ℕ → Choice → R) (to : Result B → R) (K : A → Reader B)
       → ((f : Fault) → old (Err f) Left ≡ to (Not f))
       → ((k j : ℕ) → gap_at d m ≡ Ok k → word_at d k w ≡ spelled.Matched j → old (Ok k) (Taken j) ≡ to (bind (P j) K))
       → ((k : ℕ) → gap_at d m ≡ Ok k → old (Ok k) Left ≡ to (bind (Q k) K))

@@ -14,7 +14,7 @@ use Rattle.scan.proofs.Texts.{from_text}
 use Rattle.marks.specs.declared.Skip.{Skip}
 use Rattle.marks.specs.declared.Skip.TheVariants.{Past, Unclosed, Bad}
 use Rattle.marks.specs.rule.Marks.{comment_of}
-use Rattle.tokens.specs.rule.Gap.{gap_skip, gap_step, gap_at, Read}
+use Rattle.tokens.specs.rule.Gap.{gap_skip, gap_step, gap_at, OrFault}
 use Rattle.tokens.proofs.Gaps.{gap_less, gap_again, gap_done}
 use Rattle.reading.specs.rule.Token.{string}
 use Rattle.bridge.specs.Lowest.{never}
@@ -53,7 +53,7 @@ module _ (d : List ℕ) where
   twice : (f n : ℕ) → length d - n < f → {m : ℕ} → gap_at d n ≡ Ok m → gap_at d m ≡ Ok m
   twice zero n h e = absurd (omega arith)
   twice (suc f) n h {m} e = by (gap_step (text d n)) refl (λ k l. twice f k l) where
-    by : (s : Next ℕ (Read ℕ)) → gap_step (text d n) ≡ s → ((k : ℕ) → length d - k < f → gap_at d k ≡ Ok m → gap_at d m ≡ Ok m)
+    by : (s : Next ℕ (OrFault ℕ)) → gap_step (text d n) ≡ s → ((k : ℕ) → length d - k < f → gap_at d k ≡ Ok m → gap_at d m ≡ Ok m)
         → gap_at d m ≡ Ok m
     by (Again k) i ih = let l = gap_less d (from_text d n) i in ih k (omega arith) (sym (gap_again d n i) ∙ e)
     by (Done r) i ih =

@@ -16,7 +16,7 @@ use Rattle.scan.specs.declared.Word.{Word}
 use Rattle.scan.specs.declared.Word.TheVariants as spelled
 use Rattle.tokens.specs.declared.Fault.{Fault}
 use Rattle.tokens.specs.declared.Value.{Value}
-use Rattle.tokens.specs.rule.Gap.{fault, Read}
+use Rattle.tokens.specs.rule.Gap.{fault, OrFault}
 use Rattle.tokens.specs.Gap.{gap_on}
 use Rattle.tokens.specs.Token.{of_choice, choice_of, value_here, past_value, string_on, past_string}
 use Rattle.statements.specs.rule.Words.{SPECIAL, END, VALUES}
@@ -83,7 +83,7 @@ module _ (d : List ℕ) (quantity : Bool) (first : ℕ) where
     abbrev another : Reader (Next Listing Block)
     another i = bind (amount d i) λ a n. Is (Again (listing c a)) n
 
-    value_next : (i : ℕ) {va : Read Value} {ra : Result Amount} → Valued d i va ra
+    value_next : (i : ℕ) {va : OrFault Value} {ra : Result Amount} → Valued d i va ra
         → Step k (Again (state_of va b l)) (bind ra λ a n. Is (Again (listing c a)) n)
     value_next i (valued {a = a} {x = x} {y = y} {m = m} e s t) =
         let h : Standing a x y m m b l c = record { says = e; from = refl; kept = kept; lines = lines } in on h count few

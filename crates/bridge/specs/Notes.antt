@@ -8,7 +8,7 @@ use Rattle.scan.specs.rule.Loop.{Again, Done}
 use Rattle.scan.specs.rule.Word.{word_at}
 use Rattle.scan.specs.declared.Word.{Word}
 use Rattle.scan.specs.declared.Word.TheVariants as spelled
-use Rattle.tokens.specs.rule.Gap.{gap_at, Read}
+use Rattle.tokens.specs.rule.Gap.{gap_at, OrFault}
 use Rattle.tokens.specs.Gap.{gap_on, left}
 use Rattle.tokens.specs.Token.{choice_of}
 use Rattle.statements.specs.rule.Words.{NOTE}
@@ -57,7 +57,7 @@ module _ (d : List ℕ) where
   pub notes_on_lem : {A : Type 0} (r : Result A) → notes_on d (to_reading r) ≡ to_reading (bind r λ a. notes d)
   unfolding notes_on notes gap_on
   notes_on_lem (Is a n) = by (gap_at d n) where
-    by : (t : Read ℕ) → notes_here d t ≡ to_reading (bind (passed t) λ a. repeat (suc (length d)) (note d) tt)
+    by : (t : OrFault ℕ) → notes_here d t ≡ to_reading (bind (passed t) λ a. repeat (suc (length d)) (note d) tt)
     by (Ok m) = turns (suc (length d)) m (omega arith)
     by (Err f) = notes_refused f
   notes_on_lem (Not f) = notes_refused f

@@ -8,7 +8,7 @@ use Rattle.std.proofs.Math.Dec.{eqb}
 use Rattle.scan.specs.Number.{capped}
 use Rattle.tokens.specs.declared.Fault.{Fault}
 use Rattle.tokens.specs.declared.Figures.{Figures}
-use Rattle.tokens.specs.rule.Gap.{fault, Read}
+use Rattle.tokens.specs.rule.Gap.{fault, OrFault}
 use Rattle.tokens.specs.Gap.{gap_on}
 use Rattle.tokens.specs.Token.{choice_of, number_on, number_here, past_number}
 use Rattle.statements.specs.rule.Words.{POSITION, TO, OF, SIZE}
@@ -31,7 +31,7 @@ use Rattle.statements.specs.declared.Subfields.{Subfields}
 abbrev pub figures : Figure → ℕ → Figures
 figures x n = record { size = capped x.value; count = x.digits; place = x.place; next = n }
 
-abbrev pub to_stated : Result Position → Read books.Position
+abbrev pub to_stated : Result Position → OrFault books.Position
 to_stated (Is p n) = Ok (record {
   start = capped p.start.value;
   finish = capped (get_or p.finish p.start).value;
@@ -45,7 +45,7 @@ abbrev pub even_or : ℕ → ℕ → Option Figure → ℕ
 even_or room n none = room / n
 even_or room n (some w) = capped w.value
 
-abbrev pub to_spreading : ℕ → Result Spread → Read Subfields
+abbrev pub to_spreading : ℕ → Result Spread → OrFault Subfields
 to_spreading room (Is s n) = Ok
     (record { count = capped s.count.value; width = even_or room (capped s.count.value) s.width; next = n })
 to_spreading room (Not f) = Err f

@@ -17,7 +17,7 @@ use Rattle.marks.specs.declared.Inside.TheVariants.{Plain}
 use Rattle.marks.specs.declared.Skip.{Skip}
 use Rattle.marks.specs.declared.Skip.TheVariants.{Past, Unclosed, Bad}
 use Rattle.marks.specs.rule.Marks.{string_of}
-use Rattle.tokens.specs.rule.Gap.{fault, gap_at, Read}
+use Rattle.tokens.specs.rule.Gap.{fault, gap_at, OrFault}
 use Rattle.tokens.specs.Gap.{then, gap_on, spaces_on}
 use Rattle.tokens.specs.Token.{of_word, word_here, word_on, of_digits, number_here, number_on, past_number, of_skip, string_in, phrase_on}
 use Rattle.tokens.specs.Token.{string_on}
@@ -31,15 +31,15 @@ use Rattle.tokens.specs.declared.Figures.{Figures}
 use Rattle.tokens.specs.declared.Quoted.{Quoted}
 
 -- ---- an answer as the code's books have it
-abbrev pub to_reading : {A : Type 0} → Result A → Read ℕ
+abbrev pub to_reading : {A : Type 0} → Result A → OrFault ℕ
 to_reading (Is a n) = Ok n
 to_reading (Not f) = Err f
 
-abbrev pub to_number : Result Figure → Read Figures
+abbrev pub to_number : Result Figure → OrFault Figures
 to_number (Is x n) = Ok (record { size = capped x.value; count = x.digits; place = x.place; next = n })
 to_number (Not f) = Err f
 
-abbrev pub to_phrase : Result KeptText → Read Quoted
+abbrev pub to_phrase : Result KeptText → OrFault Quoted
 to_phrase (Is t n) = Ok (record { place = t.place; length = t.length; next = n })
 to_phrase (Not f) = Err f
 
@@ -53,7 +53,7 @@ unfolding past_string
 past_string_lem (Is t n) = refl
 past_string_lem (Not f) = refl
 
-pub passed_on : (t : Read ℕ) → t ≡ to_reading (passed t)
+pub passed_on : (t : OrFault ℕ) → t ≡ to_reading (passed t)
 passed_on (Ok n) = refl
 passed_on (Err f) = refl
 
@@ -80,7 +80,7 @@ module _ (d : List ℕ) where
   pub word_on_lem : {A : Type 0} (r : Result A) (w : List ℕ) → word_on d (to_reading r) w ≡ to_reading (bind r λ a. word d w)
   unfolding word_on word_here gap_on
   word_on_lem (Is a n) w = by (gap_at d n) where
-    by : (t : Read ℕ) → word_here d t w ≡ to_reading (bind (passed t) λ a. here d w)
+    by : (t : OrFault ℕ) → word_here d t w ≡ to_reading (bind (passed t) λ a. here d w)
     by (Ok m) = here_on (Is a m) w
     by (Err f) = refl
   word_on_lem (Not f) w = refl
@@ -102,7 +102,7 @@ module _ (d : List ℕ) where
   pub number_on_lem : {A : Type 0} (r : Result A) → number_on d (to_reading r) ≡ to_number (bind r λ a. number d)
   unfolding number_on number_here gap_on
   number_on_lem (Is a n) = by (gap_at d n) where
-    by : (t : Read ℕ) → number_here d t ≡ to_number (bind (passed t) λ a. figure d)
+    by : (t : OrFault ℕ) → number_here d t ≡ to_number (bind (passed t) λ a. figure d)
     by (Ok m) = number_here_lem m
     by (Err f) = refl
   number_on_lem (Not f) = refl
@@ -121,7 +121,7 @@ module _ (d : List ℕ) where
   pub string_on_lem : {A : Type 0} (r : Result A) → string_on d (to_reading r) ≡ to_phrase (bind r λ a. string d)
   unfolding string_on gap_on
   string_on_lem (Is a n) = by (gap_at d n) where
-    by : (t : Read ℕ) → phrase_on t (λ n. string_in (text d n)) ≡ to_phrase (bind (passed t) λ a n. quoted (text d n))
+    by : (t : OrFault ℕ) → phrase_on t (λ n. string_in (text d n)) ≡ to_phrase (bind (passed t) λ a n. quoted (text d n))
     by (Ok m) = quoted_on (text d m)
     by (Err f) = refl
   string_on_lem (Not f) = refl
@@ -138,7 +138,7 @@ module _ (d : List ℕ) where
   pub letter_on_lem : {A : Type 0} (r : Result A) → letter_on d (to_reading r) ≡ to_reading (bind r λ a. letter d)
   unfolding letter_on gap_on
   letter_on_lem (Is a n) = by (gap_at d n) where
-    by : (t : Read ℕ) → then t (λ n. letter_in (text d n)) ≡ to_reading (bind (passed t) λ a n. reading.letter_in (text d n))
+    by : (t : OrFault ℕ) → then t (λ n. letter_in (text d n)) ≡ to_reading (bind (passed t) λ a n. reading.letter_in (text d n))
     by (Ok m) = letter_in_lem (text d m)
     by (Err f) = refl
   letter_on_lem (Not f) = refl

@@ -12,7 +12,7 @@ use Rattle.scan.specs.Number.{capped}
 use Rattle.scan.specs.Order.{value_of}
 use Rattle.tokens.specs.declared.Fault.{Fault}
 use Rattle.tokens.specs.declared.Value.{Value}
-use Rattle.tokens.specs.rule.Gap.{fault, gap_at, Read}
+use Rattle.tokens.specs.rule.Gap.{fault, gap_at, OrFault}
 use Rattle.tokens.specs.Gap.{gap_on}
 use Rattle.tokens.specs.Token.{choice_of, word_here, word_on, value_here, value_on, past_value}
 use Rattle.statements.specs.rule.Words.{VALUES, TO, WITH, END}
@@ -115,7 +115,7 @@ module _ (d : List ℕ) (quantity : Bool) (first : ℕ) where
     abbrev c : Block
     c = unlisted (some r)
 
-    listed_then : {va : Read Value} {ra : Result Amount} (k : ℕ) → Valued d k va ra → Reached d quantity first (state_of va b [])
+    listed_then : {va : OrFault Value} {ra : Result Amount} (k : ℕ) → Valued d k va ra → Reached d quantity first (state_of va b [])
         → SameGiven d (lines_from d quantity first (state_of va b [])) (bind ra (lines d quantity first c))
     listed_then k (valued {a = a} {x = x} {y = y} {m = m} e s t) reached =
         let h : Standing d quantity first a x y m m b [] c = record { says = e; from = refl; kept = kept; lines = nothing } in
@@ -172,7 +172,7 @@ module _ (d : List ℕ) (quantity : Bool) (first : ℕ) where
     unfolding rising range_charges goes_before
     charges_rise = rw (le-leb a.place b.place rises, le-leb b.place b.place (omega arith))
 
-    abbrev judge : Bool → Bool → Bool → Bool → Bool → Bool → Read books.Block
+    abbrev judge : Bool → Bool → Bool → Bool → Bool → Bool → OrFault books.Block
     judge p q e v g h =
         cond p (cond q (cond e (cond v (Err (fault 6 b.place))
         (cond g (Err (fault 8 a.place)) (cond h (Err (fault 8 b.place)) (Ok (said a b)))))
@@ -214,10 +214,10 @@ module _ (d : List ℕ) (quantity : Bool) (first : ℕ) where
   -- ---- behind `a TO`
   module _ (k₀ : ℕ) (a : Amount) (x y m : ℕ) (here-a : value_here d (Ok k₀) ≡ Ok (written a x y m))
       (says-a : value_of d x y ≡ a.size) (ends-a : a.place ≤ m) where
-    abbrev A : Read Value
+    abbrev A : OrFault Value
     A = Ok (written a x y m)
 
-    second : (j i : ℕ) → m ≤ j → gap_at d j ≡ Ok i → {vb : Read Value} {rb : Result Amount} → value_here d (Ok i) ≡ vb → Valued d i vb rb
+    second : (j i : ℕ) → m ≤ j → gap_at d j ≡ Ok i → {vb : OrFault Value} {rb : Result Amount} → value_here d (Ok i) ≡ vb → Valued d i vb rb
         → SameGiven d (range_then d quantity first (range_rest d quantity A (Ok j)))
         (bind (bind rb λ b n. Is (some b) n) (range_or d quantity first a))
     unfolding range_rest value_on gap_on past_value range ranged_of range_then choice_of
@@ -229,7 +229,7 @@ module _ (d : List ℕ) (quantity : Bool) (first : ℕ) where
         (λ k n e w. range_judged a b x y m x' y' m' says-a says-b rises true n (λ c q. reached true n c (rw (e, w)) q))
         (λ k e w. range_judged a b x y m x' y' m' says-a says-b rises false k (λ c q. reached false k c (rw (e, w)) q)))
       where
-        B : Read Value
+        B : OrFault Value
         B = Ok (written b x' y' m')
 
         judge : Bool → Reader Block
@@ -256,7 +256,7 @@ module _ (d : List ℕ) (quantity : Bool) (first : ℕ) where
         (bind (bind (value d j) λ b n. Is (some b) n) (range_or d quantity first a))
     unfolding range_rest value_on gap_on past_value ranged_of range_then choice_of value_here
     range_on j after = by (gap_at d j) refl where
-      by : (t : Read ℕ) → gap_at d j ≡ t
+      by : (t : OrFault ℕ) → gap_at d j ≡ t
           → SameGiven d (range_then d quantity first (range_rest d quantity A (Ok j)))
           (bind (bind (bind (passed t) λ a. amount d) λ b n. Is (some b) n) (range_or d quantity first a))
       by (Ok i) e = second j i after e refl (value_on_lem d i)
@@ -271,7 +271,7 @@ module _ (d : List ℕ) (quantity : Bool) (first : ℕ) where
   lines_refused : (m : ℕ) (f : Fault) (c : Block) (a : Amount) → gap_at d m ≡ Err f → lines d quantity first c a m ≡ Not f
   lines_refused m f b a e = turn_refused 4096 m f b a e
 
-  values_at : (i : ℕ) {va : Read Value} {ra : Result Amount} → value_here d (Ok i) ≡ va → Valued d i va ra
+  values_at : (i : ℕ) {va : OrFault Value} {ra : Result Amount} → value_here d (Ok i) ≡ va → Valued d i va ra
       → SameGiven d (to_or d quantity first va (choice_of d (gap_on d (past_value va)) TO))
       (bind ra λ a n. bind (optional d TO (value d) n) (range_or d quantity first a))
   unfolding gap_on past_value choice_of
@@ -282,7 +282,7 @@ module _ (d : List ℕ) (quantity : Bool) (first : ℕ) where
       (λ k j e w. range_on i a x y m e₀ says-a ends-a j (omega (arith, gap_ahead d e, word_ahead d 84 (79 ∷ []) w)))
       (λ k e w. lines_same a x y m k empty_block (unlisted none) (stands k (string_again d m e)) reached)
     where
-      A : Read Value
+      A : OrFault Value
       A = Ok (written a x y m)
 
       reached : Reached d quantity first (state_of A empty_block [])

@@ -9,7 +9,7 @@ use Rattle.scan.specs.rule.Word.{word_at}
 use Rattle.scan.specs.declared.Word.{Word}
 use Rattle.scan.specs.declared.Word.TheVariants as spelled
 use Rattle.tokens.specs.declared.Fault.{Fault}
-use Rattle.tokens.specs.rule.Gap.{fault, gap_at, Read}
+use Rattle.tokens.specs.rule.Gap.{fault, gap_at, OrFault}
 use Rattle.tokens.specs.declared.Figures.{Figures}
 use Rattle.tokens.specs.Gap.{gap_on}
 use Rattle.tokens.specs.Token.{of_word, word_here, of_choice, choice_of, number_on}
@@ -77,7 +77,7 @@ module _ (d : List ℕ) where
   pub type_on_lem : {A : Type 0} (r : Result A) → type_on d (to_reading r) ≡ to_typed (bind r λ a. type d)
   unfolding type_on type gap_on
   type_on_lem (Is a n) = rw (statement_on_lem d (Is a n) TYPE) (by (statement d TYPE n)) where
-    at : (t : Read ℕ) → type_here d t ≡ to_typed (bind (passed t) λ a. five)
+    at : (t : OrFault ℕ) → type_here d t ≡ to_typed (bind (passed t) λ a. five)
     at (Ok m) = type_here_lem m
     at (Err f) = type_refused f
 
@@ -105,7 +105,7 @@ module _ (d : List ℕ) where
           by : (q : Bool) → ltb 4 x.digits ≡ q
               → judge_ident met (length earlier) (to_number (Is x m)) ≡ chain Err (to_number (Is x m)) (ident_charges earlier x)
           by true e = rw e (over (eqb x.value 0)) where
-            over : (z : Bool) → ◌≡◌ {A = Read Figures} (Err (fault 5 x.place)) (cond z (Err (fault 5 x.place)) (Err (fault 5 x.place)))
+            over : (z : Bool) → ◌≡◌ {A = OrFault Figures} (Err (fault 5 x.place)) (cond z (Err (fault 5 x.place)) (Err (fault 5 x.place)))
             over true = refl
             over false = refl
           by false e =

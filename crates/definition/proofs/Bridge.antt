@@ -14,7 +14,7 @@ use Rattle.scan.specs.rule.Word.{word_at}
 use Rattle.scan.specs.declared.Word.{Word}
 use Rattle.scan.specs.declared.Word.TheVariants as spelled
 use Rattle.tokens.specs.declared.Fault.{Fault}
-use Rattle.tokens.specs.rule.Gap.{fault, Read}
+use Rattle.tokens.specs.rule.Gap.{fault, OrFault}
 use Rattle.tokens.specs.Token.{of_choice, choice_of, word_on}
 use Rattle.statements.specs.rule.Words.{END, RECORD, SURVEY, SSS}
 use Rattle.statements.specs.Note.{notes_on, statement_on}
@@ -136,7 +136,7 @@ module _ (d : List ℕ) where
     by (Not f) = stuck s count few
 
   -- one variable
-  abbrev entry_in : List kept.Variable → Read ℕ → Entry
+  abbrev entry_in : List kept.Variable → OrFault ℕ → Entry
   entry_in l t = entry_of d t (kept.ident_met l) (length l) (kept.lines_all l)
 
   entry_same : {A : Type 0} (l : List kept.Variable) (m : List Variable) → Sames d l m → (r : Result A)
@@ -218,12 +218,12 @@ held_in (books.Built l) t = cond (begins_table (kept.table_of l) t) against.Same
 held_in (books.Refusal k p) t = against.Refused k p
 
 module _ (d : List ℕ) where
-  variables_from_lem : (n : ℕ) (t : Read ℕ) → t ≡ Ok n
+  variables_from_lem : (n : ℕ) (t : OrFault ℕ) → t ≡ Ok n
       → SameVariables d (variables_from d (course t [])) (repeat (suc 512) (another_variable d) [] n)
   unfolding variables_from
   variables_from_lem n t e = rw e (variables_turns d (suc (512 - 0)) (suc 512) [] [] n none (omega arith) (omega arith))
 
-  variables_none : (f : Fault) (t : Read ℕ) → t ≡ Err f → SameVariables d (variables_from d (course t [])) (Not f)
+  variables_none : (f : Fault) (t : OrFault ℕ) → t ≡ Err f → SameVariables d (variables_from d (course t [])) (Not f)
   unfolding variables_from
   variables_none f t e = rw e (rw (no_variable d (suc (512 - 0)) f [] [] none (omega arith)) refuses)
 

@@ -13,7 +13,7 @@ use Rattle.scan.proofs.Loops.{loop_again, loop_done}
 use Rattle.tokens.specs.declared.Figures.{Figures}
 use Rattle.tokens.specs.declared.Choice.{Choice}
 use Rattle.tokens.specs.declared.Choice.TheVariants.{Taken, Left}
-use Rattle.tokens.specs.rule.Gap.{fault, Read}
+use Rattle.tokens.specs.rule.Gap.{fault, OrFault}
 use Rattle.tokens.specs.Token.{choice_of, number_on}
 use Rattle.statements.specs.rule.Words.{END, VARIABLE}
 use Rattle.statements.specs.Note.{notes_on, statement_on}
@@ -31,7 +31,7 @@ none : {A : Type 0} → ◌≡◌ {A = ℕ} 0 1 → A
 none e = absurd (omega arith)
 
 -- ---- the idents met are those that are marked
-module _ (d : List ℕ) (t : Read ℕ) (met other : ℕ → Bool) (same : (n : ℕ) → n < 10000 → met n ≡ other n) where
+module _ (d : List ℕ) (t : OrFault ℕ) (met other : ℕ → Bool) (same : (n : ℕ) → n < 10000 → met n ≡ other n) where
   wrong_same : (x : Figures) → wrong_ident met x ≡ wrong_ident other x
   unfolding wrong_ident
   wrong_same x = by (ltb 4 x.count) (ltb x.size 10000) refl where
@@ -44,7 +44,7 @@ module _ (d : List ℕ) (t : Read ℕ) (met other : ℕ → Bool) (same : (n : �
   ident_same : (count : ℕ) → ident_on d t met count ≡ ident_on d t other count
   unfolding ident_on judge_ident
   ident_same count = by (number_on d (statement_on d t VARIABLE)) where
-    by : (n : Read Figures) → judge_ident met count n ≡ judge_ident other count n
+    by : (n : OrFault Figures) → judge_ident met count n ≡ judge_ident other count n
     by (Ok x) = rw (wrong_same x)
     by (Err f) = refl
 

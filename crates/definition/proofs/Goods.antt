@@ -12,7 +12,7 @@ use borrow.Author.Tests.{ltb-false}
 use Rattle.scan.specs.rule.Loop.{Next, Again, Done, on_next, loop_of}
 use Rattle.tokens.specs.declared.Choice.{Choice}
 use Rattle.tokens.specs.declared.Choice.TheVariants.{Taken, Left}
-use Rattle.tokens.specs.rule.Gap.{fault, Read}
+use Rattle.tokens.specs.rule.Gap.{fault, OrFault}
 use Rattle.tokens.specs.Token.{choice_of}
 use Rattle.statements.specs.rule.Words.{END}
 use Rattle.statements.specs.Note.{notes_on}
@@ -93,7 +93,7 @@ module _ (d : List ℕ) (long : length d ≤ 1048576) where
           ≡ variables.Is l m = (let k : variables.Not f ≡ a = cc in k ∙ q) in none cc;
     }
 
-  pub variables_good : (t : Read ℕ) → AllGood (variables_from d (course t []))
+  pub variables_good : (t : OrFault ℕ) → AllGood (variables_from d (course t []))
   unfolding variables_from
   variables_good t = kept (variable_step d) (variables.Not (fault 0 0)) (λ s. Good s.earlier) AllGood again done
       (record { all = λ {l} {m} q. none cc }) (suc (512 - 0)) (course t []) good.none
@@ -103,7 +103,7 @@ module _ (d : List ℕ) (n : ℕ) (l : List Variable) where
   survey_good : length d ≤ 1048576 → (s : Survey) → survey_of d ≡ Whole s → Good s.variables × (1 ≤ length s.variables)
   unfolding survey_of
   survey_good long s = by (variables_from d (course (front_on d).next [])) refl where
-    ends : (v : List Variable) (r : Read ℕ) → Good v × (1 ≤ length v) → ended (front_on d) v r ≡ Whole s → Good s.variables
+    ends : (v : List Variable) (r : OrFault ℕ) → Good v × (1 ≤ length v) → ended (front_on d) v r ≡ Whole s → Good s.variables
         × (1 ≤ length s.variables)
     ends v (Ok k) g e = let j : record { front = front_on d; variables = v } ≡ s = cc in rw (← j) g
     ends v (Err f) g e = none cc

@@ -46,7 +46,7 @@ use Rattle.definition.specs.Code.{tally_of, turn_or, followed, turn_after, RowSt
 use Rattle.definition.proofs.Small.{row_ident, row_finish, ident_few}
 use Rattle.definition.proofs.Courses.{next_entry, entry_same, from_again, from_done}
 use Rattle.built.specs.Nth.{few_rows, few_lines}
-use Rattle.tokens.specs.rule.Gap.{Read}
+use Rattle.tokens.specs.rule.Gap.{OrFault}
 
 pub none : {A : Type 0} → ◌≡◌ {A = ℕ} 0 1 → A
 none e = absurd (omega arith)
@@ -58,7 +58,7 @@ lacking_kept e f (in_lines h) = in_lines (omega (arith, h, f))
 
 -- ---- what a turn says of the variable before it
 module _ (d : List ℕ) (y : Tally) where
-  pub record More (e : Entry) (ident : ℕ) (z : Tally) (t : Read ℕ) : Type 0 where
+  pub record More (e : Entry) (ident : ℕ) (z : Tally) (t : OrFault ℕ) : Type 0 where
     pub variable : Variable
     pub place : ℕ
     pub entry_is : e ≡ entry.Is variable place
@@ -74,7 +74,7 @@ module _ (d : List ℕ) (y : Tally) where
     pub tally_is : z ≡ tally_with y (columns_in y.lines variable) (y.lines + length (lines_in variable))
     pub choice : choice_of d (notes_on d (Ok place)) END ≡ Taken m
 
-  pub more_of_lem : (e : Entry) (ident : ℕ) (z : Tally) (t : Read ℕ) → turn_after d y e ≡ turn.More ident z t → More e ident z t
+  pub more_of_lem : (e : Entry) (ident : ℕ) (z : Tally) (t : OrFault ℕ) → turn_after d y e ≡ turn.More ident z t → More e ident z t
   unfolding turn_after followed
   more_of_lem (entry.Not f) ident z t i = none cc
   more_of_lem (entry.Is v n) ident z t i = by (choice_of d (notes_on d (Ok n)) END) refl i where
@@ -115,7 +115,7 @@ or_false true = refl
 or_false false = refl
 
 -- ---- THE INVARIANT
-pub record Ran (d : List ℕ) (t₀ : Read ℕ) (rows₀ lines₀ : List ℤ) (at : Read ℕ) (y : Tally) (seen : List ℕ) (rows lines : List ℤ) : Type 0
+pub record Ran (d : List ℕ) (t₀ : OrFault ℕ) (rows₀ lines₀ : List ℤ) (at : OrFault ℕ) (y : Tally) (seen : List ℕ) (rows lines : List ℤ) : Type 0
   where
     pub read : List Variable
     pub same : variables_from d (course t₀ []) ≡ variables_from d (course at read)
@@ -126,7 +126,7 @@ pub record Ran (d : List ℕ) (t₀ : Read ℕ) (rows₀ lines₀ : List ℤ) (a
     pub good : Good read
     pub seen_long : length seen ≡ 10000
 
-pub ran_none : (d : List ℕ) (t : Read ℕ) (rows lines : List ℤ) (seen : List ℕ) (y : Tally) → seen ≡ zeros 10000 → length seen ≡ 10000 → y
+pub ran_none : (d : List ℕ) (t : OrFault ℕ) (rows lines : List ℤ) (seen : List ℕ) (y : Tally) → seen ≡ zeros 10000 → length seen ≡ 10000 → y
     ≡ tally_of [] → Ran d t rows lines t y seen rows lines
 unfolding ident_met rows_from all_lines
 ran_none d t rows lines seen y e h q = record {
@@ -140,7 +140,7 @@ ran_none d t rows lines seen y e h q = record {
   seen_long = h;
 }
 
-module _ (d : List ℕ) (t₀ : Read ℕ) (rows₀ lines₀ : List ℤ) (at : Read ℕ) (y : Tally) (seen : List ℕ) (rows lines : List ℤ)
+module _ (d : List ℕ) (t₀ : OrFault ℕ) (rows₀ lines₀ : List ℤ) (at : OrFault ℕ) (y : Tally) (seen : List ℕ) (rows lines : List ℤ)
     (l : List Variable)
     (same : variables_from d (course t₀ []) ≡ variables_from d (course at l))
     (tally : y ≡ tally_of l)
@@ -236,7 +236,7 @@ module _ (d : List ℕ) (t₀ : Read ℕ) (rows₀ lines₀ : List ℤ) (at : Re
               rw (get_or-set_other seen i k 1 0 j) (met k h ∙ or_false (ident_met l k))
 
 -- ---- carried on: another variable, the END behind the last, a refusal
-module _ (d : List ℕ) (t₀ : Read ℕ) (rows₀ lines₀ : List ℤ) (at : Read ℕ) (y : Tally) (seen : List ℕ) (rows lines : List ℤ)
+module _ (d : List ℕ) (t₀ : OrFault ℕ) (rows₀ lines₀ : List ℤ) (at : OrFault ℕ) (y : Tally) (seen : List ℕ) (rows lines : List ℤ)
     (r : Ran d t₀ rows₀ lines₀ at y seen rows lines)
     (long : length d ≤ 1048576) (rows-kept : length rows ≡ length rows₀) (lines-kept : length lines ≡ length lines₀) where
   abbrev entry_now : Entry
@@ -265,7 +265,7 @@ module _ (d : List ℕ) (t₀ : Read ℕ) (rows₀ lines₀ : List ℤ) (at : Re
   ran_few = few_here d t₀ rows₀ lines₀ at y seen rows lines r.read r.same r.tally r.met r.rows_are r.lines_are r.good
       r.seen_long
 
-  pub record Onward (ident : ℕ) (z : Tally) (t : Read ℕ) (rows' lines' : List ℤ) : Type 0 where
+  pub record Onward (ident : ℕ) (z : Tally) (t : OrFault ℕ) (rows' lines' : List ℤ) : Type 0 where
     pub small : ident < 10000
     pub further : z.rows ≡ y.rows + 1
     pub left : y.rows < 512
@@ -273,7 +273,7 @@ module _ (d : List ℕ) (t₀ : Read ℕ) (rows₀ lines₀ : List ℤ) (at : Re
 
   module _ (w : Turn) (rows' lines' : List ℤ) (says : w ≡ turn_after d y entry_now) (row : RowStored y entry_now rows rows')
       (line : Stored y.lines entry_now lines lines') where
-    pub ran_more : (ident : ℕ) (z : Tally) (t : Read ℕ) → w ≡ turn.More ident z t → Onward ident z t rows' lines'
+    pub ran_more : (ident : ℕ) (z : Tally) (t : OrFault ℕ) → w ≡ turn.More ident z t → Onward ident z t rows' lines'
     unfolding tally_with
     ran_more ident z t e =
         let m = more_of_lem d y entry_now ident z t (sym says ∙ e) in
@@ -293,7 +293,7 @@ module _ (d : List ℕ) (t₀ : Read ℕ) (rows₀ lines₀ : List ℤ) (at : Re
             read = added l v;
             same = again_here d t₀ rows₀ lines₀ at y seen rows lines l r.same r.tally r.met r.rows_are r.lines_are r.good
                 r.seen_long v n i long wide many m.choice
-                ∙ ap (λ (q : Read ℕ). variables_from d (course q (added l v))) (sym m.onward);
+                ∙ ap (λ (q : OrFault ℕ). variables_from d (course q (added l v))) (sym m.onward);
             tally = tally_more d t₀ rows₀ lines₀ at y seen rows lines l r.same r.tally r.met r.rows_are r.lines_are r.good
                 r.seen_long v n i long wide many z m.tally_is;
             met = λ k h. ap (λ (q : ℕ). marked (set seen q 1) k) m.ident_is

@@ -26,7 +26,7 @@ use Rattle.definition.specs.declared.Turn.TheVariants as turn
 use Rattle.laying.specs.Code.{tally_with}
 use Rattle.definition.specs.Code.{followed, turn_after, RowStored}
 use Rattle.definition.proofs.Small.{small_row}
-use Rattle.tokens.specs.rule.Gap.{Read}
+use Rattle.tokens.specs.rule.Gap.{OrFault}
 
 none : {A : Type 0} → ◌≡◌ {A = ℕ} 0 1 → A
 none e = absurd (omega arith)
@@ -51,7 +51,7 @@ told (entry.Not f) before c last n s i j =
     let k : stood.Not f ≡ stood.Is c last n = sym i ∙ j in
     none cc
 
-module _ (d : List ℕ) (t : Read ℕ) (met : ℕ → Bool) (y : Tally) (long : length d ≤ 1048576) (few : y.lines ≤ 4096) where
+module _ (d : List ℕ) (t : OrFault ℕ) (met : ℕ → Bool) (y : Tally) (long : length d ≤ 1048576) (few : y.lines ≤ 4096) where
   abbrev here : Entry
   here = entry_of d t met y.rows y.lines
 

@@ -32,7 +32,7 @@ use Rattle.definition.proofs.Bridge.{held_in}
 use Rattle.definition.proofs.Settles.{count_is, lines_is, rows_fit, lines_fit, cells_are, says_fit, leaves_fit}
 use Rattle.definition.proofs.Goods.{variables_good}
 use Rattle.definition.proofs.Lows.{highest_low}
-use Rattle.tokens.specs.rule.Gap.{Read}
+use Rattle.tokens.specs.rule.Gap.{OrFault}
 
 none : {A : Type 0} → ◌≡◌ {A = ℕ} 0 1 → A
 none e = absurd (omega arith)
@@ -47,13 +47,13 @@ take_pasted : (t s : List ℤ) (n : ℕ) → n ≡ length s → take n (pasted t
 unfolding pasted
 take_pasted t s n e = take_at s _ n (sym e)
 
-module _ (d : List ℕ) (long : length d ≤ 1048576) (t : Read ℕ) (front : t ≡ (front_on d).next) where
+module _ (d : List ℕ) (long : length d ≤ 1048576) (t : OrFault ℕ) (front : t ≡ (front_on d).next) where
   abbrev all : Variables
   all = variables_from d (course t [])
 
   survey_is : (v : Variables) → all ≡ v → survey_of d ≡ closed d (front_on d) v
   unfolding survey_of
-  survey_is v e = ap (closed d (front_on d)) (ap (λ (q : Read ℕ). variables_from d (course q [])) (sym front) ∙ e)
+  survey_is v e = ap (closed d (front_on d)) (ap (λ (q : OrFault ℕ). variables_from d (course q [])) (sym front) ∙ e)
 
   -- the variables were read
   pub record Stands (y : Tally) (m : ℕ) (rows lines : List ℤ) : Type 0 where
@@ -94,11 +94,11 @@ module _ (d : List ℕ) (long : length d ≤ 1048576) (t : Read ℕ) (front : t 
 
     module _ (n : ℕ) where
       -- and the ENDs behind them
-      ends_here : (y : Tally) (m k : ℕ) (r : Read ℕ) (e : q ≡ run.Is y m) → r ≡ ends_on d m → r ≡ Ok k → judged d n (survey_of d)
+      ends_here : (y : Tally) (m k : ℕ) (r : OrFault ℕ) (e : q ≡ run.Is y m) → r ≡ ends_on d m → r ≡ Ok k → judged d n (survey_of d)
           ≡ named d n (front_on d).heading.standard (stands y m e).read
       ends_here y m k r e a b = let s = stands y m e in ap (judged d n) (survey_is (variables.Is s.read m) s.are) ∙ rw (sym a ∙ b)
 
-      ends_not : (y : Tally) (m : ℕ) (r : Read ℕ) (g : Fault) → q ≡ run.Is y m → r ≡ ends_on d m → r ≡ Err g → judged d n (survey_of d)
+      ends_not : (y : Tally) (m : ℕ) (r : OrFault ℕ) (g : Fault) → q ≡ run.Is y m → r ≡ ends_on d m → r ≡ Err g → judged d n (survey_of d)
           ≡ Refusal g.number g.place
       ends_not y m r g e a b = let s = stands y m e in ap (judged d n) (survey_is (variables.Is s.read m) s.are) ∙ rw (sym a ∙ b)
 
@@ -110,7 +110,7 @@ module _ (d : List ℕ) (long : length d ≤ 1048576) (t : Read ℕ) (front : t 
         by (variables.Not h) i j = let o : h ≡ g = cc in ap (judged d n) (survey_is (variables.Not h) i) ∙ rw o
 
     -- what the rooms come to
-    pub rooms_here : (y : Tally) (m k : ℕ) (r : Read ℕ) (standard : Bool) (o : Rooms) → q ≡ run.Is y m → r ≡ ends_on d m → r ≡ Ok k
+    pub rooms_here : (y : Tally) (m k : ℕ) (r : OrFault ℕ) (standard : Bool) (o : Rooms) → q ≡ run.Is y m → r ≡ ends_on d m → r ≡ Ok k
         → standard ≡ (front_on d).heading.standard → NamesSettled d standard y rows' o → RoomsRead d rows' lines' o
     rooms_here y m k r standard o e a b f j = record {
       stands = λ {y = z} i.
@@ -136,7 +136,7 @@ module _ (d : List ℕ) (long : length d ≤ 1048576) (t : Read ℕ) (front : t 
           h n ∙ rw (a, b);
     }
 
-    pub rooms_ends : (y : Tally) (m : ℕ) (r : Read ℕ) (g : Fault) → q ≡ run.Is y m → r ≡ ends_on d m → r ≡ Err g
+    pub rooms_ends : (y : Tally) (m : ℕ) (r : OrFault ℕ) (g : Fault) → q ≡ run.Is y m → r ≡ ends_on d m → r ≡ Err g
         → RoomsRead d rows' lines' (rooms.Refused g.number g.place)
     rooms_ends y m r g e a b = refused_here g (λ n. ends_not n y m r g e a b)
 

@@ -10,7 +10,7 @@ use Rattle.marks.specs.rule.Spelling.{decode_of}
 use Rattle.tokens.specs.declared.Fault.{Fault}
 use Rattle.tokens.specs.declared.Choice.{Choice}
 use Rattle.tokens.specs.declared.Choice.TheVariants.{Taken, Left}
-use Rattle.tokens.specs.rule.Gap.{fault, Read}
+use Rattle.tokens.specs.rule.Gap.{fault, OrFault}
 use Rattle.tokens.specs.Token.{choice_of, word_on}
 use Rattle.statements.specs.rule.Words.{END, RECORD, SURVEY, SSS}
 use Rattle.statements.specs.Note.{notes_on, statement_on}
@@ -31,14 +31,14 @@ pub data Variables : Type 0 where
 
 -- where the reader of variables stands, and those before
 pub record Course : Type 0 where
-  pub at : Read ℕ
+  pub at : OrFault ℕ
   pub earlier : List Variable
 
-abbrev pub course : Read ℕ → List Variable → Course
+abbrev pub course : OrFault ℕ → List Variable → Course
 course t l = record { at = t; earlier = l }
 
 -- another variable, or END
-abbrev pub end_or : List Variable → Read ℕ → Choice → Next Course Variables
+abbrev pub end_or : List Variable → OrFault ℕ → Choice → Next Course Variables
 end_or l t (Taken m) = Done (Is l m)
 end_or l t Left = Again (course t l)
 
@@ -54,7 +54,7 @@ unfoldable pub variables_from : List ℕ → Course → Variables
 variables_from d s = loop_of (variable_step d) (Not (fault 0 0)) (suc (512 - length s.earlier)) s
 
 -- ---- END RECORD, END SURVEY, END SSS, behind the first END
-unfoldable pub ends_on : List ℕ → ℕ → Read ℕ
+unfoldable pub ends_on : List ℕ → ℕ → OrFault ℕ
 ends_on d m =
     let recorded = word_on d (Ok m) RECORD in
     let surveyed = word_on d (statement_on d recorded END) SURVEY in
@@ -69,7 +69,7 @@ pub data Read : Type 0 where
   Whole : Survey → Read
   Faulty : Fault → Read
 
-abbrev pub ended : Front → List Variable → Read ℕ → Read
+abbrev pub ended : Front → List Variable → OrFault ℕ → Read
 ended f l (Ok n) = Whole (record { front = f; variables = l })
 ended f l (Err g) = Faulty g
 

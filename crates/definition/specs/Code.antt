@@ -32,7 +32,7 @@ use Rattle.definition.specs.declared.Answer.{Answer}
 use Rattle.definition.specs.declared.Answer.TheVariants as answer
 use Rattle.definition.specs.declared.Against.{Against}
 use Rattle.definition.specs.declared.Against.TheVariants as against
-use Rattle.tokens.specs.rule.Gap.{Read}
+use Rattle.tokens.specs.rule.Gap.{OrFault}
 
 -- ---- rooms: too small for the most rows, or for the most lines
 pub data Lacking (rows lines : List ℤ) : Type 0 where
@@ -44,7 +44,7 @@ unfoldable pub tally_of : List Variable → Tally
 tally_of l = record { rows = length l; lines = lines_all l; length = highest_in l }
 
 -- ---- one variable, and what follows it
-abbrev pub turn_or : ℕ → Tally → Read ℕ → Choice → Turn
+abbrev pub turn_or : ℕ → Tally → OrFault ℕ → Choice → Turn
 turn_or ident y t (Taken m) = turn.Over y m
 turn_or ident y t Left = turn.More ident y t
 

@@ -23,7 +23,7 @@ ghost use Rattle.definition.specs.Code.{fill_says, compared_by, Lacking};
 use entries::Stood;
 use laying::{Rooms, Tally};
 use layout::{Header, Row};
-use tokens::{Choice, Fault, Read};
+use tokens::{Choice, Fault, OrFault};
 
 // The outcome: how many variables and value lines were read; or the refusal's number and place.
 #[derive(Clone, Copy)]
@@ -38,7 +38,7 @@ pub enum Turn {
     More {
         ident: usize,
         tally: Tally,
-        at: Read<usize>,
+        at: OrFault<usize>,
     },
     Over {
         tally: Tally,
@@ -67,7 +67,7 @@ fn one_variable(
     classes: &[u8; 256],
     powers: &[u64; 16],
     d: &[u8],
-    at: Read<usize>,
+    at: OrFault<usize>,
     seen: &[u8],
     y: Tally,
     rows: &mut [i64],
@@ -121,7 +121,7 @@ fn read_variables(
     classes: &[u8; 256],
     powers: &[u64; 16],
     d: &[u8],
-    t: Read<usize>,
+    t: OrFault<usize>,
     rows: &mut [i64],
     lines: &mut [i64],
     marks: &mut [u16],
@@ -165,7 +165,7 @@ fn read_variables(
 }
 
 // END RECORD, END SURVEY, END SSS, behind the first END.
-fn read_ends(classes: &[u8; 256], d: &[u8], next: usize) -> Read<usize>
+fn read_ends(classes: &[u8; 256], d: &[u8], next: usize) -> OrFault<usize>
     requires { Classes classes.now }
     ensures { result ≡ ends_on d.now next }
 {

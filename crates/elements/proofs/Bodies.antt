@@ -24,7 +24,7 @@ use Rattle.elements.specs.declared.Passed.TheVariants as passed
 use Rattle.elements.specs.Code.{found_of, ruled, Numbered, passed_of, bodied_of, phrase_of, Tells}
 use Rattle.elements.proofs.Ranking.{found_behind, judged_ruled}
 use Rattle.elements.proofs.Bounds.{content_within}
-use Rattle.tokens.specs.rule.Gap.{Read}
+use Rattle.tokens.specs.rule.Gap.{OrFault}
 
 never : {A : Type 0} → ◌≡◌ {A = ℕ} 0 1 → A
 never z = absurd (omega arith)
@@ -134,7 +134,7 @@ pub body_lies : (bad : Bool) (d w : List ℕ) (m : ℕ) (em : Bool) (n : ℕ) {b
     → Kept d b
 unfolding element.body
 body_lies bad d w m em n {b} h f = by em (content_of bad d m w n) refl f where
-  is : {x : Body} → Kept d x → ◌≡◌ {A = Read Body} (Ok x) (Ok b) → Kept d b
+  is : {x : Body} → Kept d x → ◌≡◌ {A = OrFault Body} (Ok x) (Ok b) → Kept d b
   is {x} h e = let i : x ≡ b = cc in rw (← i) h
 
   by : (em : Bool) (c : Content) → content_of bad d m w n ≡ c

@@ -5,7 +5,7 @@ use Rattle.std.proofs.Math.Option.{Option, get_or}
 use Rattle.tags.specs.rule.Tag.{is_named, stretch_fits}
 use Rattle.tags.specs.declared.Held.{Held}
 use Rattle.tokens.specs.declared.Fault.{Fault}
-use Rattle.tokens.specs.rule.Gap.{fault, Read}
+use Rattle.tokens.specs.rule.Gap.{fault, OrFault}
 use Rattle.tokens.specs.declared.Figures.{Figures}
 use Rattle.survey.specs.rule.Survey.{Figure, KeptText, Spread}
 use Rattle.ranks.specs.declared.Found.{Found}
@@ -24,6 +24,7 @@ use Rattle.elements.specs.declared.Due.TheVariants as due
 use Rattle.elements.specs.declared.Passed.{Passed}
 use Rattle.elements.specs.declared.Passed.TheVariants as passed
 use Rattle.elements.specs.declared.Body as code
+use Rattle.statements.specs.declared.Position as books
 use Rattle.statements.specs.declared.Subfields.{Subfields}
 use Rattle.tokens.specs.declared.Quoted.{Quoted}
 
@@ -92,7 +93,7 @@ abbrev pub passed_of : Result (List Charge) → Passed
 passed_of (Is l n) = passed.Is (found_of l) n
 passed_of (Not f) = passed.Not f
 
-abbrev pub bodied_of : Result Body → Read Body
+abbrev pub bodied_of : Result Body → OrFault code.Body
 bodied_of (Is b n) = Ok (record {
   place = b.text.place;
   length = b.text.length;
@@ -102,7 +103,7 @@ bodied_of (Is b n) = Ok (record {
 })
 bodied_of (Not f) = Err f
 
-abbrev pub phrase_of : Result KeptText → Read Quoted
+abbrev pub phrase_of : Result KeptText → OrFault Quoted
 phrase_of (Is t n) = Ok (record { place = t.place; length = t.length; next = n })
 phrase_of (Not f) = Err f
 
@@ -149,17 +150,17 @@ position_found below a b behind =
     (lower_found (alone (fault 8 a.place) (ltb 16384 a.size))
     (lower_found (alone (fault 8 b.place) (ltb 16384 b.size)) behind)))
 
-abbrev pub located_of : Figures → Figures → ℕ → Found → Read Position
+abbrev pub located_of : Figures → Figures → ℕ → Found → OrFault books.Position
 located_of a b n x =
     cond (eqb x.number 0) (Ok (record { start = a.size; finish = b.size; place = a.place; next = n }))
     (Err (fault x.number x.place))
 
-abbrev pub shared_of : ℕ → ℕ → ℕ → Found → Read Subfields
+abbrev pub shared_of : ℕ → ℕ → ℕ → Found → OrFault Subfields
 shared_of count width n x =
     cond (eqb x.number 0) (Ok (record { count = count; width = width; next = n }))
     (Err (fault x.number x.place))
 
-abbrev pub sized_of : Figures → ℕ → Found → Read Figures
+abbrev pub sized_of : Figures → ℕ → Found → OrFault Figures
 sized_of x n f =
     cond (eqb f.number 0) (Ok (record { size = x.size; count = x.count; place = x.place; next = n }))
     (Err (fault f.number f.place))

@@ -27,7 +27,7 @@ use pairs::{Pair, Stand};
 use ranks::Found;
 use statements::{Position, Subfields};
 use tags::{Held, Tag};
-use tokens::{Fault, Figures, Quoted, Read};
+use tokens::{Fault, Figures, OrFault, Quoted};
 
 // What stands inside an element where a tag is due: a start tag, with the place of its < and of its name's end; the end tag of the element
 // around, with the place of its < and the place after it; or what is refused.
@@ -173,7 +173,7 @@ pub struct Body {
 
 // The text of an element w behind its start tag, which is <w/> where `empty`. Mode 0: characters alone; 1: breaks too; 2: texts in other
 // languages too. What cuts it is 51 there, if no attribute before it is unknown.
-pub fn body_at(bad: bool, d: &[u8], at: usize, empty: bool, w: &[u8], mode: usize) -> Read<Body>
+pub fn body_at(bad: bool, d: &[u8], at: usize, empty: bool, w: &[u8], mode: usize) -> OrFault<Body>
     requires { at ≤ length d.now }
     ensures { result ≡ bodied_of (body bad d.now w.now mode empty at) }
 {
@@ -195,7 +195,7 @@ fn lying(
     unknown: usize,
     cut: usize,
     next: usize,
-) -> Read<Body>
+) -> OrFault<Body>
     requires { place ≤ end }
     ensures { result ≡ bodied_of (Is (body_of place end whole (unknown_at unknown ∷ unknown_at cut ∷ [])) next) }
 {
@@ -212,7 +212,7 @@ fn lying(
 }
 
 // A text, if nothing was found in its element.
-fn said(b: Body, found: Found) -> Read<Quoted>
+fn said(b: Body, found: Found) -> OrFault<Quoted>
     ensures { result ≡ phrase_of (ruled found (record { place = b.place; length = b.length }) b.next) }
 {
     if found.number == 0 {
@@ -229,7 +229,14 @@ fn said(b: Body, found: Found) -> Read<Quoted>
 }
 
 // An element w that is only a text, whose < stands at `place` and whose name ends at `end`.
-pub fn text_at(bad: bool, d: &[u8], place: usize, end: usize, w: &[u8], mode: usize) -> Read<Quoted>
+pub fn text_at(
+    bad: bool,
+    d: &[u8],
+    place: usize,
+    end: usize,
+    w: &[u8],
+    mode: usize,
+) -> OrFault<Quoted>
     requires { end ≤ length d.now }
     ensures { result ≡ phrase_of (text bad d.now w.now mode place end) }
 {
@@ -307,7 +314,7 @@ fn locations_fault(below: bool, a: Figures, b: Figures, behind: Found) -> Found
     ranks::lower(zero, wrong)
 }
 
-fn located(a: Figures, b: Figures, next: usize, found: Found) -> Read<Position>
+fn located(a: Figures, b: Figures, next: usize, found: Found) -> OrFault<Position>
     ensures { result ≡ located_of a b next found }
 {
     if found.number == 0 {
@@ -325,7 +332,7 @@ fn located(a: Figures, b: Figures, next: usize, found: Found) -> Read<Position>
 }
 
 // A position whose tag was read, before what was found behind it.
-fn locate(d: &[u8], h: Held, behind: Found, next: usize) -> Read<Position>
+fn locate(d: &[u8], h: Held, behind: Found, next: usize) -> OrFault<Position>
     requires { Numbers d.now h }
     ensures { (l : List Charge) → Numbered l → behind ≡ found_of l → result ≡ to_stated (position_judged d.now h l next) }
 {
@@ -348,7 +355,7 @@ fn behind_tag(unknown: usize, found: Found) -> Found
     ranks::lower(attribute, found)
 }
 
-fn position_held(bad: bool, d: &[u8], h: Held, empty: bool, at: usize) -> Read<Position>
+fn position_held(bad: bool, d: &[u8], h: Held, empty: bool, at: usize) -> OrFault<Position>
     requires { Numbers d.now h × (at ≤ length d.now) }
     ensures { result ≡ to_stated (position_behind bad d.now h empty at) }
 {
@@ -362,7 +369,7 @@ fn position_held(bad: bool, d: &[u8], h: Held, empty: bool, at: usize) -> Read<P
 }
 
 // <position start [finish]/>, whose < stands at `place` and whose name ends at `end`.
-pub fn position_at(bad: bool, d: &[u8], place: usize, end: usize) -> Read<Position>
+pub fn position_at(bad: bool, d: &[u8], place: usize, end: usize) -> OrFault<Position>
     requires { end ≤ length d.now }
     ensures { result ≡ to_stated (position bad d.now place end) }
 {
@@ -377,7 +384,7 @@ pub fn position_at(bad: bool, d: &[u8], place: usize, end: usize) -> Read<Positi
     }
 }
 
-fn shared(count: u64, width: u64, next: usize, found: Found) -> Read<Subfields>
+fn shared(count: u64, width: u64, next: usize, found: Found) -> OrFault<Subfields>
     ensures { result ≡ shared_of count width next found }
 {
     if found.number == 0 {
@@ -390,7 +397,7 @@ fn shared(count: u64, width: u64, next: usize, found: Found) -> Read<Subfields>
 }
 
 // Subfields without a width: they share the position's.
-fn share_even(n: Figures, room: u64, behind: Found, next: usize) -> Read<Subfields>
+fn share_even(n: Figures, room: u64, behind: Found, next: usize) -> OrFault<Subfields>
     requires { room < 1000000000000000 }
     ensures { (x : Figure) (e : ℕ) (l : List Charge) → n ≡ figures x e → Numbered l → behind ≡ found_of l → result
         ≡ to_spreading room (spread_judged room x none l next) }
@@ -407,7 +414,7 @@ fn share_even(n: Figures, room: u64, behind: Found, next: usize) -> Read<Subfiel
 }
 
 // Subfields of a width of their own.
-fn share_fields(n: Figures, w: Figures, behind: Found, next: usize) -> Read<Subfields>
+fn share_fields(n: Figures, w: Figures, behind: Found, next: usize) -> OrFault<Subfields>
     ensures { (room : ℕ) (x y : Figure) (e k : ℕ) (l : List Charge) → n ≡ figures x e → w ≡ figures y k → Numbered l → behind
         ≡ found_of l → result ≡ to_spreading room (spread_judged room x (some y) l next) }
 {
@@ -419,7 +426,7 @@ fn share_fields(n: Figures, w: Figures, behind: Found, next: usize) -> Read<Subf
 }
 
 // A spread whose tag was read, before what was found behind it.
-fn share(d: &[u8], h: Held, room: u64, behind: Found, next: usize) -> Read<Subfields>
+fn share(d: &[u8], h: Held, room: u64, behind: Found, next: usize) -> OrFault<Subfields>
     requires { Numbers d.now h × (room < 1000000000000000) }
     ensures { (l : List Charge) → Numbered l → behind ≡ found_of l → result
         ≡ to_spreading room (spread_held room d.now h l next) }
@@ -432,7 +439,14 @@ fn share(d: &[u8], h: Held, room: u64, behind: Found, next: usize) -> Read<Subfi
     share_fields(n, w, behind, next)
 }
 
-fn spread_held(bad: bool, d: &[u8], h: Held, empty: bool, at: usize, room: u64) -> Read<Subfields>
+fn spread_held(
+    bad: bool,
+    d: &[u8],
+    h: Held,
+    empty: bool,
+    at: usize,
+    room: u64,
+) -> OrFault<Subfields>
     requires { Numbers d.now h × (at ≤ length d.now) × (room < 1000000000000000) }
     ensures { result ≡ to_spreading room (spread_behind bad d.now room h empty at) }
 {
@@ -446,7 +460,7 @@ fn spread_held(bad: bool, d: &[u8], h: Held, empty: bool, at: usize, room: u64) 
 }
 
 // <spread subfields [width]/> in a position of `room` bytes.
-pub fn spread_at(bad: bool, d: &[u8], place: usize, end: usize, room: u64) -> Read<Subfields>
+pub fn spread_at(bad: bool, d: &[u8], place: usize, end: usize, room: u64) -> OrFault<Subfields>
     requires { (end ≤ length d.now) × (room < 1000000000000000) }
     ensures { result ≡ to_spreading room (spread bad d.now room place end) }
 {
@@ -461,7 +475,7 @@ pub fn spread_at(bad: bool, d: &[u8], place: usize, end: usize, room: u64) -> Re
     }
 }
 
-fn sized(x: Figures, next: usize, found: Found) -> Read<Figures>
+fn sized(x: Figures, next: usize, found: Found) -> OrFault<Figures>
     ensures { result ≡ sized_of x next found }
 {
     if found.number == 0 {
@@ -479,7 +493,7 @@ fn sized(x: Figures, next: usize, found: Found) -> Read<Figures>
 }
 
 // A size whose text is digits.
-fn size_judged(x: Figures, behind: Found, next: usize) -> Read<Figures>
+fn size_judged(x: Figures, behind: Found, next: usize) -> OrFault<Figures>
     ensures { (y : Figure) (e : ℕ) (l : List Charge) → x ≡ figures y e → Numbered l → behind ≡ found_of l → result
         ≡ to_number (judged (size_charges y ++ l) y next) }
 {
@@ -491,7 +505,7 @@ fn size_judged(x: Figures, behind: Found, next: usize) -> Read<Figures>
 }
 
 // A size whose text was read: it has to be digits, unless something cuts it.
-fn size_in(d: &[u8], b: Body, behind: Found) -> Read<Figures>
+fn size_in(d: &[u8], b: Body, behind: Found) -> OrFault<Figures>
     requires { (b.place + b.length ≤ length d.now) × (b.whole ≡ false → b.length ≡ 0) }
     ensures { (bad : Bool) (u : ℕ) (t : rule.Body) → Tells t b → behind ≡ lower_found (found_at 51 u) b.found → result
         ≡ to_number (size_in bad d.now u t b.next) }
@@ -512,7 +526,7 @@ fn size_in(d: &[u8], b: Body, behind: Found) -> Read<Figures>
 }
 
 // <size>n</size>.
-pub fn size_at(bad: bool, d: &[u8], place: usize, end: usize) -> Read<Figures>
+pub fn size_at(bad: bool, d: &[u8], place: usize, end: usize) -> OrFault<Figures>
     requires { end ≤ length d.now }
     ensures { result ≡ to_number (size bad d.now place end) }
 {

@@ -15,7 +15,7 @@ use Rattle.layout.specs.declared.Kind.TheVariants.{Single, Multiple, Quantity, C
 use Rattle.sound.specs.rule.Sound.{range_width, room_good}
 use Rattle.widths.specs.rule.Width.{need}
 use Rattle.tokens.specs.declared.Fault.{Fault}
-use Rattle.tokens.specs.rule.Gap.{fault, Read}
+use Rattle.tokens.specs.rule.Gap.{fault, OrFault}
 use Rattle.values.specs.Line.{number_at, cells_of}
 use Rattle.variables.specs.declared.Head.{Head}
 use Rattle.cells.specs.rule.Cell.{pasted}
@@ -75,7 +75,7 @@ module _ (h : Head) (x : Telling) (before : ℕ) (g : GoodHead h) (s : GoodTelli
       same : (i : ℕ) → i < (row_of (plain_columns h (counted_in before x) before)).lines → number_in here before i ≡ number_at x.lines i
       same i l = in_room h x before g s room stands i (omega arith)
 
-  pub settled_is : (end : Read ℕ) → settled_by (number_in here before) h (counted_in before x) before end
+  pub settled_is : (end : OrFault ℕ) → settled_by (number_in here before) h (counted_in before x) before end
       ≡ stood_of before (ended end (held_by before (variable h x)))
   unfolding stood_of measured held_by holds_in counted_in
   settled_is (Err f) = refl
@@ -100,7 +100,7 @@ module _ (d : List ℕ) (h : Head) (before : ℕ) where
     pub good : GoodTelling h.kind before telling
 
   -- a refusal stays
-  pub stood_not : (q : Read Rest) (f : Fault) → q ≡ rested_of before told_of → q ≡ Err f → stood.Not f
+  pub stood_not : (q : OrFault Rest) (f : Fault) → q ≡ rested_of before told_of → q ≡ Err f → stood.Not f
       ≡ stood_of before (rest_then d before h)
   unfolding rested_of rest_then stood_of
   stood_not q f e i = by told_of (sym e ∙ i) where
@@ -109,7 +109,7 @@ module _ (d : List ℕ) (h : Head) (before : ℕ) where
     by (told.Is x) j = none cc
     by (told.Not g) j = let k : g ≡ f = cc in rw k
 
-  pub stored_not : (room after : List ℤ) (q : Read Rest) (f : Fault) → q ≡ rested_of before told_of → q ≡ Err f
+  pub stored_not : (room after : List ℤ) (q : OrFault Rest) (f : Fault) → q ≡ rested_of before told_of → q ≡ Err f
       → Stored before (rest_then d before h) room after
   unfolding rested_of rest_then
   stored_not room after q f e i = by told_of (sym e ∙ i) where
@@ -120,7 +120,7 @@ module _ (d : List ℕ) (h : Head) (before : ℕ) where
 
   module _ (long : length d ≤ 1048576) (few : before ≤ 4096) (g : GoodHead h) (room after : List ℤ) (wide : 4 * before ≤ length room)
       (kept : length after ≡ length room) where
-    pub known : (q : Read Rest) (r : Rest) → q ≡ rested_of before told_of → told.Stored before told_of room after → q ≡ Ok r
+    pub known : (q : OrFault Rest) (r : Rest) → q ≡ rested_of before told_of → told.Stored before told_of room after → q ≡ Ok r
         → Known room after r
     unfolding rested_of counted_in
     known q r e s i = by told_of refl where
@@ -156,7 +156,7 @@ module _ (d : List ℕ) (h : Head) (before : ℕ) where
       unfolding rest_then
       rest_is = rw k.told_is
 
-      pub stood_here : (s : Stood) (end : Read ℕ) → end ≡ end_variable d r.next → s ≡ settled_by (number_in after before) h r before end
+      pub stood_here : (s : Stood) (end : OrFault ℕ) → end ≡ end_variable d r.next → s ≡ settled_by (number_in after before) h r before end
           → s ≡ stood_of before (rest_then d before h)
       unfolding counted_in
       stood_here s end e i =
@@ -172,7 +172,7 @@ module _ (d : List ℕ) (h : Head) (before : ℕ) where
             (same v n (end_variable d k.telling.next) (sym rest_is ∙ e));
       }
         where
-          same : (v : Variable) (n : ℕ) (t : Read ℕ) → ended t (held_by before (variable h k.telling)) ≡ entry.Is v n
+          same : (v : Variable) (n : ℕ) (t : OrFault ℕ) → ended t (held_by before (variable h k.telling)) ≡ entry.Is v n
               → variable h k.telling ≡ v
           same v n (Err f) e = none cc
           same v n (Ok m) e = by (holds_in before (variable h k.telling)) e where
@@ -182,12 +182,12 @@ module _ (d : List ℕ) (h : Head) (before : ℕ) where
             by false i = none cc
 
 -- ---- the whole variable
-pub good_head : (d : List ℕ) (i : Read Figures) (h : Head) (q : Read Head) → q ≡ head_on d i → q ≡ Ok h → GoodHead h
+pub good_head : (d : List ℕ) (i : OrFault Figures) (h : Head) (q : OrFault Head) → q ≡ head_on d i → q ≡ Ok h → GoodHead h
 good_head d i h q e j =
     let g = head_good d i h (sym e ∙ j) in
     record { kind_some = g.kind_some; kind_few = g.kind_few; from_one = g.from_one; ordered = g.ordered; low = g.low }
 
-module _ (d : List ℕ) (t : Read ℕ) (met : ℕ → Bool) (count before : ℕ) (i : Read Figures) (q : Read Head) (e : i ≡ ident_on d t met count)
+module _ (d : List ℕ) (t : OrFault ℕ) (met : ℕ → Bool) (count before : ℕ) (i : OrFault Figures) (q : OrFault Head) (e : i ≡ ident_on d t met count)
     (o : q ≡ head_on d i) where
   pub entry_is_lem : (h : Head) → q ≡ Ok h → entry_of d t met count before ≡ rest_then d before h
   unfolding entry_of

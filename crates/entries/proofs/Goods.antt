@@ -23,7 +23,7 @@ use Rattle.sound.specs.rule.Sound.{lacked_zero, point_given, shares_given, value
 use Rattle.sound.specs.rule.Sound.{line_plain}
 use Rattle.sound.specs.rule.Sound.{values_fit, range_width, width_good}
 use Rattle.tokens.specs.declared.Figures.{Figures}
-use Rattle.tokens.specs.rule.Gap.{fault, Read}
+use Rattle.tokens.specs.rule.Gap.{fault, OrFault}
 use Rattle.values.specs.declared.Said.{Said}
 use Rattle.values.specs.Line.{number_at, line_cells, cells_of}
 use Rattle.values.specs.Good.{EachGood}
@@ -67,7 +67,7 @@ not_wrong met count x l = by (ltb 4 x.count) (ltb x.size 10000) (eqb x.size 0) (
       let k = eqb-false x.size 0 b in
       record { some = omega arith; short = omega arith; fresh = c; left = l }
 
-ident_judged : (met : ℕ → Bool) (count : ℕ) (i : Read Figures) (y : Figures) → judge_ident met count i ≡ Ok y
+ident_judged : (met : ℕ → Bool) (count : ℕ) (i : OrFault Figures) (y : Figures) → judge_ident met count i ≡ Ok y
     → GoodIdent met count y.size
 unfolding judge_ident
 ident_judged met count (Err f) y e = none cc
@@ -256,7 +256,7 @@ module _ (h : Head) (x : Telling) (before : ℕ) (g : GoodHead h) (texts : Texts
       }
 
 -- ---- the whole variable
-module _ (d : List ℕ) (t : Read ℕ) (met : ℕ → Bool) (count before : ℕ) where
+module _ (d : List ℕ) (t : OrFault ℕ) (met : ℕ → Bool) (count before : ℕ) where
   -- "POSITION must hold w", else 7 at the first POSITION number
   pub narrow_is_7 :
       (h : Head) (x : Telling) (n : ℕ)
@@ -307,7 +307,7 @@ module _ (d : List ℕ) (t : Read ℕ) (met : ℕ → Bool) (count before : ℕ)
         → EntryGood met count before v
     unfolding rest_then
     rest_then_lem h g = by (rest_of d before h.kind (Ok h.next) (h.finish + 1 - h.start)) refl where
-      end : (x : Telling) (r : Read ℕ) → GoodTelling h.kind before x → ended r (held_by before (variable h x)) ≡ entry.Is v n
+      end : (x : Telling) (r : OrFault ℕ) → GoodTelling h.kind before x → ended r (held_by before (variable h x)) ≡ entry.Is v n
           → EntryGood met count before v
       end x (Ok m) s e = held_good h x m g s e
       end x (Err f) s e = none cc
@@ -322,24 +322,24 @@ module _ (d : List ℕ) (t : Read ℕ) (met : ℕ → Bool) (count before : ℕ)
 
 -- a variable that was read is good
 pub entry_good :
-    (d : List ℕ) (t : Read ℕ) (met : ℕ → Bool) (count before : ℕ) (v : Variable) (n : ℕ)
+    (d : List ℕ) (t : OrFault ℕ) (met : ℕ → Bool) (count before : ℕ) (v : Variable) (n : ℕ)
     → length d ≤ 1048576
     → before ≤ 4096
     → entry_of d t met count before ≡ entry.Is v n
     → EntryGood met count before v
 unfolding entry_of
 entry_good d t met count before v n long few = by (head_on d (ident_on d t met count)) refl where
-  by : (q : Read Head) → head_on d (ident_on d t met count) ≡ q → head_then q (rest_then d before) ≡ entry.Is v n
+  by : (q : OrFault Head) → head_on d (ident_on d t met count) ≡ q → head_then q (rest_then d before) ≡ entry.Is v n
       → EntryGood met count before v
   by (Err f) i e = none cc
   by (Ok h) i e = rest_then_lem d t met count before v n long few h (head_good d (ident_on d t met count) h i) e
 
 -- no variable is a 513th
-pub entry_left : (d : List ℕ) (t : Read ℕ) (met : ℕ → Bool) (count before : ℕ) (v : Variable) (n : ℕ) → entry_of d t met count before
+pub entry_left : (d : List ℕ) (t : OrFault ℕ) (met : ℕ → Bool) (count before : ℕ) (v : Variable) (n : ℕ) → entry_of d t met count before
     ≡ entry.Is v n → count < 512
 unfolding entry_of ident_on
 entry_left d t met count before v n = by (head_on d (ident_on d t met count)) refl where
-  by : (q : Read Head) → head_on d (ident_on d t met count) ≡ q → head_then q (rest_then d before) ≡ entry.Is v n → count < 512
+  by : (q : OrFault Head) → head_on d (ident_on d t met count) ≡ q → head_then q (rest_then d before) ≡ entry.Is v n → count < 512
   by (Ok h) i e =
       let g = head_good d (ident_on d t met count) h i in
       (ident_judged met count _ g.figures g.given).left

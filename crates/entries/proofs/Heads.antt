@@ -15,7 +15,7 @@ use Rattle.scan.proofs.Orders.{run_value}
 use Rattle.tokens.specs.declared.Choice.{Choice}
 use Rattle.tokens.specs.declared.Choice.TheVariants.{Taken, Left}
 use Rattle.tokens.specs.declared.Figures.{Figures}
-use Rattle.tokens.specs.rule.Gap.{fault, Read}
+use Rattle.tokens.specs.rule.Gap.{fault, OrFault}
 use Rattle.tokens.specs.Gap.{gap_on}
 use Rattle.statements.specs.declared.Typed.{Typed}
 use Rattle.statements.specs.declared.Typed.TheVariants as typed
@@ -66,10 +66,10 @@ digits_true d n x = by (eqb (digits_from 0 0 n (text d n)).count 0) where
       } ≡ x = cc in
       rw (← j) (record { same = λ h. uncapped _ h ∙ sym (run_value d n); held = digits_held 0 0 n (text d n) })
 
-number_true : (d : List ℕ) (t : Read ℕ) (x : Figures) → number_on d t ≡ Ok x → True d x
+number_true : (d : List ℕ) (t : OrFault ℕ) (x : Figures) → number_on d t ≡ Ok x → True d x
 unfolding number_on number_here
 number_true d t x = by (gap_on d t) where
-  by : (r : Read ℕ) → number_here d r ≡ Ok x → True d x
+  by : (r : OrFault ℕ) → number_here d r ≡ Ok x → True d x
   by (Ok n) e = digits_true d n x e
   by (Err f) e = none cc
 
@@ -101,21 +101,21 @@ judge_good d a b n p s t = by (eqb a.size 0) (ltb (true_of d b) (true_of d a)) (
           let k = eqb-false a.size 0 e in
           rw (← j) (record { from_one = omega arith; ordered = omega (arith, s.same (omega arith), t.same (omega arith)); low = y })
 
-position_rest_lem : (d : List ℕ) (a : Read Figures) (g : Read ℕ) (p : Position) → ((x : Figures) → a ≡ Ok x → True d x) → (k : Choice)
+position_rest_lem : (d : List ℕ) (a : OrFault Figures) (g : OrFault ℕ) (p : Position) → ((x : Figures) → a ≡ Ok x → True d x) → (k : Choice)
     → position_rest d a g k ≡ Ok p → GoodPosition p
 unfolding both_of past_number
 position_rest_lem d (Err f) g p h (Taken m) e = none cc
 position_rest_lem d (Err f) g p h Left e = none cc
 position_rest_lem d (Ok x) g p h Left e = by g e where
-  by : (r : Read ℕ) → both_of d (Ok x) (Ok x) r ≡ Ok p → GoodPosition p
+  by : (r : OrFault ℕ) → both_of d (Ok x) (Ok x) r ≡ Ok p → GoodPosition p
   by (Ok n) e = judge_good d x x n p (h x refl) (h x refl) e
   by (Err f) e = none cc
 position_rest_lem d (Ok x) g p h (Taken m) e = by (number_on d (Ok m)) refl e where
-  by : (b : Read Figures) → number_on d (Ok m) ≡ b → both_of d (Ok x) b (past_number b) ≡ Ok p → GoodPosition p
+  by : (b : OrFault Figures) → number_on d (Ok m) ≡ b → both_of d (Ok x) b (past_number b) ≡ Ok p → GoodPosition p
   by (Ok y) i e = judge_good d x y y.next p (h x refl) (number_true d (Ok m) y i) e
   by (Err f) i e = none cc
 
-pub position_good : (d : List ℕ) (t : Read ℕ) (p : Position) → position_on d t ≡ Ok p → GoodPosition p
+pub position_good : (d : List ℕ) (t : OrFault ℕ) (p : Position) → position_on d t ≡ Ok p → GoodPosition p
 unfolding position_on
 position_good d t p e =
     let a = number_on d (statement_on d t POSITION) in
@@ -123,7 +123,7 @@ position_good d t p e =
     (choice_of d (gap_on d (past_number a)) TO) e
 
 -- ---- TYPE: 1 to 5
-type_here_lem : (d : List ℕ) (t : Read ℕ) (k n : ℕ) → type_here d t ≡ typed.Is k n → (1 ≤ k) × (k ≤ 5)
+type_here_lem : (d : List ℕ) (t : OrFault ℕ) (k n : ℕ) → type_here d t ≡ typed.Is k n → (1 ≤ k) × (k ≤ 5)
 unfolding type_here
 type_here_lem d t k n = by (choice_of d t SINGLE) (choice_of d t MULTIPLE) (choice_of d t QUANTITY) (choice_of d t CHARACTER)
     (word_here d t LOGICAL)
@@ -131,7 +131,7 @@ type_here_lem d t k n = by (choice_of d t SINGLE) (choice_of d t MULTIPLE) (choi
     is : (j m : ℕ) → (1 ≤ j) × (j ≤ 5) → typed.Is j m ≡ typed.Is k n → (1 ≤ k) × (k ≤ 5)
     is j m h e = let q : j ≡ k = cc in rw (← q) h
 
-    by : (a b c e : Choice) (r : Read ℕ) → or a 1 (or b 2 (or c 3 (or e 4 (last r 5)))) ≡ typed.Is k n → (1 ≤ k) × (k ≤ 5)
+    by : (a b c e : Choice) (r : OrFault ℕ) → or a 1 (or b 2 (or c 3 (or e 4 (last r 5)))) ≡ typed.Is k n → (1 ≤ k) × (k ≤ 5)
     by (Taken m) b c e r q = is 1 m (omega arith, omega arith) q
     by Left (Taken m) c e r q = is 2 m (omega arith, omega arith) q
     by Left Left (Taken m) e r q = is 3 m (omega arith, omega arith) q
@@ -140,7 +140,7 @@ type_here_lem d t k n = by (choice_of d t SINGLE) (choice_of d t MULTIPLE) (choi
     by Left Left Left Left (Err f) q = none cc
 
 -- ---- all of them together
-pub record GoodHead (d : List ℕ) (i : Read Figures) (h : Head) : Type 0 where
+pub record GoodHead (d : List ℕ) (i : OrFault Figures) (h : Head) : Type 0 where
   pub figures : Figures
   pub given : i ≡ Ok figures
   pub ident : h.ident ≡ figures.size
@@ -154,13 +154,13 @@ pub record GoodHead (d : List ℕ) (i : Read Figures) (h : Head) : Type 0 where
   pub label : h.label.place ≤ length d
   pub label_len : h.label.length ≤ length d
 
-module _ (d : List ℕ) (i : Read Figures) (h : Head) where
-  joined : (t u v w : Read ℕ) (n l : Read Quoted) (k : Typed) (p : Read Position) → string_on d t ≡ n → string_on d u ≡ l → type_here d v ≡ k
+module _ (d : List ℕ) (i : OrFault Figures) (h : Head) where
+  joined : (t u v w : OrFault ℕ) (n l : OrFault Quoted) (k : Typed) (p : OrFault Position) → string_on d t ≡ n → string_on d u ≡ l → type_here d v ≡ k
       → position_on d w ≡ p
       → join_head (join_titles i n l) k p ≡ Ok h → GoodHead d i h
   unfolding join_head join_titles
   joined t u v w n l k p a b c e = by i n l k p refl a b c e where
-    by : (j : Read Figures) (n l : Read Quoted) (k : Typed) (p : Read Position) → i ≡ j → string_on d t ≡ n → string_on d u ≡ l → type_here d v ≡ k
+    by : (j : OrFault Figures) (n l : OrFault Quoted) (k : Typed) (p : OrFault Position) → i ≡ j → string_on d t ≡ n → string_on d u ≡ l → type_here d v ≡ k
         → position_on d w ≡ p
         → join_head (join_titles j n l) k p ≡ Ok h → GoodHead d i h
     by (Err f) n l k p o a b c e g = none cc

@@ -11,7 +11,7 @@ use lib.Dec.{eqb, ltb}
 use Rattle.tokens.specs.declared.Choice.{Choice}
 use Rattle.tokens.specs.declared.Choice.TheVariants.{Taken, Left}
 use Rattle.tokens.specs.declared.Figures.{Figures}
-use Rattle.tokens.specs.rule.Gap.{fault, Read}
+use Rattle.tokens.specs.rule.Gap.{fault, OrFault}
 use Rattle.tokens.specs.Gap.{gap_on}
 use Rattle.tokens.specs.Token.{choice_of, number_on, past_number}
 use Rattle.statements.specs.declared.Subfields.{Subfields}
@@ -65,15 +65,15 @@ even_good n w m s h = by (eqb n.size 0) (eqb (w % n.size) 0) refl refl where
       let b = whole_some w n.size h (eqb-true (w % n.size) 0 f) in
       rw (← j) (record { some = omega arith; wide = b })
 
-pub spread_good : (d : List ℕ) (t : Read ℕ) (w : ℕ) (s : Subfields) → 1 ≤ w → spread_rest d t w ≡ Ok s → GoodSpread s
+pub spread_good : (d : List ℕ) (t : OrFault ℕ) (w : ℕ) (s : Subfields) → 1 ≤ w → spread_rest d t w ≡ Ok s → GoodSpread s
 unfolding spread_rest fields_of even_of
 spread_good d t w s h = by (number_on d t) (choice_of d (gap_on d (past_number (number_on d t))) OF)
     (gap_on d (past_number (number_on d t))) where
-      two : (x : Figures) (b : Read Figures) → fields_of (Ok x) b ≡ Ok s → GoodSpread s
+      two : (x : Figures) (b : OrFault Figures) → fields_of (Ok x) b ≡ Ok s → GoodSpread s
       two x (Ok y) e = fields_good x y y.next s e
       two x (Err f) e = none cc
 
-      by : (a : Read Figures) (k : Choice) (g : Read ℕ) → rest d a w g k ≡ Ok s → GoodSpread s
+      by : (a : OrFault Figures) (k : Choice) (g : OrFault ℕ) → rest d a w g k ≡ Ok s → GoodSpread s
       by (Err f) (Taken m) g e = none cc
       by (Err f) Left g e = none cc
       by (Ok x) (Taken m) g e = two x (number_on d (Ok m)) e
@@ -81,7 +81,7 @@ spread_good d t w s h = by (number_on d t) (choice_of d (gap_on d (past_number (
       by (Ok x) Left (Err f) e = none cc
 
 -- ---- SIZE
-pub size_good : (d : List ℕ) (t : Read ℕ) (x : Figures) → size_on d t ≡ Ok x → (1 ≤ x.size) × (x.size ≤ 4096)
+pub size_good : (d : List ℕ) (t : OrFault ℕ) (x : Figures) → size_on d t ≡ Ok x → (1 ≤ x.size) × (x.size ≤ 4096)
 unfolding size_on judge_size
 size_good d t x = by (number_on d (statement_on d t SIZE)) where
   sized : (y : Figures) (p q : Bool) → eqb y.size 0 ≡ p → ltb 4096 y.size ≡ q
@@ -95,6 +95,6 @@ size_good d t x = by (number_on d (statement_on d t SIZE)) where
       let b = ltb-false 4096 y.size f in
       rw (← j) (omega arith, b)
 
-  by : (n : Read Figures) → judge_size n ≡ Ok x → (1 ≤ x.size) × (x.size ≤ 4096)
+  by : (n : OrFault Figures) → judge_size n ≡ Ok x → (1 ≤ x.size) × (x.size ≤ 4096)
   by (Ok y) e = sized y (eqb y.size 0) (ltb 4096 y.size) refl refl e
   by (Err f) e = none cc

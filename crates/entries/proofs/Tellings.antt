@@ -29,7 +29,7 @@ use Rattle.variables.specs.Rest as told
 use Rattle.entries.specs.Good.{GoodTelling}
 use Rattle.entries.proofs.Heads.{none}
 use Rattle.entries.proofs.Spreads.{spread_good, size_good}
-use Rattle.tokens.specs.rule.Gap.{Read}
+use Rattle.tokens.specs.rule.Gap.{OrFault}
 use Rattle.tokens.specs.declared.Figures.{Figures}
 use Rattle.statements.specs.declared.Subfields.{Subfields}
 
@@ -58,10 +58,10 @@ empty_lines q first h = record {
 }
 
 module _ (d : List ℕ) (first : ℕ) (long : length d ≤ 1048576) (few : first ≤ 4096)
-    (values-good : (q : Bool) (t : Read ℕ) (b : Block) (l : List Said) (n : ℕ) → values_on d q first t ≡ given.Is b l n
+    (values-good : (q : Bool) (t : OrFault ℕ) (b : Block) (l : List Said) (n : ℕ) → values_on d q first t ≡ given.Is b l n
     → GoodValues q first b l) where
   -- VALUES, with so many subfields of such a width
-  values_told : (kind : ℕ) (t : Read ℕ) (count width : ℕ) (x : Telling) → kind ≤ 3
+  values_told : (kind : ℕ) (t : OrFault ℕ) (count width : ℕ) (x : Telling) → kind ≤ 3
       → ((count ≡ 0) × (width ≡ 0)) ⊎ ((kind ≡ 2) × (1 ≤ count) × (1 ≤ width))
       → values_rest d (eqb kind 3) first t count width ≡ told.Is x → GoodTelling kind first x
   unfolding values_rest join_values
@@ -82,10 +82,10 @@ module _ (d : List ℕ) (first : ℕ) (long : length d ≤ 1048576) (few : first
           sized = λ h. absurd (omega arith);
         })
 
-  spread_told : (t : Read ℕ) (w : ℕ) (x : Telling) → 1 ≤ w → spread_then d first t w ≡ told.Is x → GoodTelling 2 first x
+  spread_told : (t : OrFault ℕ) (w : ℕ) (x : Telling) → 1 ≤ w → spread_then d first t w ≡ told.Is x → GoodTelling 2 first x
   unfolding spread_then
   spread_told t w x h = by (choice_of d (notes_on d t) SPREAD) where
-    spread : (m : ℕ) (s : Read Subfields) → spread_rest d (Ok m) w ≡ s → spread_or d first s ≡ told.Is x → GoodTelling 2 first x
+    spread : (m : ℕ) (s : OrFault Subfields) → spread_rest d (Ok m) w ≡ s → spread_or d first s ≡ told.Is x → GoodTelling 2 first x
     spread m (Err f) i e = none cc
     spread m (Ok s) i e =
         let g = spread_good d (Ok m) w s h i in
@@ -95,10 +95,10 @@ module _ (d : List ℕ) (first : ℕ) (long : length d ≤ 1048576) (few : first
     by (Taken m) e = spread m (spread_rest d (Ok m) w) refl e
     by Left e = values_told 2 (notes_on d t) 0 0 x (omega arith) (inl (refl, refl)) e
 
-  size_told : (t : Read ℕ) (x : Telling) → join_size (size_on d t) ≡ told.Is x → GoodTelling 4 first x
+  size_told : (t : OrFault ℕ) (x : Telling) → join_size (size_on d t) ≡ told.Is x → GoodTelling 4 first x
   unfolding join_size
   size_told t x = by (size_on d t) refl where
-    by : (n : Read Figures) → size_on d t ≡ n → join_size n ≡ told.Is x → GoodTelling 4 first x
+    by : (n : OrFault Figures) → size_on d t ≡ n → join_size n ≡ told.Is x → GoodTelling 4 first x
     by (Err f) i e = none cc
     by (Ok y) i e =
         let j : record { block = empty_block; lines = []; subfields = 0; subwidth = 0; size = y.size; next = y.next } ≡ x = cc in
@@ -114,7 +114,7 @@ module _ (d : List ℕ) (first : ℕ) (long : length d ≤ 1048576) (few : first
           sized = λ h. s.0;
         })
 
-  nothing_told : (kind : ℕ) (t : Read ℕ) (x : Telling) → kind ≡ 5 → join_nothing t ≡ told.Is x → GoodTelling kind first x
+  nothing_told : (kind : ℕ) (t : OrFault ℕ) (x : Telling) → kind ≡ 5 → join_nothing t ≡ told.Is x → GoodTelling kind first x
   unfolding join_nothing
   nothing_told kind (Err f) x k e = none cc
   nothing_told kind (Ok n) x k e =
@@ -130,7 +130,7 @@ module _ (d : List ℕ) (first : ℕ) (long : length d ≤ 1048576) (few : first
         sized = λ h. absurd (omega arith);
       })
 
-  pub rest_good : (kind : ℕ) (t : Read ℕ) (w : ℕ) (x : Telling) → 1 ≤ kind → kind ≤ 5 → 1 ≤ w → rest_of d first kind t w ≡ told.Is x
+  pub rest_good : (kind : ℕ) (t : OrFault ℕ) (w : ℕ) (x : Telling) → 1 ≤ kind → kind ≤ 5 → 1 ≤ w → rest_of d first kind t w ≡ told.Is x
       → GoodTelling kind first x
   unfolding rest_of
   rest_good kind t w x k m h = by (eqb kind 1) (eqb kind 2) (eqb kind 3) (eqb kind 4) refl refl refl refl where

@@ -2,7 +2,7 @@
 -- A variable: VARIABLE id, NAME, LABEL, TYPE, POSITION a [TO b], then by type, then END VARIABLE; its width is judged after that.
 use Rattle.std.specs.Prelude.{Bool, cond, List, ℕ, ◌+◌, ◌-◌, ◌*◌, ◌≤◌, ◌≡◌, ℤ, length, Ok, Err}
 use Rattle.tokens.specs.declared.Fault.{Fault}
-use Rattle.tokens.specs.rule.Gap.{fault, Read}
+use Rattle.tokens.specs.rule.Gap.{fault, OrFault}
 use Rattle.tokens.specs.Token.{word_on}
 use Rattle.statements.specs.rule.Words.{END, VARIABLE}
 use Rattle.statements.specs.Note.{statement_on}
@@ -29,10 +29,10 @@ pub data Entry : Type 0 where
 abbrev pub variable : Head → Telling → Variable
 variable h x = record { head = h; rest = x }
 
-unfoldable pub end_variable : List ℕ → ℕ → Read ℕ
+unfoldable pub end_variable : List ℕ → ℕ → OrFault ℕ
 end_variable d n = word_on d (statement_on d (Ok n) END) VARIABLE
 
-abbrev pub ended : Read ℕ → (ℕ → Entry) → Entry
+abbrev pub ended : OrFault ℕ → (ℕ → Entry) → Entry
 ended (Ok n) k = k n
 ended (Err f) k = Not f
 
@@ -51,12 +51,12 @@ rest_then d before h =
     ended (end_variable d x.next) λ n.
     held_by before (variable h x) n
 
-abbrev pub head_then : Read Head → (Head → Entry) → Entry
+abbrev pub head_then : OrFault Head → (Head → Entry) → Entry
 head_then (Ok h) k = k h
 head_then (Err f) k = Not f
 
 -- `met` says of a number whether it is the ident of one of the `count` variables before
-unfoldable pub entry_of : List ℕ → Read ℕ → (ℕ → Bool) → ℕ → ℕ → Entry
+unfoldable pub entry_of : List ℕ → OrFault ℕ → (ℕ → Bool) → ℕ → ℕ → Entry
 entry_of d t met count before = head_then (head_on d (ident_on d t met count)) (rest_then d before)
 
 -- what is known of the statements before: the type is one of five, the position lies where positions may
@@ -76,10 +76,10 @@ pub record Stored (before : ℕ) (e : Entry) (room end : List ℤ) : Type 0 wher
   pub stored : {v : Variable} {n : ℕ} → e ≡ Is v n → end ≡ pasted room (line_size * before) (cells_of (lines_in v))
 
 -- by the columns and lines in the room
-abbrev pub measured_at : Read Columns → ℕ → ℕ → Stood
+abbrev pub measured_at : OrFault Columns → ℕ → ℕ → Stood
 measured_at (Ok c) last n = stood.Is c last n
 measured_at (Err f) last n = stood.Not f
 
-abbrev pub settled_by : (ℕ → ℤ) → Head → Rest → ℕ → Read ℕ → Stood
+abbrev pub settled_by : (ℕ → ℤ) → Head → Rest → ℕ → OrFault ℕ → Stood
 settled_by f h r before (Ok n) = measured_at (measured f h r before) r.last n
 settled_by f h r before (Err g) = stood.Not g

@@ -12,7 +12,7 @@ ghost use Rattle.entries.specs.Entry.{end_variable, rest_then, entry_of};
 ghost use Rattle.entries.specs.Entry.{settled_by, GoodHead, stood_of, Stored};
 
 use layout::Columns;
-use tokens::{Fault, Read};
+use tokens::{Fault, OrFault};
 use variables::{Head, Rest};
 
 // A variable that stands: its columns, how many value lines there are then in all, and the place after END VARIABLE.
@@ -26,7 +26,7 @@ pub enum Stood {
     Not(Fault),
 }
 
-fn end_variable(classes: &[u8; 256], d: &[u8], next: usize) -> Read<usize>
+fn end_variable(classes: &[u8; 256], d: &[u8], next: usize) -> OrFault<usize>
     requires { Classes classes.now }
     ensures { result ≡ end_variable d.now next }
 {
@@ -43,7 +43,7 @@ fn settle(
     h: Head,
     r: Rest,
     before: usize,
-    end: Read<usize>,
+    end: OrFault<usize>,
 ) -> Stood
     requires tens { Tens powers.now }
     requires measurable { Measurable lines.now h r before }
@@ -107,7 +107,7 @@ pub fn variable_on(
     classes: &[u8; 256],
     powers: &[u64; 16],
     d: &[u8],
-    t: Read<usize>,
+    t: OrFault<usize>,
     seen: &[u8],
     count: usize,
     before: usize,

@@ -25,7 +25,7 @@ use Rattle.xml_reading.specs.rule.Element.{Body, body_of, on_content, body, text
 use Rattle.elements.specs.Code.{phrase_of}
 use Rattle.elements.proofs.Bounds.{tag_within, content_within}
 use Rattle.filters.specs.Code.{text_at}
-use Rattle.tokens.specs.rule.Gap.{Read}
+use Rattle.tokens.specs.rule.Gap.{OrFault}
 
 -- ---- readers one behind the other
 pub record Bound {A B : Type 0} (r : Result A) (k : A → Reader B) (b : B) (n : ℕ) : Type 0 where
@@ -106,12 +106,12 @@ module _ (bad : Bool) (d : List ℕ) where
   phrase_not (Is t n) f e = never cc
   phrase_not (Not g) f e = cc
 
-  pub text_is : (w : List ℕ) (m p e : ℕ) {r : Read Quoted} {q : Quoted} → r ≡ phrase_of (text bad d w m p e) → r ≡ Ok q → TextIs w m p e q
+  pub text_is : (w : List ℕ) (m p e : ℕ) {r : OrFault Quoted} {q : Quoted} → r ≡ phrase_of (text bad d w m p e) → r ≡ Ok q → TextIs w m p e q
   text_is w m p e {q = q} s f =
       let g = phrase_is (text bad d w m p e) q (sym s ∙ f) in
       let l = text_lies w m p e g in
       record { reads = g; inside = l.inside; next = l.next }
 
-  pub text_not : (w : List ℕ) (m p e : ℕ) {r : Read Quoted} {f : Fault} → r ≡ phrase_of (text bad d w m p e) → r ≡ Err f
+  pub text_not : (w : List ℕ) (m p e : ℕ) {r : OrFault Quoted} {f : Fault} → r ≡ phrase_of (text bad d w m p e) → r ≡ Err f
       → text bad d w m p e ≡ Not f
   text_not w m p e {f = f} s g = phrase_not (text bad d w m p e) f (sym s ∙ g)

@@ -11,7 +11,7 @@ use lib.IntN.{ℤ}
 use lib.ListN.{length}
 use borrow.Author.Tests.{lt-ltb, le-ltb, le-leb, ltb-false}
 use Rattle.scan.specs.Number.{capped}
-use Rattle.tokens.specs.rule.Gap.{fault, Read}
+use Rattle.tokens.specs.rule.Gap.{fault, OrFault}
 use Rattle.tokens.specs.declared.Figures.{Figures}
 use Rattle.tags.specs.rule.Tag.{stretch_fits}
 use Rattle.tags.specs.declared.Held.{Held}
@@ -116,7 +116,7 @@ module _ (met : ℕ → Bool) (earlier : List Variable) (knows : (n : ℕ) → m
   title_judged = chained ∙ chain_least to is n charges charges_rise
 
 -- ---- as the code has it
-abbrev number_next : Read Figures → ℕ
+abbrev number_next : OrFault Figures → ℕ
 number_next (Ok x) = x.next
 number_next (Err f) = 0
 
@@ -129,7 +129,7 @@ judged_next met count x = by (wrong_ident met x) (leb 512 count) where
   by false true = omega arith
   by false false = omega arith
 
-titled_next_lem : (i : Read Figures) (u : ℕ) (w : Bool) (at : ℕ) (em : Bool) (q kind usage m : ℕ) → number_next i ≤ m
+titled_next_lem : (i : OrFault Figures) (u : ℕ) (w : Bool) (at : ℕ) (em : Bool) (q kind usage m : ℕ) → number_next i ≤ m
     → titled_next (titled_by i u w at em q kind usage) ≤ m
 titled_next_lem (Err f) u w at em q kind usage m h = omega arith
 titled_next_lem (Ok x) u w at em q kind usage m h = by (eqb u 0) w em where

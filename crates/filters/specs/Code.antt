@@ -10,7 +10,7 @@ use Rattle.contents.specs.declared.Cursor.{Cursor}
 use Rattle.scan.specs.Number.{capped}
 use Rattle.tags.specs.rule.Tag.{tag_of}
 use Rattle.tags.specs.declared.Tag.{Tag}
-use Rattle.tokens.specs.rule.Gap.{fault, Read}
+use Rattle.tokens.specs.rule.Gap.{fault, OrFault}
 use Rattle.variables.specs.Ident.{marked}
 use Rattle.survey.specs.rule.Survey.{KeptText}
 use Rattle.survey.specs.rule.Width.{some_of}
@@ -144,7 +144,7 @@ abbrev pub title_tag : Bool → List ℕ → Bool → ℕ → ℕ → Tag
 title_tag bad d old p e = tag_of bad d p e IDENT TYPE (cond old [] USE) 1 4 (cond old 0 5) 2
 
 -- by its judged ident, the place of an unknown attribute, whether the use at a place is wrong, and whether it is `/>` at q
-abbrev pub titled_by : Read Figures → ℕ → Bool → ℕ → Bool → ℕ → ℕ → ℕ → Titled
+abbrev pub titled_by : OrFault Figures → ℕ → Bool → ℕ → Bool → ℕ → ℕ → ℕ → Titled
 titled_by (Ok x) u w at em q kind usage =
     cond (eqb u 0)
     (cond w (titled.Not (fault 52 at)) (cond em (titled.Not (fault 2 q)) (titled.Is x.size kind usage x.next)))
@@ -156,11 +156,11 @@ pub record TitleSaid (bad : Bool) (d : List ℕ) (old : Bool) (seen : List ℕ) 
   pub next : titled_next r ≤ length d
 
 -- ---- names and filters
-abbrev pub phrase_end : Read Quoted → ℕ
+abbrev pub phrase_end : OrFault Quoted → ℕ
 phrase_end (Ok q) = q.place + q.length
 phrase_end (Err f) = 0
 
-abbrev pub phrase_next : Read Quoted → ℕ
+abbrev pub phrase_next : OrFault Quoted → ℕ
 phrase_next (Ok q) = q.next
 phrase_next (Err f) = 0
 
@@ -173,7 +173,7 @@ filtered_next (filtered.Is f n) = n
 filtered_next (filtered.Not f) = 0
 
 module _ (bad latin standard : Bool) (d : List ℕ) (rows : List ℤ) (count : ℕ) where
-  pub record NamingSaid (p e : ℕ) (r : Read Quoted) : Type 0 where
+  pub record NamingSaid (p e : ℕ) (r : OrFault Quoted) : Type 0 where
     pub is : (l : List XmlEntry) → RowsOf rows count l → r ≡ phrase_of (naming bad d latin standard l p e)
     pub inside : phrase_end r ≤ length d
     pub next : phrase_next r ≤ length d

@@ -22,7 +22,7 @@ use contents::{Cursor, Part};
 use layout::{Header, Row};
 use signs::Sign;
 use tags::Tag;
-use tokens::{Fault, Figures, Quoted, Read};
+use tokens::{Fault, Figures, OrFault, Quoted};
 
 // ---- names, sign by sign
 fn same_byte(standard: bool, b: u8, c: u8) -> bool
@@ -568,7 +568,7 @@ fn read_title(bad: bool, d: &[u8], place: usize, end: usize, old: bool) -> Tag
 }
 
 // The number that a stretch of that form says.
-fn figure_at(d: &[u8], v: usize, e: usize, next: usize) -> Read<Figures>
+fn figure_at(d: &[u8], v: usize, e: usize, next: usize) -> OrFault<Figures>
     requires { (v ≤ e) × (e ≤ length d.now) × (stretch_fits 1 d.now v e ≡ true) }
     ensures { result ≡ to_number (Is (figure_of d.now v e) next) }
 {
@@ -605,7 +605,7 @@ fn use_at(d: &[u8], v: usize, e: usize) -> usize
 
 // 5 and 8, then 51, then 52; then 2 at `/>`, since something was due inside.
 fn judge_title(
-    i: Read<Figures>,
+    i: OrFault<Figures>,
     unknown: usize,
     wrong: bool,
     at: usize,
@@ -690,7 +690,7 @@ pub fn naming_at(
     place: usize,
     end: usize,
     sums: &[u16],
-) -> Read<Quoted>
+) -> OrFault<Quoted>
     requires known { Known latin d.now rows.now count sums.now }
     requires end_in_bounds { end ≤ length d.now }
     ensures { NamingSaid bad latin standard d.now rows.now count place end result }

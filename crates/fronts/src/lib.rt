@@ -16,7 +16,7 @@ ghost use Rattle.fronts.specs.Front.{met_by, ended_by, meet_by, end_by};
 
 use scan::Step;
 use steps::Found;
-use tokens::Read;
+use tokens::OrFault;
 
 // A statement of the heading: 0 DATE, 1 TIME, 2 ORIGIN, 3 USER, 4 STANDARD, and the place behind its word; 5 another, and where it was
 // looked for.
@@ -114,7 +114,7 @@ fn letter_at(classes: &[u8; 256], d: &[u8], n: usize) -> Letter
     letter_in(s)
 }
 
-fn place_in(t: Read<usize>) -> usize
+fn place_in(t: OrFault<usize>) -> usize
     ensures { result ≡ place_in 0 t }
 {
     match t {

@@ -15,7 +15,7 @@ use Rattle.marks.specs.declared.Inside.TheVariants.{Plain}
 use Rattle.marks.proofs.Complete.{string_complete}
 use Rattle.marks.proofs.Levels.{ahead, string_ahead}
 use Rattle.tokens.specs.declared.Fault.{Fault}
-use Rattle.tokens.specs.rule.Gap.{gap_at, Read}
+use Rattle.tokens.specs.rule.Gap.{gap_at, OrFault}
 use Rattle.tokens.specs.Gap.{left}
 use Rattle.tokens.specs.Token.{choice_of}
 use Rattle.tokens.proofs.Aheads.{taken_less}
@@ -66,7 +66,7 @@ module _ (d : List ℕ) where
 
   again_gap : (g n : ℕ) → bind (bind (gap d n) λ a m. Is (Again (tt {0})) m) (turn (repeat g (note d))) ≡ turns g n
   again_gap g n = by (gap_at d n) where
-    by : (t : Read ℕ) → bind (bind (passed t) λ a m. Is (Again (tt {0})) m) (turn (repeat g (note d))) ≡ bind (passed t) λ u. repeat g
+    by : (t : OrFault ℕ) → bind (bind (passed t) λ a m. Is (Again (tt {0})) m) (turn (repeat g (note d))) ≡ bind (passed t) λ u. repeat g
         (note d) tt
     by (Ok m) = refl
     by (Err f) = refl

@@ -22,7 +22,7 @@ use Rattle.marks.proofs.Complete.{string_complete}
 use Rattle.marks.proofs.Spellings.{string_exactly}
 use Rattle.marks.proofs.Endings.{bad_at_exactly, unclosed_exactly}
 use Rattle.tokens.specs.declared.Fault.{Fault}
-use Rattle.tokens.specs.rule.Gap.{fault, gap_at, Read}
+use Rattle.tokens.specs.rule.Gap.{fault, gap_at, OrFault}
 use Rattle.token_laws.specs.Gaps.{gap_exactly}
 use Rattle.survey.specs.rule.Survey.{Figure, Amount, KeptText}
 use Rattle.reading.specs.rule.Result.{Result, Is, Not, Reader, bind, give}
@@ -67,7 +67,7 @@ module _ (d : List ℕ) where
   -- ---- gaps
   pub gap_view : (n : ℕ) → View (only (Gap d n)) (GapStops d n) (gap d n)
   gap_view n = by (gap_at d n) refl where
-    by : (t : Read ℕ) → gap_at d n ≡ t → View (only (Gap d n)) (GapStops d n) (passed t)
+    by : (t : OrFault ℕ) → gap_at d n ≡ t → View (only (Gap d n)) (GapStops d n) (passed t)
     by (Ok m) e = reads ((gap_exactly d n (Ok m)).0 e)
     by (Err f) e = halts ((gap_exactly d n (Err f)).0 e)
 

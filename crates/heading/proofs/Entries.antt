@@ -22,15 +22,15 @@ use Rattle.heading.specs.declared.Entry.{Entry}
 use Rattle.heading.specs.declared.Entry.TheVariants.{Text, Standard, Other}
 use Rattle.heading.specs.Heading.{or, last, entry_of, again, once_of, text_at, text_entry, named, name_entry, no_heading, entered}
 use Rattle.heading.specs.Heading.{entry_step, entries_from}
-use Rattle.tokens.specs.rule.Gap.{Read}
+use Rattle.tokens.specs.rule.Gap.{OrFault}
 
 -- where a word was taken
-data Takes (d : List ℕ) (t : Read ℕ) : Entry → Type 0 where
+data Takes (d : List ℕ) (t : OrFault ℕ) : Entry → Type 0 where
   text : {k m : ℕ} → left d (Ok m) < left d t → Takes d t (Text k m)
   names : {m : ℕ} → left d (Ok m) < left d t → Takes d t (Standard m)
   none : Takes d t Other
 
-module _ (d : List ℕ) (t : Read ℕ) where
+module _ (d : List ℕ) (t : OrFault ℕ) where
   take_or : (x : ℕ) (w : List ℕ) (k : ℕ) (z : Entry) → Takes d t z → Takes d t (or (choice_of d t (x ∷ w)) k z)
   take_or x w k z h = by (choice_of d t (x ∷ w)) refl where
     by : (c : Choice) → choice_of d t (x ∷ w) ≡ c → Takes d t (or c k z)
@@ -55,7 +55,7 @@ module _ (d : List ℕ) (t : Read ℕ) where
   again_left : left d (again t) ≤ 0
   unfolding again left
   again_left = by t where
-    by : (t : Read ℕ) → left d (again t) ≤ 0
+    by : (t : OrFault ℕ) → left d (again t) ≤ 0
     by (Ok n) = omega arith
     by (Err f) = omega arith
 
@@ -84,7 +84,7 @@ module _ (d : List ℕ) where
         rw (← j) (names_less d e.next e.heading m l)
     by Other none q = let z : ◌≡◌ {A = ℕ} 0 1 = cc in absurd (omega arith)
 
-  module _ (h : Heading) (t : Read ℕ) {k : Entry} (e : k ≡ entry_of d t) where
+  module _ (h : Heading) (t : OrFault ℕ) {k : Entry} (e : k ≡ entry_of d t) where
     pub entries_text : {n m : ℕ} → k ≡ Text n m → (entries_from d (entered h t) ≡ entries_from d (text_entry d h t n m))
         × (left d (text_entry d h t n m).next < left d t)
     unfolding entries_from

@@ -13,7 +13,7 @@ use Rattle.tokens.specs.declared.Fault.{Fault}
 use Rattle.tokens.specs.declared.Quoted.{Quoted}
 use Rattle.tokens.specs.declared.Choice.{Choice}
 use Rattle.tokens.specs.declared.Choice.TheVariants.{Taken, Left}
-use Rattle.tokens.specs.rule.Gap.{fault, Read}
+use Rattle.tokens.specs.rule.Gap.{fault, OrFault}
 use Rattle.tokens.specs.Gap.{gap_on, left}
 use Rattle.tokens.specs.Token.{choice_of, string_on, past_string, word_on}
 use Rattle.tokens.proofs.Aheads.{string_next}
@@ -28,7 +28,7 @@ use Rattle.heading.specs.Heading.{no_heading, entered, entry_step}
 use Rattle.heading.specs.Given.{given, Reached, none, text, names, Onward, on, over}
 
 -- a text that was read has a place behind it
-once_next : (d : List ℕ) (q : Quoted) (t : Read ℕ) (m : ℕ) (x : Quoted) → once_of d q t m ≡ Ok x → 2 ≤ x.next
+once_next : (d : List ℕ) (q : Quoted) (t : OrFault ℕ) (m : ℕ) (x : Quoted) → once_of d q t m ≡ Ok x → 2 ≤ x.next
 unfolding once_of
 once_next d q t m x = by (eqb q.next 0) where
   by : (y : Bool) → cond y (string_on d (Ok m)) (string_on d (again t)) ≡ Ok x → 2 ≤ x.next
@@ -87,7 +87,7 @@ module _ (d : List ℕ) where
 
   module _ {s : List ℕ} {h : Heading} (r : Reached d s h) where
     -- a text that was not given before is read; a second one is 2 at its word, whatever follows it
-    pub text_first : (k m : ℕ) (t : Read ℕ) → k ≤ 3 → given k s ≡ false → once_of d (text_at h k) t m ≡ string_on d (Ok m)
+    pub text_first : (k m : ℕ) (t : OrFault ℕ) → k ≤ 3 → given k s ≡ false → once_of d (text_at h k) t m ≡ string_on d (Ok m)
     unfolding once_of
     text_first k m t l e = rw (given_next r k l, e)
 
@@ -96,7 +96,7 @@ module _ (d : List ℕ) where
     text_second k m n l e = rw (given_next r k l, e)
 
     -- and so is STANDARD NAMES
-    pub names_first : (m : ℕ) (t : Read ℕ) → given 4 s ≡ false → (name_entry d h t m).next ≡ notes_on d (word_on d (Ok m) NAMES)
+    pub names_first : (m : ℕ) (t : OrFault ℕ) → given 4 s ≡ false → (name_entry d h t m).next ≡ notes_on d (word_on d (Ok m) NAMES)
     unfolding name_entry
     names_first m t e = rw (given_standard r, e)
 
@@ -110,7 +110,7 @@ data Known : Entry → Type 0 where
   the_names : {m : ℕ} → Known (Standard m)
   none_of_them : Known Other
 
-module _ (d : List ℕ) (t : Read ℕ) where
+module _ (d : List ℕ) (t : OrFault ℕ) where
   known_or : (c : Choice) (k : ℕ) (z : Entry) → k ≤ 3 → Known z → Known (or c k z)
   known_or (Taken m) k z l h = a_text l
   known_or Left k z l h = h
@@ -136,7 +136,7 @@ module _ (d : List ℕ) (t : Read ℕ) where
     text_onward : (k m : ℕ) → k ≤ 3 → Onward d s (text_entry d h t k m)
     unfolding text_entry kept_of past_string
     text_onward k m l = by (once_of d (text_at h k) t m) refl where
-      by : (p : Read Quoted) → once_of d (text_at h k) t m ≡ p
+      by : (p : OrFault Quoted) → once_of d (text_at h k) t m ≡ p
           → Onward d s (entered (with_text h k (kept_of (text_at h k) p)) (notes_on d (past_string p)))
       by (Ok q) e = on k (text t m r l e)
       by (Err f) e = rw (notes_over f) over
@@ -144,7 +144,7 @@ module _ (d : List ℕ) (t : Read ℕ) where
     names_onward : (m : ℕ) → Onward d s (name_entry d h t m)
     unfolding name_entry again
     names_onward m = by h.standard t where
-      by : (x : Bool) (t : Read ℕ) → Onward d s (cond {A = Entered} x (entered (named h) (again t))
+      by : (x : Bool) (t : OrFault ℕ) → Onward d s (cond {A = Entered} x (entered (named h) (again t))
           (entered (named h) (notes_on d (word_on d (Ok m) NAMES))))
       by true (Ok n) = over
       by true (Err f) = over

@@ -6,7 +6,7 @@ use Rattle.tokens.specs.declared.Quoted.{Quoted}
 use Rattle.heading.specs.declared.Heading.{Heading}
 use Rattle.heading.specs.declared.Entered.{Entered}
 use Rattle.heading.specs.Heading.{text_at, with_text, once_of, named, no_heading, entered}
-use Rattle.tokens.specs.rule.Gap.{Read}
+use Rattle.tokens.specs.rule.Gap.{OrFault}
 
 -- statement k was given
 unfoldable pub given : ℕ → List ℕ → Bool
@@ -16,11 +16,11 @@ given k (j ∷ s) = eqb k j || given k s
 -- the headings that the statements of a list, read one after another, come to
 pub data Reached (d : List ℕ) : List ℕ → Heading → Type 0 where
   none : Reached d [] no_heading
-  text : {s : List ℕ} {h : Heading} {k : ℕ} {q : Quoted} (t : Read ℕ) (m : ℕ) → Reached d s h → k ≤ 3
+  text : {s : List ℕ} {h : Heading} {k : ℕ} {q : Quoted} (t : OrFault ℕ) (m : ℕ) → Reached d s h → k ≤ 3
       → once_of d (text_at h k) t m ≡ Ok q → Reached d (k ∷ s) (with_text h k q)
   names : {s : List ℕ} {h : Heading} → Reached d s h → Reached d (4 ∷ s) (named h)
 
 -- behind the statements of a list, one statement more: it was given, or it was refused
 pub data Onward (d : List ℕ) (s : List ℕ) : Entered → Type 0 where
-  on : {h : Heading} {t : Read ℕ} (k : ℕ) → Reached d (k ∷ s) h → Onward d s (entered h t)
+  on : {h : Heading} {t : OrFault ℕ} (k : ℕ) → Reached d (k ∷ s) h → Onward d s (entered h t)
   over : {h : Heading} {f : Fault} → Onward d s (entered h (Err f))

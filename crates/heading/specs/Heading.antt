@@ -4,7 +4,7 @@ use Rattle.std.specs.Prelude.{ℕ, suc, true, false, cond, List, eqb, Ok, Err}
 use Rattle.tokens.specs.declared.Choice.{Choice}
 use Rattle.tokens.specs.declared.Choice.TheVariants.{Taken, Left}
 use Rattle.tokens.specs.declared.Quoted.{Quoted}
-use Rattle.tokens.specs.rule.Gap.{fault, Read}
+use Rattle.tokens.specs.rule.Gap.{fault, OrFault}
 use Rattle.tokens.specs.Gap.{left}
 use Rattle.scan.specs.rule.Loop.{Next, Again, Done, loop_of}
 use Rattle.tokens.specs.Token.{choice_of, word_here, word_on, string_on, past_string}
@@ -25,7 +25,7 @@ abbrev pub last : Choice → Entry
 last (Taken m) = Standard m
 last Left = Other
 
-unfoldable pub entry_of : List ℕ → Read ℕ → Entry
+unfoldable pub entry_of : List ℕ → OrFault ℕ → Entry
 entry_of d t =
     or (choice_of d t DATE) 0
     (or (choice_of d t TIME) 1
@@ -33,7 +33,7 @@ entry_of d t =
     (or (choice_of d t USER) 3
     (last (choice_of d t STANDARD)))))
 
-unfoldable pub again : Read ℕ → Read ℕ
+unfoldable pub again : OrFault ℕ → OrFault ℕ
 again (Ok n) = Err (fault 2 n)
 again (Err f) = Err f
 
@@ -48,14 +48,14 @@ with_text h k q =
     (record { date = h.date; time = h.time; origin = h.origin; user = q; standard = h.standard })))
 
 -- the string of a text that was not given before: a text that was has a place behind it
-unfoldable pub once_of : List ℕ → Quoted → Read ℕ → ℕ → Read Quoted
+unfoldable pub once_of : List ℕ → Quoted → OrFault ℕ → ℕ → OrFault Quoted
 once_of d q t m = cond (eqb q.next 0) (string_on d (Ok m)) (string_on d (again t))
 
-unfoldable pub kept_of : Quoted → Read Quoted → Quoted
+unfoldable pub kept_of : Quoted → OrFault Quoted → Quoted
 kept_of q (Ok x) = x
 kept_of q (Err f) = q
 
-unfoldable pub text_entry : List ℕ → Heading → Read ℕ → ℕ → ℕ → Entered
+unfoldable pub text_entry : List ℕ → Heading → OrFault ℕ → ℕ → ℕ → Entered
 text_entry d h t k m =
     let p = once_of d (text_at h k) t m in
     record { heading = with_text h k (kept_of (text_at h k) p); next = notes_on d (past_string p) }
@@ -63,7 +63,7 @@ text_entry d h t k m =
 unfoldable pub named : Heading → Heading
 named h = record { date = h.date; time = h.time; origin = h.origin; user = h.user; standard = true }
 
-unfoldable pub name_entry : List ℕ → Heading → Read ℕ → ℕ → Entered
+unfoldable pub name_entry : List ℕ → Heading → OrFault ℕ → ℕ → Entered
 name_entry d h t m =
     cond h.standard (record { heading = named h; next = again t })
     (record { heading = named h; next = notes_on d (word_on d (Ok m) NAMES) })
@@ -75,7 +75,7 @@ no_text = record { place = 0; length = 0; next = 0 }
 abbrev pub no_heading : Heading
 no_heading = record { date = no_text; time = no_text; origin = no_text; user = no_text; standard = false }
 
-abbrev pub entered : Heading → Read ℕ → Entered
+abbrev pub entered : Heading → OrFault ℕ → Entered
 entered h t = record { heading = h; next = t }
 
 abbrev pub entry_step : List ℕ → Entered → Entry → Next Entered Entered
@@ -86,17 +86,17 @@ entry_step d e Other = Done e
 unfoldable pub entries_from : List ℕ → Entered → Entered
 entries_from d e = loop_of (λ e. entry_step d e (entry_of d e.next)) (entered no_heading (Ok 0)) (suc (left d e.next)) e
 
-unfoldable pub entries_on : List ℕ → Read ℕ → Entered
+unfoldable pub entries_on : List ℕ → OrFault ℕ → Entered
 entries_on d t = entries_from d (entered no_heading (notes_on d t))
 
 -- ---- all that stands before the first variable: SSS VERSION 1.1, the heading, SURVEY, an optional TITLE, RECORD and a letter
-abbrev pub title_or : List ℕ → Heading → Read ℕ → Choice → Front
+abbrev pub title_or : List ℕ → Heading → OrFault ℕ → Choice → Front
 title_or d h n (Taken m) =
     let q = string_on d (Ok m) in
     record { heading = h; title = kept_of no_text q; next = record_on d (past_string q) }
 title_or d h n Left = record { heading = h; title = no_text; next = record_on d n }
 
-unfoldable pub front_of : List ℕ → Heading → Read ℕ → Front
+unfoldable pub front_of : List ℕ → Heading → OrFault ℕ → Front
 front_of d h t =
     let n = notes_on d (word_here d t SURVEY) in
     title_or d h n (choice_of d n TITLE)

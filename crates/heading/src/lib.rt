@@ -7,7 +7,7 @@ ghost use Rattle.ascii.specs.Class.{Classes};
 ghost use Rattle.heading.specs.Heading.{entry_of, again, text_at, with_text, once_of, kept_of, text_entry, name_entry, no_heading};
 ghost use Rattle.heading.specs.Heading.{entries_on, front_of, front_on};
 
-use tokens::{Choice, Fault, Quoted, Read};
+use tokens::{Choice, Fault, OrFault, Quoted};
 
 // The texts of the heading, each 0 where it was not given, and whether STANDARD NAMES was.
 #[derive(Clone, Copy)]
@@ -27,7 +27,7 @@ pub enum Entry {
     Other,
 }
 
-fn entry_here(classes: &[u8; 256], d: &[u8], t: Read<usize>) -> Entry
+fn entry_here(classes: &[u8; 256], d: &[u8], t: OrFault<usize>) -> Entry
     requires { Classes classes.now }
     ensures { result ≡ entry_of d.now t }
 {
@@ -50,7 +50,7 @@ fn entry_here(classes: &[u8; 256], d: &[u8], t: Read<usize>) -> Entry
 }
 
 // A word that was met before: 2 at the word.
-fn met_again(t: Read<usize>) -> Read<usize>
+fn met_again(t: OrFault<usize>) -> OrFault<usize>
     ensures { result ≡ again t }
 {
     match t {
@@ -98,7 +98,13 @@ fn with_text(h: Heading, which: usize, q: Quoted) -> Heading
 }
 
 // The string of a text that was not given before.
-fn read_once(classes: &[u8; 256], d: &[u8], q: Quoted, t: Read<usize>, m: usize) -> Read<Quoted>
+fn read_once(
+    classes: &[u8; 256],
+    d: &[u8],
+    q: Quoted,
+    t: OrFault<usize>,
+    m: usize,
+) -> OrFault<Quoted>
     requires { Classes classes.now }
     ensures { result ≡ once_of d.now q t m }
 {
@@ -109,7 +115,7 @@ fn read_once(classes: &[u8; 256], d: &[u8], q: Quoted, t: Read<usize>, m: usize)
     tokens::string_on(classes, d, a)
 }
 
-fn kept_text(q: Quoted, p: Read<Quoted>) -> Quoted
+fn kept_text(q: Quoted, p: OrFault<Quoted>) -> Quoted
     ensures { result ≡ kept_of q p }
 {
     match p {
@@ -122,14 +128,14 @@ fn kept_text(q: Quoted, p: Read<Quoted>) -> Quoted
 #[derive(Clone, Copy)]
 pub struct Entered {
     pub heading: Heading,
-    pub next: Read<usize>,
+    pub next: OrFault<usize>,
 }
 
 fn enter_text(
     classes: &[u8; 256],
     d: &[u8],
     h: Heading,
-    t: Read<usize>,
+    t: OrFault<usize>,
     which: usize,
     m: usize,
 ) -> Entered
@@ -145,7 +151,7 @@ fn enter_text(
     Entered { heading, next }
 }
 
-fn enter_names(classes: &[u8; 256], d: &[u8], h: Heading, t: Read<usize>, m: usize) -> Entered
+fn enter_names(classes: &[u8; 256], d: &[u8], h: Heading, t: OrFault<usize>, m: usize) -> Entered
     requires { Classes classes.now }
     ensures { result ≡ name_entry d.now h t m }
 {
@@ -187,7 +193,7 @@ fn no_heading() -> Heading
 }
 
 // All of them, up to a statement that is none.
-pub fn entries_on(classes: &[u8; 256], d: &[u8], t: Read<usize>) -> Entered
+pub fn entries_on(classes: &[u8; 256], d: &[u8], t: OrFault<usize>) -> Entered
     requires { Classes classes.now }
     ensures { result ≡ entries_on d.now t }
 {
@@ -221,11 +227,11 @@ pub fn entries_on(classes: &[u8; 256], d: &[u8], t: Read<usize>) -> Entered
 pub struct Front {
     pub heading: Heading,
     pub title: Quoted,
-    pub next: Read<usize>,
+    pub next: OrFault<usize>,
 }
 
 // SURVEY, an optional TITLE, and RECORD with its letter, behind the heading.
-fn front_rest(classes: &[u8; 256], d: &[u8], h: Heading, t: Read<usize>) -> Front
+fn front_rest(classes: &[u8; 256], d: &[u8], h: Heading, t: OrFault<usize>) -> Front
     requires { Classes classes.now }
     ensures { result ≡ front_of d.now h t }
 {

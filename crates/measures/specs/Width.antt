@@ -17,7 +17,7 @@ use Rattle.strides.specs.rule.Stride.{stride_at}
 use Rattle.layout.specs.rule.Layout.{most_lines, line_size}
 use Rattle.widths.specs.Width.{FewDecimals}
 use Rattle.sound.specs.Block.{Subfielded}
-use Rattle.tokens.specs.rule.Gap.{fault, Read}
+use Rattle.tokens.specs.rule.Gap.{fault, OrFault}
 
 unfoldable pub flag_of : Bool → ℕ
 flag_of true = 1
@@ -95,7 +95,7 @@ full_columns f h r before =
     widened (width_of (kind_of c) (row_of c) f r.size) c
 
 -- "POSITION must hold w (for a spread, n times the declared subfield width, itself at least w), else it is too narrow"
-unfoldable pub measured : (ℕ → ℤ) → Head → Rest → ℕ → Read Columns
+unfoldable pub measured : (ℕ → ℤ) → Head → Rest → ℕ → OrFault Columns
 measured f h r before =
     let c = full_columns f h r before in
     cond (room_good (kind_of c) (row_of c)) (Ok c) (Err (fault 7 h.place))

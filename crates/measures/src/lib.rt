@@ -8,7 +8,7 @@ ghost use Rattle.measures.specs.Width.{flag_of, plain_columns, widened, lines_wi
 ghost use Rattle.measures.specs.Width.{number_in, Ready, Measurable, measured};
 
 use layout::{Columns, Kind, Line, Row};
-use tokens::{Fault, Read};
+use tokens::{Fault, OrFault};
 use variables::{Head, Rest};
 
 fn flag(b: bool) -> usize
@@ -101,7 +101,13 @@ fn with_width(c: Columns, w: usize) -> Columns
     r
 }
 
-pub fn measure(powers: &[u64; 16], room: &[i64], h: Head, r: Rest, before: usize) -> Read<Columns>
+pub fn measure(
+    powers: &[u64; 16],
+    room: &[i64],
+    h: Head,
+    r: Rest,
+    before: usize,
+) -> OrFault<Columns>
     requires tens { Tens powers.now }
     requires measurable { Measurable room.now h r before }
     ensures { result ≡ measured (number_in room.now before) h r before }

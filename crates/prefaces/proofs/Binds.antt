@@ -25,22 +25,22 @@ use Rattle.elements.proofs.Dues.{read_open}
 use Rattle.prefaces.specs.declared.Prefaced.{Prefaced}
 use Rattle.prefaces.specs.declared.Prefaced.TheVariants as prefaced
 use Rattle.prefaces.specs.Code.{rule_of, prefaced_of, reading_of, titled_of, inner_of, outer_of, end_of, cleared_of}
-use Rattle.tokens.specs.rule.Gap.{Read}
+use Rattle.tokens.specs.rule.Gap.{OrFault}
 use Rattle.tokens.specs.declared.Quoted.{Quoted}
 
 -- ---- answers
 pub opened_is : {o : Open} (x : Result rule.Open) → o ≡ open_of x → read_of o ≡ x
 opened_is x e = ap read_of e ∙ read_open x
 
-pub passed_is : {r : Read ℕ} (x : Result Unit) → r ≡ reading_of x → passed r ≡ x
+pub passed_is : {r : OrFault ℕ} (x : Result Unit) → r ≡ reading_of x → passed r ≡ x
 passed_is (Is u n) e = ap passed e
 passed_is (Not f) e = ap passed e
 
-abbrev pub phrase_read : Read Quoted → Result KeptText
+abbrev pub phrase_read : OrFault Quoted → Result KeptText
 phrase_read (Ok q) = Is (record { place = q.place; length = q.length }) q.next
 phrase_read (Err f) = Not f
 
-pub phrase_is : {r : Read Quoted} (x : Result KeptText) → r ≡ phrase_of x → phrase_read r ≡ x
+pub phrase_is : {r : OrFault Quoted} (x : Result KeptText) → r ≡ phrase_of x → phrase_read r ≡ x
 phrase_is (Is t n) e = ap phrase_read e
 phrase_is (Not f) e = ap phrase_read e
 

@@ -1,7 +1,7 @@
 -- THE CODE'S BOOKS: the answers of the rule's readers (`xml_reading`) as the code holds them.
 use Rattle.std.specs.Prelude.{Bool, false, cond, not, ◌&&◌, List, [], ◌∷◌, ℕ, ◌≤◌, eqb, length, Ok, Err}
 use Rattle.tags.specs.declared.Held.{Held}
-use Rattle.tokens.specs.rule.Gap.{fault, Read}
+use Rattle.tokens.specs.rule.Gap.{fault, OrFault}
 use Rattle.prologs.specs.rule.Told.{tail_from}
 use Rattle.elements.specs.declared.Due.{Due}
 use Rattle.elements.specs.declared.Due.TheVariants as due
@@ -29,7 +29,7 @@ prefaced_of (Is m n) = prefaced.Is (manner_of m) n
 prefaced_of (Not f) = prefaced.Not f
 
 -- nothing is told but where reading stands
-abbrev pub reading_of : Result Unit → Read ℕ
+abbrev pub reading_of : Result Unit → OrFault ℕ
 reading_of (Is u n) = Ok n
 reading_of (Not f) = Err f
 
@@ -42,7 +42,7 @@ abbrev pub Ends : List ℕ → Prefaced → Type 0
 Ends d (prefaced.Is m n) = n ≤ length d
 Ends d (prefaced.Not f) = Unit
 
-abbrev pub Inside : List ℕ → Read ℕ → Type 0
+abbrev pub Inside : List ℕ → OrFault ℕ → Type 0
 Inside d (Ok n) = n ≤ length d
 Inside d (Err f) = Unit
 

@@ -22,7 +22,7 @@ use markup::Skip;
 use pairs::Stand;
 use prologs::{Prolog, Tail};
 use tags::{Held, Tag};
-use tokens::{Fault, Read};
+use tokens::{Fault, OrFault};
 
 // What the preface says that the variables go by: version 1.1, languages, standardnames; and the file's encoding.
 #[derive(Clone, Copy)]
@@ -217,7 +217,7 @@ fn read_manner(bad: bool, latin: bool, d: &[u8], opened: usize, at: usize) -> Pr
 }
 
 // A start tag alone, read: an unknown attribute is 51; else something has to stand inside.
-fn enter_tag(unknown: usize, empty: bool, place: usize, next: usize) -> Read<usize>
+fn enter_tag(unknown: usize, empty: bool, place: usize, next: usize) -> OrFault<usize>
     ensures { result ≡ reading_of (entered_of unknown empty place next) }
 {
     if unknown != 0 {
@@ -233,7 +233,7 @@ fn enter_tag(unknown: usize, empty: bool, place: usize, next: usize) -> Read<usi
 }
 
 // `<survey>`, from behind its name on.
-fn read_survey(bad: bool, d: &[u8], opened: usize, at: usize) -> Read<usize>
+fn read_survey(bad: bool, d: &[u8], opened: usize, at: usize) -> OrFault<usize>
     requires { at ≤ length d.now }
     ensures { (result ≡ reading_of (survey bad d.now opened at)) × Inside d.now result }
 {
@@ -260,7 +260,7 @@ fn record_tag(bad: bool, d: &[u8], old: bool, opened: usize, at: usize) -> Tag
 }
 
 // `<record ident [href]>`, from behind its name on.
-fn read_record(bad: bool, d: &[u8], m: Manner, opened: usize, at: usize) -> Read<usize>
+fn read_record(bad: bool, d: &[u8], m: Manner, opened: usize, at: usize) -> OrFault<usize>
     requires { at ≤ length d.now }
     ensures { (result ≡ reading_of (sheet.record_tag bad d.now (rule_of m) opened at)) × Inside d.now result }
 {
@@ -355,7 +355,7 @@ fn read_titles(bad: bool, d: &[u8], m: Manner, at: usize) -> Open
     perhaps_text(bad, d, names, b"survey", b"title", mode)
 }
 
-fn survey_on(bad: bool, d: &[u8], o: Open) -> Read<usize>
+fn survey_on(bad: bool, d: &[u8], o: Open) -> OrFault<usize>
     requires { Within d.now 0 o }
     ensures { (result ≡ reading_of (bind (read_of o) (survey_due bad d.now))) × Inside d.now result }
 {
@@ -365,7 +365,7 @@ fn survey_on(bad: bool, d: &[u8], o: Open) -> Read<usize>
     }
 }
 
-fn titles_on(bad: bool, d: &[u8], m: Manner, s: Read<usize>) -> Open
+fn titles_on(bad: bool, d: &[u8], m: Manner, s: OrFault<usize>) -> Open
     requires { Inside d.now s }
     ensures { (result ≡ open_of (bind (passed s) λ u. titles bad d.now (rule_of m))) × Within d.now 0 result }
 {
@@ -375,7 +375,7 @@ fn titles_on(bad: bool, d: &[u8], m: Manner, s: Read<usize>) -> Open
     }
 }
 
-fn record_on(bad: bool, d: &[u8], m: Manner, o: Open) -> Read<usize>
+fn record_on(bad: bool, d: &[u8], m: Manner, o: Open) -> OrFault<usize>
     requires { Within d.now 0 o }
     ensures { (result ≡ reading_of (bind (read_of o) (record_due bad d.now (rule_of m)))) × Inside d.now result }
 {
@@ -386,7 +386,7 @@ fn record_on(bad: bool, d: &[u8], m: Manner, o: Open) -> Read<usize>
 }
 
 // From behind the root's tag to behind the record's.
-fn read_inner(bad: bool, d: &[u8], m: Manner, at: usize) -> Read<usize>
+fn read_inner(bad: bool, d: &[u8], m: Manner, at: usize) -> OrFault<usize>
     requires { at ≤ length d.now }
     ensures { (result ≡ reading_of (inner_of bad d.now (rule_of m) at)) × Inside d.now result }
 {
@@ -429,7 +429,7 @@ pub fn read_preface(bad: bool, latin: bool, d: &[u8], at: usize) -> Prefaced
 }
 
 // The end tag of an element w.
-fn pass_end(bad: bool, d: &[u8], at: usize, w: &[u8]) -> Read<usize>
+fn pass_end(bad: bool, d: &[u8], at: usize, w: &[u8]) -> OrFault<usize>
     requires { at ≤ length d.now }
     ensures { (result ≡ reading_of (end_of bad d.now w.now at)) × Inside d.now result }
 {
@@ -440,7 +440,7 @@ fn pass_end(bad: bool, d: &[u8], at: usize, w: &[u8]) -> Read<usize>
     }
 }
 
-fn pass_tail(bad: bool, d: &[u8], at: usize) -> Read<usize>
+fn pass_tail(bad: bool, d: &[u8], at: usize) -> OrFault<usize>
     requires { at ≤ length d.now }
     ensures { (result ≡ reading_of (cleared_of bad d.now at)) × Inside d.now result }
 {
@@ -451,7 +451,7 @@ fn pass_tail(bad: bool, d: &[u8], at: usize) -> Read<usize>
 }
 
 // `</sss>`, and what follows.
-fn close_sss(bad: bool, d: &[u8], at: usize) -> Read<usize>
+fn close_sss(bad: bool, d: &[u8], at: usize) -> OrFault<usize>
     requires { at ≤ length d.now }
     ensures { (result ≡ reading_of (end_then bad d.now at)) × Inside d.now result }
 {
@@ -462,7 +462,7 @@ fn close_sss(bad: bool, d: &[u8], at: usize) -> Read<usize>
 }
 
 // From behind `</record>` to the file's end: `</survey>`, `</sss>`, white space and comments.
-pub fn read_closing(bad: bool, d: &[u8], at: usize) -> Read<usize>
+pub fn read_closing(bad: bool, d: &[u8], at: usize) -> OrFault<usize>
     requires { at ≤ length d.now }
     ensures { (result ≡ reading_of (sheet_closed bad d.now at)) × Inside d.now result }
 {

@@ -20,7 +20,7 @@ use Rattle.refusals.specs.Scanned.{either}
 use Rattle.refusals.specs.Tokens.{Stands, word_here_lem, word_on_lem, ChoiceStands, choice_of_lem, PhraseStands, string_on_lem}
 use Rattle.refusals.specs.Tokens.{past_string_lem}
 use Rattle.refusals.specs.Statements.{notes_on_lem, opening_of_lem, record_on_lem}
-use Rattle.tokens.specs.rule.Gap.{Read}
+use Rattle.tokens.specs.rule.Gap.{OrFault}
 
 module _ (d : List ℕ) where
   -- ---- which statement it is
@@ -37,7 +37,7 @@ module _ (d : List ℕ) where
   standard_or (Taken m) h = h
   standard_or Left h = tt
 
-  entry_of_lem : (t : Read ℕ) → Stands d t → EntryStands (entry_of d t)
+  entry_of_lem : (t : OrFault ℕ) → Stands d t → EntryStands (entry_of d t)
   unfolding entry_of
   entry_of_lem t h =
       text_or (choice_of d t DATE) 0 _ (choice_of_lem d t DATE h)
@@ -47,23 +47,23 @@ module _ (d : List ℕ) where
       (standard_or (choice_of d t STANDARD) (choice_of_lem d t STANDARD h)))))
 
   -- ---- a statement
-  again_stands : (t : Read ℕ) → Stands d t → Stands d (again t)
+  again_stands : (t : OrFault ℕ) → Stands d t → Stands d (again t)
   unfolding again
   again_stands (Ok n) h = omega arith
   again_stands (Err f) h = h
 
-  once_of_lem : (q : Quoted) (t : Read ℕ) (m : ℕ) → Stands d t → m ≤ length d → PhraseStands d (once_of d q t m)
+  once_of_lem : (q : Quoted) (t : OrFault ℕ) (m : ℕ) → Stands d t → m ≤ length d → PhraseStands d (once_of d q t m)
   unfolding once_of
   once_of_lem q t m h k =
       either (PhraseStands d) (eqb q.next 0) (string_on_lem d (Ok m) k) (string_on_lem d (again t) (again_stands t h))
 
-  text_entry_lem : (g : Heading) (t : Read ℕ) (k m : ℕ) → Stands d t → m ≤ length d → Stands d (text_entry d g t k m).next
+  text_entry_lem : (g : Heading) (t : OrFault ℕ) (k m : ℕ) → Stands d t → m ≤ length d → Stands d (text_entry d g t k m).next
   unfolding text_entry
   text_entry_lem g t k m h l =
       let p = once_of d (text_at g k) t m in
       notes_on_lem d (past_string p) (past_string_lem d p (once_of_lem (text_at g k) t m h l))
 
-  name_entry_lem : (g : Heading) (t : Read ℕ) (m : ℕ) → Stands d t → m ≤ length d → Stands d (name_entry d g t m).next
+  name_entry_lem : (g : Heading) (t : OrFault ℕ) (m : ℕ) → Stands d t → m ≤ length d → Stands d (name_entry d g t m).next
   unfolding name_entry
   name_entry_lem g t m h l =
       either (λ (e : Entered). Stands d e.next) g.standard (again_stands t h)
@@ -78,7 +78,7 @@ module _ (d : List ℕ) where
   entry_step_lem e (entry.Standard m) h l = name_entry_lem e.heading e.next m h l
   entry_step_lem e entry.Other h l = h
 
-  entries_on_lem : (t : Read ℕ) → Stands d t → Stands d (entries_on d t).next
+  entries_on_lem : (t : OrFault ℕ) → Stands d t → Stands d (entries_on d t).next
   unfolding entries_on entries_from
   entries_on_lem t h =
       loop_keeps (λ f. EnteredStands) EnteredStands (λ e. entry_step d e (entry_of d e.next)) (entered no_heading (Ok 0))
@@ -86,10 +86,10 @@ module _ (d : List ℕ) where
       (entered no_heading (notes_on d t)) (notes_on_lem d t h)
 
   -- ---- and the title and the record
-  front_of_lem : (g : Heading) (t : Read ℕ) → Stands d t → Stands d (front_of d g t).next
+  front_of_lem : (g : Heading) (t : OrFault ℕ) → Stands d t → Stands d (front_of d g t).next
   unfolding front_of
   front_of_lem g t h = by (choice_of d n TITLE) (choice_of_lem d n TITLE behind) where
-    n : Read ℕ
+    n : OrFault ℕ
     n = notes_on d (word_here d t SURVEY)
 
     behind : Stands d n

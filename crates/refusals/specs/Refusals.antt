@@ -7,7 +7,7 @@ use Rattle.std.proofs.Math.ListN.{length}
 use Rattle.std.proofs.Common.{length-append}
 use Rattle.tokens.specs.declared.Choice.{Choice}
 use Rattle.tokens.specs.declared.Choice.TheVariants.{Taken, Left}
-use Rattle.tokens.specs.rule.Gap.{fault, Read}
+use Rattle.tokens.specs.rule.Gap.{fault, OrFault}
 use Rattle.tokens.specs.Token.{choice_of, word_on}
 use Rattle.statements.specs.rule.Words.{END, RECORD, SURVEY, SSS}
 use Rattle.statements.specs.Note.{notes_on, statement_on}
@@ -68,7 +68,7 @@ module _ (d : List ℕ) where
       count : ℕ
       count = length s.earlier
 
-      ends : (v : Variable) (n : ℕ) (t : Read ℕ) (c : Choice) → VariableStands d count v n → Stands d t → ChoiceStands d c
+      ends : (v : Variable) (n : ℕ) (t : OrFault ℕ) (c : Choice) → VariableStands d count v n → Stands d t → ChoiceStands d c
           → Onward (Reads f) VariablesStand (end_or (s.earlier ++ v ∷ []) t c)
       ends v n t (Taken m) k l i = (names_more s.earlier v h.names k.name, i)
       ends v n t Left k l i = record {
@@ -85,7 +85,7 @@ module _ (d : List ℕ) where
           ends v n t (choice_of d t END) k l (choice_of_lem d t END l)
       by (entry.Not g) k = k
 
-  variables_from_lem : (t : Read ℕ) → Stands d t → VariablesStand (variables_from d (course t []))
+  variables_from_lem : (t : OrFault ℕ) → Stands d t → VariablesStand (variables_from d (course t []))
   unfolding variables_from
   variables_from_lem t h =
       loop_keeps Reads VariablesStand (variable_step d) (variables.Not (fault 0 0)) (λ s r. absurd (omega (arith, r.some)))
@@ -108,7 +108,7 @@ module _ (d : List ℕ) where
   survey_of_lem : ReadStands (survey_of d)
   unfolding survey_of
   survey_of_lem = by (variables_from d (course (front_on d).next [])) (variables_from_lem (front_on d).next (front_on_lem d)) where
-    ends : (l : List Variable) (t : Read ℕ) → NamesStand l → Stands d t → ReadStands (ended (front_on d) l t)
+    ends : (l : List Variable) (t : OrFault ℕ) → NamesStand l → Stands d t → ReadStands (ended (front_on d) l t)
     ends l (Ok n) h k = h
     ends l (Err f) h k = k
 

@@ -26,7 +26,7 @@ use Rattle.refusals.specs.Loops.{Onward, loop_keeps}
 use Rattle.refusals.specs.Scanned.{either, text_within, place_within}
 use Rattle.refusals.specs.Tokens.{Met, Stands, gap_on_lem, run_on, spaces_on_lem, word_here_lem, ChoiceStands, choice_of_lem}
 use Rattle.refusals.specs.Tokens.{NumberStands, number_on_lem, past_number_lem, PhraseStands, string_on_lem, past_string_lem, letter_on_lem}
-use Rattle.tokens.specs.rule.Gap.{Read}
+use Rattle.tokens.specs.rule.Gap.{OrFault}
 use Rattle.statements.specs.declared.Position.{Position}
 use Rattle.statements.specs.declared.Subfields.{Subfields}
 
@@ -38,25 +38,25 @@ module _ (d : List ℕ) where
       let q = string_on d (Ok m) in
       gap_on_lem d (past_string q) (past_string_lem d q (string_on_lem d (Ok m) h))
 
-  note_step_lem : (c : Choice) (t : Read ℕ) → ChoiceStands d c → Stands d t → Onward (Stands d) (Stands d) (note_step d c t)
+  note_step_lem : (c : Choice) (t : OrFault ℕ) → ChoiceStands d c → Stands d t → Onward (Stands d) (Stands d) (note_step d c t)
   note_step_lem (Taken m) t k h = past_note_lem m k
   note_step_lem Left t k h = h
 
-  notes_here_lem : (t : Read ℕ) → Stands d t → Stands d (notes_here d t)
+  notes_here_lem : (t : OrFault ℕ) → Stands d t → Stands d (notes_here d t)
   unfolding notes_here
   notes_here_lem t h =
       loop_keeps (λ f. Stands d) (Stands d) (λ t. note_step d (choice_of d t NOTE) t) (Ok 0) (λ s p. omega arith)
       (λ f t p. note_step_lem (choice_of d t NOTE) t (choice_of_lem d t NOTE p) p) (suc (left d t)) t h
 
-  pub notes_on_lem : (t : Read ℕ) → Stands d t → Stands d (notes_on d t)
+  pub notes_on_lem : (t : OrFault ℕ) → Stands d t → Stands d (notes_on d t)
   unfolding notes_on
   notes_on_lem t h = notes_here_lem (gap_on d t) (gap_on_lem d t h)
 
-  pub statement_on_lem : (t : Read ℕ) (w : List ℕ) → Stands d t → Stands d (statement_on d t w)
+  pub statement_on_lem : (t : OrFault ℕ) (w : List ℕ) → Stands d t → Stands d (statement_on d t w)
   unfolding statement_on
   statement_on_lem t w h = word_here_lem d (notes_on d t) w (notes_on_lem t h)
 
-  pub text_on_lem : (t : Read ℕ) (w : List ℕ) → Stands d t → PhraseStands d (text_on d t w)
+  pub text_on_lem : (t : OrFault ℕ) (w : List ℕ) → Stands d t → PhraseStands d (text_on d t w)
   unfolding text_on
   text_on_lem t w h = string_on_lem d (statement_on d t w) (statement_on_lem t w h)
 
@@ -80,11 +80,11 @@ module _ (d : List ℕ) where
       let b = word_here_lem d (spaces_on d sss) VERSION (spaces_on_lem d sss a) in
       by (spaces_on d version) (spaces_on_lem d version b)
     where
-      by : (t : Read ℕ) → Stands d t → Stands d (then t (version_here d))
+      by : (t : OrFault ℕ) → Stands d t → Stands d (then t (version_here d))
       by (Ok n) h = version_here_lem n h
       by (Err f) h = h
 
-  pub record_on_lem : (t : Read ℕ) → Stands d t → Stands d (record_on d t)
+  pub record_on_lem : (t : OrFault ℕ) → Stands d t → Stands d (record_on d t)
   unfolding record_on
   record_on_lem t h = letter_on_lem d (statement_on d t RECORD) (statement_on_lem t RECORD h)
 
@@ -97,11 +97,11 @@ module _ (d : List ℕ) where
   type_or (Taken m) k z h i = h
   type_or Left k z h i = i
 
-  type_last : (t : Read ℕ) (k : ℕ) → Stands d t → TypedStands (last t k)
+  type_last : (t : OrFault ℕ) (k : ℕ) → Stands d t → TypedStands (last t k)
   type_last (Ok m) k h = h
   type_last (Err f) k h = h
 
-  type_here_lem : (t : Read ℕ) → Stands d t → TypedStands (type_here d t)
+  type_here_lem : (t : OrFault ℕ) → Stands d t → TypedStands (type_here d t)
   unfolding type_here
   type_here_lem t h =
       type_or (choice_of d t SINGLE) 1 _ (choice_of_lem d t SINGLE h)
@@ -110,12 +110,12 @@ module _ (d : List ℕ) where
       (type_or (choice_of d t CHARACTER) 4 _ (choice_of_lem d t CHARACTER h)
       (type_last (word_here d t LOGICAL) 5 (word_here_lem d t LOGICAL h)))))
 
-  pub type_on_lem : (t : Read ℕ) → Stands d t → TypedStands (type_on d t)
+  pub type_on_lem : (t : OrFault ℕ) → Stands d t → TypedStands (type_on d t)
   unfolding type_on
   type_on_lem t h = type_here_lem (gap_on d (statement_on d t TYPE)) (gap_on_lem d (statement_on d t TYPE) (statement_on_lem t TYPE h))
 
   -- ---- POSITION
-  abbrev pub StatedStands : Read Position → Type 0
+  abbrev pub StatedStands : OrFault Position → Type 0
   StatedStands (Ok q) = (q.place ≤ length d) × (q.next ≤ length d)
   StatedStands (Err f) = Met d f
 
@@ -128,20 +128,20 @@ module _ (d : List ℕ) where
       (either StatedStands (ltb 16384 a.size) (omega arith)
       (either StatedStands (ltb 16384 b.size) (omega arith) (h, l))))
 
-  both_of_lem : (a b : Read Figures) (end : Read ℕ) → NumberStands d a → NumberStands d b → Stands d end → StatedStands (both_of d a b end)
+  both_of_lem : (a b : OrFault Figures) (end : OrFault ℕ) → NumberStands d a → NumberStands d b → Stands d end → StatedStands (both_of d a b end)
   unfolding both_of
   both_of_lem (Err f) b end h k l = h
   both_of_lem (Ok x) (Err f) end h k l = k
   both_of_lem (Ok x) (Ok y) (Err f) h k l = l
   both_of_lem (Ok x) (Ok y) (Ok n) h k l = judge_position_lem x y n h.0 k.0 l
 
-  pub position_on_lem : (t : Read ℕ) → Stands d t → StatedStands (position_on d t)
+  pub position_on_lem : (t : OrFault ℕ) → Stands d t → StatedStands (position_on d t)
   unfolding position_on
   position_on_lem t h = by (choice_of d g TO) (choice_of_lem d g TO after) where
-    a : Read Figures
+    a : OrFault Figures
     a = number_on d (statement_on d t POSITION)
 
-    g : Read ℕ
+    g : OrFault ℕ
     g = gap_on d (past_number a)
 
     first : NumberStands d a
@@ -158,31 +158,31 @@ module _ (d : List ℕ) where
     by Left k = both_of_lem a a g first first after
 
   -- ---- SPREAD
-  abbrev pub SpreadStands : Read Subfields → Type 0
+  abbrev pub SpreadStands : OrFault Subfields → Type 0
   SpreadStands (Ok s) = s.next ≤ length d
   SpreadStands (Err f) = Met d f
 
-  fields_of_lem : (a b : Read Figures) → NumberStands d a → NumberStands d b → SpreadStands (fields_of a b)
+  fields_of_lem : (a b : OrFault Figures) → NumberStands d a → NumberStands d b → SpreadStands (fields_of a b)
   unfolding fields_of judge_of
   fields_of_lem (Err f) b h k = h
   fields_of_lem (Ok x) (Err f) h k = k
   fields_of_lem (Ok x) (Ok y) h k =
       either SpreadStands (eqb x.size 0) (omega arith) (either SpreadStands (eqb y.size 0) (omega arith) k.1)
 
-  even_of_lem : (a : Read Figures) (width : ℕ) (end : Read ℕ) → NumberStands d a → Stands d end → SpreadStands (even_of a width end)
+  even_of_lem : (a : OrFault Figures) (width : ℕ) (end : OrFault ℕ) → NumberStands d a → Stands d end → SpreadStands (even_of a width end)
   unfolding even_of judge_even
   even_of_lem (Err f) width end h k = h
   even_of_lem (Ok x) width (Err f) h k = k
   even_of_lem (Ok x) width (Ok n) h k =
       either SpreadStands (eqb x.size 0) (omega arith) (either SpreadStands (eqb (width % x.size) 0) k (omega arith))
 
-  pub spread_rest_lem : (t : Read ℕ) (width : ℕ) → Stands d t → SpreadStands (spread_rest d t width)
+  pub spread_rest_lem : (t : OrFault ℕ) (width : ℕ) → Stands d t → SpreadStands (spread_rest d t width)
   unfolding spread_rest
   spread_rest_lem t width h = by (choice_of d g OF) (choice_of_lem d g OF after) where
-    a : Read Figures
+    a : OrFault Figures
     a = number_on d t
 
-    g : Read ℕ
+    g : OrFault ℕ
     g = gap_on d (past_number a)
 
     first : NumberStands d a
@@ -196,13 +196,13 @@ module _ (d : List ℕ) where
     by Left k = even_of_lem a width g first after
 
   -- ---- SIZE
-  judge_size_lem : (a : Read Figures) → NumberStands d a → NumberStands d (judge_size a)
+  judge_size_lem : (a : OrFault Figures) → NumberStands d a → NumberStands d (judge_size a)
   unfolding judge_size
   judge_size_lem (Ok x) h =
       either (NumberStands d) (eqb x.size 0) (omega arith) (either (NumberStands d) (ltb 4096 x.size) (omega arith) h)
   judge_size_lem (Err f) h = h
 
-  pub size_on_lem : (t : Read ℕ) → Stands d t → NumberStands d (size_on d t)
+  pub size_on_lem : (t : OrFault ℕ) → Stands d t → NumberStands d (size_on d t)
   unfolding size_on
   size_on_lem t h = judge_size_lem (number_on d (statement_on d t SIZE))
       (number_on_lem d (statement_on d t SIZE) (statement_on_lem t SIZE h))

@@ -11,7 +11,7 @@ use Rattle.std.specs.Int.Signed.{lt_z}
 use Rattle.tokens.specs.declared.Choice.{Choice}
 use Rattle.tokens.specs.declared.Choice.TheVariants.{Taken, Left}
 use Rattle.tokens.specs.declared.Value.{Value}
-use Rattle.tokens.specs.rule.Gap.{fault, Read}
+use Rattle.tokens.specs.rule.Gap.{fault, OrFault}
 use Rattle.tokens.specs.Gap.{gap_on}
 use Rattle.tokens.specs.Token.{choice_of, word_here, word_on, value_here, value_on, past_value, string_on, past_string}
 use Rattle.statements.specs.rule.Words.{VALUES, TO, END, WITH, SPECIAL}
@@ -38,7 +38,7 @@ use Rattle.tokens.specs.declared.Quoted.{Quoted}
 
 module _ (d : List ℕ) where
   -- ---- a range
-  abbrev JudgedStands : Read Block → Type 0
+  abbrev JudgedStands : OrFault Block → Type 0
   JudgedStands (Ok b) = Unit
   JudgedStands (Err f) = Met d f
 
@@ -56,7 +56,7 @@ module _ (d : List ℕ) where
       (either JudgedStands (large_of quantity a) (omega arith) (either JudgedStands (large_of quantity b) (omega arith) tt)))
       (omega arith)) (omega arith)) (omega arith)
 
-  ranged_of_lem : (quantity : Bool) (a b : Read Value) (end : Read ℕ) (with : Bool) → AmountStands d a → AmountStands d b → Stands d end
+  ranged_of_lem : (quantity : Bool) (a b : OrFault Value) (end : OrFault ℕ) (with : Bool) → AmountStands d a → AmountStands d b → Stands d end
       → RangedStands (ranged_of d quantity a b end with)
   unfolding ranged_of
   ranged_of_lem quantity (Err f) b end with h k l = h
@@ -64,17 +64,17 @@ module _ (d : List ℕ) where
   ranged_of_lem quantity (Ok x) (Ok y) (Err f) with h k l = l
   ranged_of_lem quantity (Ok x) (Ok y) (Ok n) with h k l = by (judge_range (reversed_of d x y) quantity x y)
       (judge_range_lem quantity x y h k) where
-        by : (j : Read Block) → JudgedStands j → RangedStands (settled j with n)
+        by : (j : OrFault Block) → JudgedStands j → RangedStands (settled j with n)
         by (Ok b) i = l
         by (Err f) i = i
 
-  range_rest_lem : (quantity : Bool) (a : Read Value) (t : Read ℕ) → AmountStands d a → Stands d t → RangedStands (range_rest d quantity a t)
+  range_rest_lem : (quantity : Bool) (a : OrFault Value) (t : OrFault ℕ) → AmountStands d a → Stands d t → RangedStands (range_rest d quantity a t)
   unfolding range_rest
   range_rest_lem quantity a t h k = by (choice_of d g WITH) (choice_of_lem d g WITH behind) where
-    b : Read Value
+    b : OrFault Value
     b = value_on d t
 
-    g : Read ℕ
+    g : OrFault ℕ
     g = gap_on d (past_value b)
 
     second : AmountStands d b
@@ -88,11 +88,11 @@ module _ (d : List ℕ) where
     by Left l = ranged_of_lem quantity a b g false h second behind
 
   -- ---- a line
-  abbrev LinedStands : Read Said → Type 0
+  abbrev LinedStands : OrFault Said → Type 0
   LinedStands (Ok s) = ValueStands d s.value × (s.next ≤ length d)
   LinedStands (Err f) = Met d f
 
-  said_of_lem : (a : Read Value) (q : Read Quoted) (special : ℕ) (end : Read ℕ) → AmountStands d a → PhraseStands d q → Stands d end
+  said_of_lem : (a : OrFault Value) (q : OrFault Quoted) (special : ℕ) (end : OrFault ℕ) → AmountStands d a → PhraseStands d q → Stands d end
       → LinedStands (said_of a q special end)
   unfolding said_of
   said_of_lem (Err f) q special end h k l = h
@@ -100,13 +100,13 @@ module _ (d : List ℕ) where
   said_of_lem (Ok v) (Ok t) special (Err f) h k l = l
   said_of_lem (Ok v) (Ok t) special (Ok n) h k l = (h, l)
 
-  line_rest_lem : (a : Read Value) → AmountStands d a → LinedStands (line_rest d a)
+  line_rest_lem : (a : OrFault Value) → AmountStands d a → LinedStands (line_rest d a)
   unfolding line_rest
   line_rest_lem a h = by (choice_of d g SPECIAL) (choice_of_lem d g SPECIAL behind) where
-    q : Read Quoted
+    q : OrFault Quoted
     q = string_on d (past_value a)
 
-    g : Read ℕ
+    g : OrFault ℕ
     g = gap_on d (past_string q)
 
     quoted : PhraseStands d q
@@ -120,7 +120,7 @@ module _ (d : List ℕ) where
     by Left l = said_of_lem a q 0 g h quoted behind
 
   -- a line is good only where fewer than 4,096 stand before it
-  abbrev VerdictStands : ℕ → Read ℤ → Type 0
+  abbrev VerdictStands : ℕ → OrFault ℤ → Type 0
   VerdictStands n (Ok z) = n < 4096
   VerdictStands n (Err f) = Met d f
 
@@ -155,7 +155,7 @@ module _ (d : List ℕ) where
   TurnStands (turn.Over b n) = n ≤ length d
   TurnStands (turn.Not f) = Met d f
 
-  end_of_lem : (b : Block) (t : Read ℕ) → Stands d t → TurnStands (end_of b t)
+  end_of_lem : (b : Block) (t : OrFault ℕ) → Stands d t → TurnStands (end_of b t)
   unfolding end_of
   end_of_lem b (Ok n) h = h
   end_of_lem b (Err f) h = h
@@ -163,7 +163,7 @@ module _ (d : List ℕ) where
   more_of_lem : (b : Block) (n : ℕ) → n ≤ length d → TurnStands (more_of d b n)
   unfolding more_of
   more_of_lem b n h = by (choice_of d t END) (choice_of_lem d t END behind) where
-    t : Read ℕ
+    t : OrFault ℕ
     t = notes_on d (Ok n)
 
     behind : Stands d t
@@ -195,20 +195,20 @@ module _ (d : List ℕ) where
       → Onward (Reads first f) GivenStands (line_step d quantity first l)
   unfolding line_step
   line_step_lem quantity first f l h = by (line_rest d l.amount) (line_rest_lem l.amount h.stands) where
-    on : (s : Said) (v : Read ℤ) → s.next ≤ length d → VerdictStands (first + length l.lines) v
+    on : (s : Said) (v : OrFault ℤ) → s.next ≤ length d → VerdictStands (first + length l.lines) v
         → Onward (Reads first f) GivenStands (judged_step d l s v)
     on s (Ok z) k g =
         after_line first f l.lines s (more_of d (grown_by l.block s.value) s.next) g h.enough
         (more_of_lem (grown_by l.block s.value) s.next k)
     on s (Err g) k i = i
 
-    by : (r : Read Said) → LinedStands r → Onward (Reads first f) GivenStands (read_step d quantity first l r)
+    by : (r : OrFault Said) → LinedStands r → Onward (Reads first f) GivenStands (read_step d quantity first l r)
     by (Ok s) k =
         on s (judge_line (number_at l.lines) (length l.lines) first quantity l.block s.value) k.1
         (judge_line_lem (number_at l.lines) (length l.lines) first quantity l.block s.value k.0)
     by (Err g) k = k
 
-  lines_from_lem : (quantity : Bool) (first : ℕ) (a : Read Value) (b : Block) → AmountStands d a
+  lines_from_lem : (quantity : Bool) (first : ℕ) (a : OrFault Value) (b : Block) → AmountStands d a
       → GivenStands (lines_from d quantity first (state_of a b []))
   unfolding lines_from
   lines_from_lem quantity first a b h =
@@ -217,7 +217,7 @@ module _ (d : List ℕ) where
       (record { stands = h; some = omega arith; enough = omega arith })
 
   -- ---- a block
-  closed_by_lem : (b : Block) (t : Read ℕ) → Stands d t → GivenStands (closed_by b t)
+  closed_by_lem : (b : Block) (t : OrFault ℕ) → Stands d t → GivenStands (closed_by b t)
   unfolding closed_by
   closed_by_lem b (Ok n) h = h
   closed_by_lem b (Err f) h = h
@@ -232,13 +232,13 @@ module _ (d : List ℕ) where
       either GivenStands with (lines_from_lem quantity first (value_here d t) b (value_here_lem d t k))
       (closed_by_lem b (word_on d e VALUES) (word_on_lem d e VALUES (word_here_lem d t END k)))
 
-  pub values_on_lem : (quantity : Bool) (first : ℕ) (t : Read ℕ) → Stands d t → GivenStands (values_on d quantity first t)
+  pub values_on_lem : (quantity : Bool) (first : ℕ) (t : OrFault ℕ) → Stands d t → GivenStands (values_on d quantity first t)
   unfolding values_on
   values_on_lem quantity first t h = by (choice_of d g TO) (choice_of_lem d g TO behind) where
-    a : Read Value
+    a : OrFault Value
     a = value_here d (notes_on d (statement_on d t VALUES))
 
-    g : Read ℕ
+    g : OrFault ℕ
     g = gap_on d (past_value a)
 
     value : AmountStands d a

@@ -7,7 +7,7 @@ use borrow.Author.Tests.{leb-false}
 use Rattle.std.proofs.Math.Dec.{leb}
 use Rattle.tokens.specs.declared.Choice.{Choice}
 use Rattle.tokens.specs.declared.Choice.TheVariants.{Taken, Left}
-use Rattle.tokens.specs.rule.Gap.{fault, Read}
+use Rattle.tokens.specs.rule.Gap.{fault, OrFault}
 use Rattle.tokens.specs.Token.{choice_of, number_on, past_number, past_string}
 use Rattle.statements.specs.declared.Typed.{Typed}
 use Rattle.statements.specs.declared.Typed.TheVariants as typed
@@ -42,11 +42,11 @@ use Rattle.tokens.specs.declared.Quoted.{Quoted}
 
 module _ (d : List ℕ) where
   -- ---- VARIABLE and its ident: it passes only where fewer than 512 variables stand before it
-  abbrev IdentStands : ℕ → Read Figures → Type 0
+  abbrev IdentStands : ℕ → OrFault Figures → Type 0
   IdentStands count (Ok x) = (x.next ≤ length d) × (count < 512)
   IdentStands count (Err f) = Met d f
 
-  judge_ident_lem : (met : ℕ → Bool) (count : ℕ) (i : Read Figures) → NumberStands d i → IdentStands count (judge_ident met count i)
+  judge_ident_lem : (met : ℕ → Bool) (count : ℕ) (i : OrFault Figures) → NumberStands d i → IdentStands count (judge_ident met count i)
   unfolding judge_ident
   judge_ident_lem met count (Err f) h = h
   judge_ident_lem met count (Ok x) h = by (wrong_ident met x) (leb 512 count) refl where
@@ -56,13 +56,13 @@ module _ (d : List ℕ) where
     by false true e = omega arith
     by false false e = (h.1, leb-false 512 count e)
 
-  ident_on_lem : (t : Read ℕ) (met : ℕ → Bool) (count : ℕ) → Stands d t → IdentStands count (ident_on d t met count)
+  ident_on_lem : (t : OrFault ℕ) (met : ℕ → Bool) (count : ℕ) → Stands d t → IdentStands count (ident_on d t met count)
   unfolding ident_on
   ident_on_lem t met count h =
       let s = statement_on d t VARIABLE in
       judge_ident_lem met count (number_on d s) (number_on_lem d s (statement_on_lem d t VARIABLE h))
 
-  past_ident : (count : ℕ) (i : Read Figures) → IdentStands count i → Stands d (past_number i)
+  past_ident : (count : ℕ) (i : OrFault Figures) → IdentStands count i → Stands d (past_number i)
   unfolding past_number
   past_ident count (Ok x) h = h.0
   past_ident count (Err f) h = h
@@ -74,7 +74,7 @@ module _ (d : List ℕ) where
     pub place : h.place ≤ length d
     pub next : h.next ≤ length d
 
-  abbrev HeadedStands : ℕ → Read Head → Type 0
+  abbrev HeadedStands : ℕ → OrFault Head → Type 0
   HeadedStands count (Ok h) = HeadStands count h
   HeadedStands count (Err f) = Met d f
 
@@ -83,7 +83,7 @@ module _ (d : List ℕ) where
   past_type_lem (typed.Is k n) h = h
   past_type_lem (typed.Not f) h = h
 
-  join_head_lem : (count : ℕ) (i : Read Figures) (n l : Read Quoted) (k : Typed) (p : Read Position) → IdentStands count i → PhraseStands d n
+  join_head_lem : (count : ℕ) (i : OrFault Figures) (n l : OrFault Quoted) (k : Typed) (p : OrFault Position) → IdentStands count i → PhraseStands d n
       → PhraseStands d l → TypedStands d k → StatedStands d p → HeadedStands count (join_head (join_titles i n l) k p)
   unfolding join_head join_titles
   join_head_lem count (Err f) n l k p hi hn hl hk hp = hi
@@ -94,7 +94,7 @@ module _ (d : List ℕ) where
   join_head_lem count (Ok x) (Ok n) (Ok l) (typed.Is k m) (Ok q) hi hn hl hk hp =
       record { few = hi.1; name = hn.0; place = hp.0; next = hp.1 }
 
-  head_on_lem : (count : ℕ) (i : Read Figures) → IdentStands count i → HeadedStands count (head_on d i)
+  head_on_lem : (count : ℕ) (i : OrFault Figures) → IdentStands count i → HeadedStands count (head_on d i)
   unfolding head_on
   head_on_lem count i h =
       let n = text_on d (past_number i) NAME in
@@ -110,7 +110,7 @@ module _ (d : List ℕ) where
   ToldStands (told.Is x) = x.next ≤ length d
   ToldStands (told.Not f) = Met d f
 
-  values_rest_lem : (quantity : Bool) (first : ℕ) (t : Read ℕ) (count width : ℕ) → Stands d t
+  values_rest_lem : (quantity : Bool) (first : ℕ) (t : OrFault ℕ) (count width : ℕ) → Stands d t
       → ToldStands (values_rest d quantity first t count width)
   unfolding values_rest join_values
   values_rest_lem quantity first t count width h = by (values_on d quantity first t) (values_on_lem d quantity first t h) where
@@ -118,16 +118,16 @@ module _ (d : List ℕ) where
     by (given.Is b l n) k = k
     by (given.Not f) k = k
 
-  spread_then_lem : (first : ℕ) (t : Read ℕ) (width : ℕ) → Stands d t → ToldStands (spread_then d first t width)
+  spread_then_lem : (first : ℕ) (t : OrFault ℕ) (width : ℕ) → Stands d t → ToldStands (spread_then d first t width)
   unfolding spread_then
   spread_then_lem first t width h = by (choice_of d n SPREAD) (choice_of_lem d n SPREAD behind) where
-    n : Read ℕ
+    n : OrFault ℕ
     n = notes_on d t
 
     behind : Stands d n
     behind = notes_on_lem d t h
 
-    spread : (s : Read Subfields) → SpreadStands d s → ToldStands (spread_or d first s)
+    spread : (s : OrFault Subfields) → SpreadStands d s → ToldStands (spread_or d first s)
     spread (Ok s) k = values_rest_lem false first (Ok s.next) s.count s.width k
     spread (Err f) k = k
 
@@ -135,17 +135,17 @@ module _ (d : List ℕ) where
     by (Taken m) k = spread (spread_rest d (Ok m) width) (spread_rest_lem d (Ok m) width k)
     by Left k = values_rest_lem false first n 0 0 behind
 
-  join_size_lem : (a : Read Figures) → NumberStands d a → ToldStands (join_size a)
+  join_size_lem : (a : OrFault Figures) → NumberStands d a → ToldStands (join_size a)
   unfolding join_size
   join_size_lem (Ok x) h = h.1
   join_size_lem (Err f) h = h
 
-  join_nothing_lem : (t : Read ℕ) → Stands d t → ToldStands (join_nothing t)
+  join_nothing_lem : (t : OrFault ℕ) → Stands d t → ToldStands (join_nothing t)
   unfolding join_nothing
   join_nothing_lem (Ok n) h = h
   join_nothing_lem (Err f) h = h
 
-  rest_of_lem : (first kind : ℕ) (t : Read ℕ) (width : ℕ) → Stands d t → ToldStands (rest_of d first kind t width)
+  rest_of_lem : (first kind : ℕ) (t : OrFault ℕ) (width : ℕ) → Stands d t → ToldStands (rest_of d first kind t width)
   unfolding rest_of
   rest_of_lem first kind t width h =
       either ToldStands (eqb kind 1) (values_rest_lem false first t 0 0 h)
@@ -173,7 +173,7 @@ module _ (d : List ℕ) where
       let width = h.finish + 1 - h.start in
       by (rest_of d before h.kind (Ok h.next) width) (rest_of_lem before h.kind (Ok h.next) width k.next)
     where
-      ends : (x : Telling) (t : Read ℕ) → Stands d t → EntryStands count (ended t λ n. held_by before (variable h x) n)
+      ends : (x : Telling) (t : OrFault ℕ) → Stands d t → EntryStands count (ended t λ n. held_by before (variable h x) n)
       ends x (Ok n) l =
           either (EntryStands count) (holds_in before (variable h x)) (record { few = k.few; name = k.name; next = l }) (omega arith)
       ends x (Err f) l = l
@@ -183,12 +183,12 @@ module _ (d : List ℕ) where
       by (told.Is x) l = ends x (end_variable d x.next) (end_variable_lem x.next l)
       by (told.Not f) l = l
 
-  pub entry_of_lem : (t : Read ℕ) (met : ℕ → Bool) (count before : ℕ) → Stands d t → EntryStands count (entry_of d t met count before)
+  pub entry_of_lem : (t : OrFault ℕ) (met : ℕ → Bool) (count before : ℕ) → Stands d t → EntryStands count (entry_of d t met count before)
   unfolding entry_of
   entry_of_lem t met count before h = by (head_on d i) (head_on_lem count i (ident_on_lem t met count h)) where
-    i : Read Figures
+    i : OrFault Figures
     i = ident_on d t met count
 
-    by : (x : Read Head) → HeadedStands count x → EntryStands count (head_then x (rest_then d before))
+    by : (x : OrFault Head) → HeadedStands count x → EntryStands count (head_then x (rest_then d before))
     by (Ok x) k = rest_then_lem count before x k
     by (Err f) k = k

@@ -16,7 +16,7 @@ use Rattle.marks.specs.declared.Skip.{Skip}
 use Rattle.marks.proofs.Levels.{string_ahead}
 use Rattle.marks.proofs.Levels as levels
 use Rattle.tokens.specs.declared.Fault.{Fault}
-use Rattle.tokens.specs.rule.Gap.{fault, gap_at, Read}
+use Rattle.tokens.specs.rule.Gap.{fault, gap_at, OrFault}
 use Rattle.statements.specs.rule.Words.{CHARACTER, END, LABEL, LOGICAL, MULTIPLE, NAME, NOTE, OF, POSITION, QUANTITY, SINGLE, SIZE}
 use Rattle.statements.specs.rule.Words.{SPECIAL, SPREAD, TO, TYPE, VALUES, VARIABLE, WITH}
 use Rattle.survey.specs.rule.Survey.{Figure, Amount, KeptText, Range, Block, Variable}
@@ -82,7 +82,7 @@ module _ (d : List ℕ) where
 
   gap_leads : Leads (gap d)
   gap_leads n = by (gap_at d n) refl where
-    by : (t : Read ℕ) → gap_at d n ≡ t → After n (passed t)
+    by : (t : OrFault ℕ) → gap_at d n ≡ t → After n (passed t)
     by (Ok m) e = ends (gap_ahead d e)
     by (Err f) e = stops
 
@@ -111,7 +111,7 @@ module _ (d : List ℕ) where
 
   amount_leads : Leads (amount d)
   amount_leads n = by (value_on_lem d n) where
-    by : {v : Read Value} {r : Result Amount} → Valued d n v r → After n r
+    by : {v : OrFault Value} {r : Result Amount} → Valued d n v r → After n r
     by (valued {m = m} s f g) = let h : n ≤ m = omega arith in ends h
     by unvalued = stops
 

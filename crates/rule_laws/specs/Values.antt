@@ -6,7 +6,7 @@ use Rattle.std.proofs.Common.{◌∙◌}
 use Rattle.scan.specs.rule.Text.{text}
 use Rattle.scan.specs.rule.Number.{is_value, run_bytes}
 use Rattle.tokens.specs.declared.Value.{Value}
-use Rattle.tokens.specs.rule.Gap.{fault, Read}
+use Rattle.tokens.specs.rule.Gap.{fault, OrFault}
 use Rattle.tokens.specs.Token.{value_at, of_value, value_here}
 use Rattle.survey.specs.rule.Survey.{Amount}
 use Rattle.reading.specs.rule.Result.{Result, Is}
@@ -24,7 +24,7 @@ module _ (d : List ℕ) (n : ℕ) where
   pub amount_form : {a : Amount} {m : ℕ} → amount d n ≡ Is a m → (a.formed ≡ true) ↔ Form (run_bytes is_value (text d n))
   unfolding value_here of_value
   amount_form {a} {m} e = by refl (value_on_lem d n) e where
-    by : {v : Read Value} {r : Result Amount} → value_here d (Ok n) ≡ v → Valued d n v r → r ≡ Is a m
+    by : {v : OrFault Value} {r : Result Amount} → value_here d (Ok n) ≡ v → Valued d n v r → r ≡ Is a m
         → (a.formed ≡ true) ↔ Form (run_bytes is_value (text d n))
     by i (valued {a = b} {x = x} {y = y} {m = k} s f g) j =
         let q : b ≡ a = cc in

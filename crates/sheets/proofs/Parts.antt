@@ -32,7 +32,7 @@ use Rattle.elements.proofs.Dues.{read_due, due_then}
 use Rattle.xml_laws.specs.Reads.{Lying, Positioned, bound, within_long}
 use Rattle.xml_laws.specs.Entries.{due_is}
 use Rattle.sheets.specs.Code.{due_in, DueEnds, PhraseEnds, StatedEnds, placed_of}
-use Rattle.tokens.specs.rule.Gap.{Read}
+use Rattle.tokens.specs.rule.Gap.{OrFault}
 
 pub due_read : (x : Result ℕ) {p e : ℕ} → due_of x ≡ dues.At p e → x ≡ Is p e
 due_read (Is q m) {p} {e} f = let a : q ≡ p = cc in let b : m ≡ e = cc in rw (a, b)
@@ -95,7 +95,7 @@ module _ (bad : Bool) (d : List ℕ) where
   stated_ends (Not g) h = tt
 
 -- ---- a name, and a position
-pub name_ends : (d : List ℕ) (r : Read Quoted) → phrase_end r ≤ length d → phrase_next r ≤ length d → PhraseEnds d r
+pub name_ends : (d : List ℕ) (r : OrFault Quoted) → phrase_end r ≤ length d → phrase_next r ≤ length d → PhraseEnds d r
 name_ends d (Ok q) a b = (a, b)
 name_ends d (Err f) a b = tt
 

@@ -33,7 +33,7 @@ use Rattle.prefaces.specs.Code.{reading_of}
 use Rattle.xml_bridge.specs.Book.{block_as}
 use Rattle.xml_laws.specs.Reads.{bound}
 use Rattle.sheets.specs.Code.{end_in, rested_in, content_by, Rests, values_ended, size_ended, valued_of, Valued, plain_of, sized_of}
-use Rattle.tokens.specs.rule.Gap.{Read}
+use Rattle.tokens.specs.rule.Gap.{OrFault}
 use Rattle.variables.specs.declared.Rest.{Rest}
 
 -- ---- readers one behind another
@@ -59,7 +59,7 @@ spread_refused room (Is s n) e = never cc
 spread_refused room (Not g) {f} e = let a : g ≡ f = cc in ap Not a
 
 -- ---- what a type keeps of values
-pub rests_of : {c w before room : ℕ} {v : Result Block} {k : Result Content} {lines lines' : List ℤ} {r : Read Rest} (f : Block → Content)
+pub rests_of : {c w before room : ℕ} {v : Result Block} {k : Result Content} {lines lines' : List ℤ} {r : OrFault Rest} (f : Block → Content)
     → ((b : Block) (n : ℕ) → rested_in room before (Is (f b) n) ≡ valued_of c w before (Is b n)) → ((b : Block) → block_in (f b) ≡ b)
     → k ≡ bind v (λ b n. Is (f b) n) → Valued c w before v lines lines' r → Rests room before k lines lines' r
 rests_of {c} {w} {before} {room} {v} {k} {lines} {lines'} {r} f g h e x = record
@@ -75,7 +75,7 @@ rests_of {c} {w} {before} {room} {v} {k} {lines} {lines'} {r} f g h e x = record
           rw (← a, h b.value) (x.line b.value b.place b.first_is)
 
 -- with a spread
-pub rests_spread : {c w before room : ℕ} {v : Result Block} {k : Result Content} {lines lines' : List ℤ} {r : Read Rest} (s : Spread)
+pub rests_spread : {c w before room : ℕ} {v : Result Block} {k : Result Content} {lines lines' : List ℤ} {r : OrFault Rest} (s : Spread)
     → c ≡ capped s.count.value → w ≡ even_or room (capped s.count.value) s.width → k ≡ bind v (λ b n. Is (multiple (some s) b) n)
     → Valued c w before v lines lines' r → Rests room before k lines lines' r
 rests_spread s a b e x = rests_of (multiple (some s)) (λ y n. rw (a, b)) (λ y. refl) e x
@@ -115,7 +115,7 @@ module _ (bad : Bool) (d : List ℕ) (m : Manner) (before : ℕ) where
   content_quantity room x = block_then true quantity x
 
   -- a type of that number
-  pub kinded : {room kind k : ℕ} (x : Result rule.Open) {lines lines' : List ℤ} {r : Read Rest} → kind ≡ k
+  pub kinded : {room kind k : ℕ} (x : Result rule.Open) {lines lines' : List ℤ} {r : OrFault Rest} → kind ≡ k
       → Rests room before (bind x (content_by bad d m room before k)) lines lines' r
       → Rests room before (bind x (content_by bad d m room before kind)) lines lines' r
   kinded x e h = rw e h
@@ -231,7 +231,7 @@ module _ (bad : Bool) (d : List ℕ) (m : Manner) (before : ℕ) where
   unfolding cells_of
   unmoved lines = paste_none lines (line_size * before)
 
-  pub rests_size : (room : ℕ) (x : Result rule.Open) {lines : List ℤ} {r : Read Rest} → r ≡ sized_of before (bind x (size_ended bad d))
+  pub rests_size : (room : ℕ) (x : Result rule.Open) {lines : List ℤ} {r : OrFault Rest} → r ≡ sized_of before (bind x (size_ended bad d))
       → Rests room before (bind x (content_by bad d m room before 4)) lines lines r
   rests_size room x {lines} {r} e = record {
     is = e ∙ by (bind x (size_ended bad d))
@@ -249,7 +249,7 @@ module _ (bad : Bool) (d : List ℕ) (m : Manner) (before : ℕ) where
         let a : character b.value ≡ y = cc in
         rw (← a) (unmoved lines)
 
-  pub rests_logical : (room kind : ℕ) (x : Result rule.Open) {lines : List ℤ} {r : Read Rest}
+  pub rests_logical : (room kind : ℕ) (x : Result rule.Open) {lines : List ℤ} {r : OrFault Rest}
       → eqb kind 1 ≡ false → eqb kind 2 ≡ false → eqb kind 3 ≡ false → eqb kind 4 ≡ false
       → r ≡ plain_of 0 before (reading_of (bind x (over bad d)))
       → Rests room before (bind x (content_by bad d m room before kind)) lines lines r

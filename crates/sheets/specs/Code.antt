@@ -53,7 +53,7 @@ use Rattle.sheets.specs.declared.Turn.{Turn}
 use Rattle.sheets.specs.declared.Turn.TheVariants as turns
 use Rattle.sheets.specs.declared.Run.{Run}
 use Rattle.sheets.specs.declared.Run.TheVariants as run
-use Rattle.tokens.specs.rule.Gap.{Read}
+use Rattle.tokens.specs.rule.Gap.{OrFault}
 
 -- ---- inside a variable
 module _ (bad : Bool) (d : List ℕ) where
@@ -76,7 +76,7 @@ abbrev pub DueEnds : List ℕ → Due → Type 0
 DueEnds d (dues.At p e) = (1 ≤ e) × (e ≤ length d)
 DueEnds d (dues.Not f) = Unit
 
-abbrev pub PhraseEnds : List ℕ → Read Quoted → Type 0
+abbrev pub PhraseEnds : List ℕ → OrFault Quoted → Type 0
 PhraseEnds d (Ok q) = (q.place + q.length ≤ length d) × (q.next ≤ length d)
 PhraseEnds d (Err f) = Unit
 
@@ -86,7 +86,7 @@ FrontEnds d (fronted.Is h u n) =
     (n ≤ length d) × (h.name.place + h.name.length ≤ length d) × (1 ≤ h.start) × (h.start ≤ h.finish) × (h.finish ≤ 16384)
 FrontEnds d (fronted.Not f) = Unit
 
-abbrev pub StatedEnds : List ℕ → Read Position → Type 0
+abbrev pub StatedEnds : List ℕ → OrFault Position → Type 0
 StatedEnds d (Ok q) = (q.next ≤ length d) × (1 ≤ q.start) × (q.start ≤ q.finish) × (q.finish ≤ 16384)
 StatedEnds d (Err f) = Unit
 
@@ -103,7 +103,7 @@ width_in room (some s) = even_or room (capped s.count.value) s.width
 abbrev pub placeless_of : Rest → Rest
 placeless_of r = record { block = r.block; last = r.last; subfields = r.subfields; subwidth = r.subwidth; size = r.size; next = 0 }
 
-abbrev pub rested_in : ℕ → ℕ → Result Content → Read Rest
+abbrev pub rested_in : ℕ → ℕ → Result Content → OrFault Rest
 rested_in room before (Is c n) = Ok (record {
   block = block_as (block_in c);
   last = before + length (block_in c).lines;
@@ -126,7 +126,7 @@ module _ (bad : Bool) (d : List ℕ) (m : Manner) where
   content_by room before kind = content bad d m (roomy room) before kind
 
 -- its lines stand in the room behind `before` others
-pub record Rests (room before : ℕ) (k : Result Content) (lines lines' : List ℤ) (r : Read Rest) : Type 0 where
+pub record Rests (room before : ℕ) (k : Result Content) (lines lines' : List ℤ) (r : OrFault Rest) : Type 0 where
   pub is : r ≡ rested_in room before k
   pub line : (c : Content) (n : ℕ) → k ≡ Is c n → lines' ≡ pasted lines (line_size * before) (cells_of (block_in c).lines)
 
@@ -139,7 +139,7 @@ module _ (bad : Bool) (d : List ℕ) where
   abbrev pub size_ended : rule.Open → Reader Figure
   size_ended o n = bind (due bad d SIZE o (size bad d) n) λ x n. bind (end_in bad d n) λ u n. Is x n
 
-abbrev pub valued_of : ℕ → ℕ → ℕ → Result Block → Read Rest
+abbrev pub valued_of : ℕ → ℕ → ℕ → Result Block → OrFault Rest
 valued_of c w before (Is b n) = Ok (record {
   block = block_as b;
   last = before + length b.lines;
@@ -150,16 +150,16 @@ valued_of c w before (Is b n) = Ok (record {
 })
 valued_of c w before (Not f) = Err f
 
-pub record Valued (c w before : ℕ) (k : Result Block) (lines lines' : List ℤ) (r : Read Rest) : Type 0 where
+pub record Valued (c w before : ℕ) (k : Result Block) (lines lines' : List ℤ) (r : OrFault Rest) : Type 0 where
   pub is : r ≡ valued_of c w before k
   pub line : (b : Block) (n : ℕ) → k ≡ Is b n → lines' ≡ pasted lines (line_size * before) (cells_of b.lines)
 
-abbrev pub plain_of : ℕ → ℕ → Read ℕ → Read Rest
+abbrev pub plain_of : ℕ → ℕ → OrFault ℕ → OrFault Rest
 plain_of size before (Ok n) = Ok (record
     { block = empty_block; last = before; subfields = 0; subwidth = 0; size = size; next = n })
 plain_of size before (Err f) = Err f
 
-abbrev pub sized_of : ℕ → Result Figure → Read Rest
+abbrev pub sized_of : ℕ → Result Figure → OrFault Rest
 sized_of before (Is x n) = plain_of (capped x.value) before (Ok n)
 sized_of before (Not f) = Err f
 
@@ -258,7 +258,7 @@ pub record Knowing (latin : Bool) (d : List ℕ) (seen : List ℕ) (y : Tally) (
 
 -- ---- what the code says, for whatever variables stand before
 module _ (bad : Bool) (d : List ℕ) (m : Manner) (rows : List ℤ) (count : ℕ) where
-  pub record NameSaid (at : ℕ) (r : Read Quoted) : Type 0 where
+  pub record NameSaid (at : ℕ) (r : OrFault Quoted) : Type 0 where
     pub is : (l : List XmlEntry) → RowsOf rows count l → r ≡ phrase_of (name_in bad d m l at)
     pub ends : PhraseEnds d r
 

@@ -41,7 +41,7 @@ use layout::{Columns, Row};
 use prefaces::{Manner, Prefaced};
 use prologs::Prolog;
 use statements::Position;
-use tokens::{Fault, Quoted, Read};
+use tokens::{Fault, OrFault, Quoted};
 use values::{Block, Listed};
 use variables::{Head, Rest};
 
@@ -62,7 +62,7 @@ fn mode_of(languages: bool) -> usize
     if languages { 2 } else { 1 }
 }
 
-fn label_in(bad: bool, d: &[u8], languages: bool, at: usize) -> Read<Quoted>
+fn label_in(bad: bool, d: &[u8], languages: bool, at: usize) -> OrFault<Quoted>
     requires { at ≤ length d.now }
     ensures { (result ≡ phrase_of (label_in bad d.now languages at)) × PhraseEnds d.now result }
 {
@@ -75,7 +75,7 @@ fn label_in(bad: bool, d: &[u8], languages: bool, at: usize) -> Read<Quoted>
     }
 }
 
-fn position_in(bad: bool, d: &[u8], at: usize) -> Read<Position>
+fn position_in(bad: bool, d: &[u8], at: usize) -> OrFault<Position>
     requires { at ≤ length d.now }
     ensures { (result ≡ to_stated (position_in bad d.now at)) × StatedEnds d.now result }
 {
@@ -86,7 +86,7 @@ fn position_in(bad: bool, d: &[u8], at: usize) -> Read<Position>
 }
 
 // The end tag of the variable, where something stands.
-fn close_in(bad: bool, d: &[u8], o: Open) -> Read<usize>
+fn close_in(bad: bool, d: &[u8], o: Open) -> OrFault<usize>
     requires { Within d.now 0 o }
     ensures { (result ≡ reading_of (bind (read_of o) (over bad d.now))) × Inside d.now result }
 {
@@ -97,7 +97,7 @@ fn close_in(bad: bool, d: &[u8], o: Open) -> Read<usize>
     }
 }
 
-fn end_in(bad: bool, d: &[u8], at: usize) -> Read<usize>
+fn end_in(bad: bool, d: &[u8], at: usize) -> OrFault<usize>
     requires { at ≤ length d.now }
     ensures { (result ≡ reading_of (end_in bad d.now at)) × Inside d.now result }
 {
@@ -114,7 +114,7 @@ fn name_in(
     count: usize,
     at: usize,
     sums: &[u16],
-) -> Read<Quoted>
+) -> OrFault<Quoted>
     requires known { Known m.latin d.now rows.now count sums.now }
     requires at_in_bounds { at ≤ length d.now }
     ensures { NameSaid bad d.now (rule_of m) rows.now count at result }
@@ -334,7 +334,7 @@ fn values_rest(
     lines: &mut [i64],
     marks: &mut [u16],
     stamp: u16,
-) -> Read<Rest>
+) -> OrFault<Rest>
     requires within { Within d.now 0 o × (length d.now ≤ 1048576) }
     requires lines_len { (length lines.old ≡ line_size * most_lines) × (before ≤ most_lines) × (length marks.old ≡ 16384) }
     ensures { Valued count width before (bind (read_of o) (values_ended bad d.now languages quantity before))
@@ -377,7 +377,7 @@ fn nothing_said() -> Block
 }
 
 // A type that has no values: its size, or 0.
-fn plain_rest(size: u64, before: usize, end: Read<usize>) -> Read<Rest>
+fn plain_rest(size: u64, before: usize, end: OrFault<usize>) -> OrFault<Rest>
     ensures { result ≡ plain_of size before end }
 {
     match end {
@@ -396,7 +396,7 @@ fn plain_rest(size: u64, before: usize, end: Read<usize>) -> Read<Rest>
     }
 }
 
-fn size_rest(bad: bool, d: &[u8], o: Open, before: usize) -> Read<Rest>
+fn size_rest(bad: bool, d: &[u8], o: Open, before: usize) -> OrFault<Rest>
     requires { Within d.now 0 o }
     ensures { result ≡ sized_of before (bind (read_of o) (size_ended bad d.now)) }
 {
@@ -423,7 +423,7 @@ fn spread_rest(
     lines: &mut [i64],
     marks: &mut [u16],
     stamp: u16,
-) -> Read<Rest>
+) -> OrFault<Rest>
     requires within { Within d.now 0 o × (length d.now ≤ 1048576) × (1 ≤ room) × (room ≤ 16384) }
     requires lines_len { (length lines.old ≡ line_size * most_lines) × (before ≤ most_lines) × (length marks.old ≡ 16384) }
     ensures { Rests room before (bind (read_of o) (content_by bad d.now (rule_of m) room before 2)) lines.old
@@ -461,7 +461,7 @@ fn rest_in(
     lines: &mut [i64],
     marks: &mut [u16],
     stamp: u16,
-) -> Read<Rest>
+) -> OrFault<Rest>
     requires within { Within d.now 0 o × (length d.now ≤ 1048576) × (1 ≤ room) × (room ≤ 16384) }
     requires lines_len { (length lines.old ≡ line_size * most_lines) × (before ≤ most_lines) × (length marks.old ≡ 16384) }
     ensures { Rests room before (bind (read_of o) (content_by bad d.now (rule_of m) room before kind)) lines.old

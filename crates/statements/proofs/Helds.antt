@@ -11,7 +11,7 @@ use Rattle.scan.specs.rule.Text.{text}
 use Rattle.scan.specs.Number.{capped, digits_from}
 use Rattle.scan.proofs.Orders.{run_value}
 use Rattle.tokens.specs.declared.Figures.{Figures}
-use Rattle.tokens.specs.rule.Gap.{fault, Read}
+use Rattle.tokens.specs.rule.Gap.{fault, OrFault}
 use Rattle.tokens.specs.Gap.{gap_on}
 use Rattle.tokens.specs.Token.{of_digits, number_here, number_on}
 use Rattle.statements.specs.Position.{true_of, Held, of_number, of_fault}
@@ -53,10 +53,10 @@ module _ (s t v w : ℕ) (e : s ≡ capped v) (g : t ≡ capped w) where
   size_same i l = held_same v w (sym e ∙ i ∙ g) (rw g at l)
 
 -- a number that was read
-pub number_held : (d : List ℕ) (t : Read ℕ) → Held d (number_on d t)
+pub number_held : (d : List ℕ) (t : OrFault ℕ) → Held d (number_on d t)
 unfolding number_on number_here of_digits digits_from
 number_held d t = by (gap_on d t) where
-  by : (g : Read ℕ) → Held d (number_here d g)
+  by : (g : OrFault ℕ) → Held d (number_here d g)
   by (Err f) = of_fault
   by (Ok n) = told (eqb (digits_from 0 0 n (text d n)).count 0) where
     told : (q : Bool) → Held d (cond q (Err (fault 2 n))
@@ -69,9 +69,9 @@ number_held d t = by (gap_on d t) where
     told true = of_fault
     told false = of_number (ap capped (sym (run_value d n)))
 
-pub held_by : (d : List ℕ) (t : Read ℕ) {r : Read Figures} → r ≡ number_on d t → Held d r
+pub held_by : (d : List ℕ) (t : OrFault ℕ) {r : OrFault Figures} → r ≡ number_on d t → Held d r
 held_by d t e = rw e (number_held d t)
 
-pub held_size : {d : List ℕ} {n : Read Figures} {x : Figures} → Held d n → n ≡ Ok x → x.size ≡ capped (true_of d x)
+pub held_size : {d : List ℕ} {n : OrFault Figures} {x : Figures} → Held d n → n ≡ Ok x → x.size ≡ capped (true_of d x)
 held_size {x = x} (of_number {x = y} e) i = let j : y ≡ x = cc in rw j at e
 held_size of_fault i = let z : ◌≡◌ {A = ℕ} 0 1 = cc in absurd (omega arith)

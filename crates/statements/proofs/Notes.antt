@@ -18,7 +18,7 @@ use Rattle.scan.proofs.Loops.{loop_again, loop_done}
 use Rattle.tokens.specs.declared.Fault.{Fault}
 use Rattle.tokens.specs.declared.Choice.{Choice}
 use Rattle.tokens.specs.declared.Choice.TheVariants.{Taken, Left}
-use Rattle.tokens.specs.rule.Gap.{gap_at, Read}
+use Rattle.tokens.specs.rule.Gap.{gap_at, OrFault}
 use Rattle.tokens.specs.Gap.{left, gap_on}
 use Rattle.tokens.specs.Token.{choice_of, string_on, past_string}
 use Rattle.tokens.proofs.Gaps.{gap_token}
@@ -52,13 +52,13 @@ module _ (d : List ℕ) where
   unfolding past_note
   past_left m = omega (arith, gap_left d (past_string (string_on d (Ok m))), string_left d (Ok m))
 
-  note_less : (t t' : Read ℕ) → note_step d (choice_of d t NOTE) t ≡ Again t' → left d t' < left d t
+  note_less : (t t' : OrFault ℕ) → note_step d (choice_of d t NOTE) t ≡ Again t' → left d t' < left d t
   note_less t t' e = by (choice_of d t NOTE) refl e where
     by : (k : Choice) → choice_of d t NOTE ≡ k → note_step d k t ≡ Again t' → left d t' < left d t
     by (Taken m) f e = let q : past_note d m ≡ t' = cc in rw (← q) (omega (arith, past_left m, taken_less d t 78 (79 ∷ 84 ∷ 69 ∷ []) f))
     by Left f e = let z : ◌≡◌ {A = ℕ} 0 1 = cc in absurd (omega arith)
 
-  module _ (t : Read ℕ) {k : Choice} (e : k ≡ choice_of d t NOTE) where
+  module _ (t : OrFault ℕ) {k : Choice} (e : k ≡ choice_of d t NOTE) where
     pub note_left : {m : ℕ} → k ≡ Taken m → left d (past_note d m) < left d t
     note_left {m} f = omega (arith, past_left m, taken_less d t 78 (79 ∷ 84 ∷ 69 ∷ []) (sym e ∙ f))
 
@@ -95,10 +95,10 @@ module _ (d : List ℕ) where
         (upper_miss (get_or d (at + 1) 0) 79 f g))
 
   -- ---- behind notes no more is left
-  notes_within : (f : ℕ) (t : Read ℕ) → left d t < f → left d (notes_here d t) ≤ left d t
+  notes_within : (f : ℕ) (t : OrFault ℕ) → left d t < f → left d (notes_here d t) ≤ left d t
   notes_within zero t h = absurd (omega arith)
   notes_within (suc f) t h = by (choice_of d t NOTE) refl (notes_within f) where
-    by : (k : Choice) → choice_of d t NOTE ≡ k → ((u : Read ℕ) → left d u < f → left d (notes_here d u) ≤ left d u)
+    by : (k : Choice) → choice_of d t NOTE ≡ k → ((u : OrFault ℕ) → left d u < f → left d (notes_here d u) ≤ left d u)
         → left d (notes_here d t)
         ≤ left d t
     by (Taken m) e ih =
@@ -107,6 +107,6 @@ module _ (d : List ℕ) where
         rw (notes_again t refl e) (omega arith)
     by Left e ih = rw (notes_done t refl e) (omega arith)
 
-  pub notes_left : (t : Read ℕ) → left d (notes_on d t) ≤ left d t
+  pub notes_left : (t : OrFault ℕ) → left d (notes_on d t) ≤ left d t
   unfolding notes_on
   notes_left t = omega (arith, notes_within (suc (left d (gap_on d t))) (gap_on d t) (omega arith), gap_left d t)

@@ -9,18 +9,18 @@ use Rattle.statements.specs.rule.Words.{TYPE, SINGLE, MULTIPLE, QUANTITY, CHARAC
 use Rattle.statements.specs.Note.{statement_on}
 use Rattle.statements.specs.declared.Typed.{Typed}
 use Rattle.statements.specs.declared.Typed.TheVariants.{Is, Not}
-use Rattle.tokens.specs.rule.Gap.{Read}
+use Rattle.tokens.specs.rule.Gap.{OrFault}
 
 -- the type k if its word stands here, or else
 abbrev pub or : Choice → ℕ → Typed → Typed
 or (Taken m) k z = Is k m
 or Left k z = z
 
-abbrev pub last : Read ℕ → ℕ → Typed
+abbrev pub last : OrFault ℕ → ℕ → Typed
 last (Ok m) k = Is k m
 last (Err f) k = Not f
 
-unfoldable pub type_here : List ℕ → Read ℕ → Typed
+unfoldable pub type_here : List ℕ → OrFault ℕ → Typed
 type_here d t =
     or (choice_of d t SINGLE) 1
     (or (choice_of d t MULTIPLE) 2
@@ -28,5 +28,5 @@ type_here d t =
     (or (choice_of d t CHARACTER) 4
     (last (word_here d t LOGICAL) 5))))
 
-unfoldable pub type_on : List ℕ → Read ℕ → Typed
+unfoldable pub type_on : List ℕ → OrFault ℕ → Typed
 type_on d t = type_here d (gap_on d (statement_on d t TYPE))

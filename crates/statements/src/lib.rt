@@ -15,9 +15,9 @@ ghost use Rattle.statements.specs.Spread.{judge_of, judge_even, fields_of, even_
 ghost use Rattle.statements.specs.Size.{judge_size, size_on};
 
 use scan::Word;
-use tokens::{Choice, Fault, Figures, Read};
+use tokens::{Choice, Fault, Figures, OrFault};
 
-fn note_word(classes: &[u8; 256], d: &[u8], t: Read<usize>) -> Choice
+fn note_word(classes: &[u8; 256], d: &[u8], t: OrFault<usize>) -> Choice
     requires { Classes classes.now }
     ensures { result ≡ choice_of d.now t NOTE }
 {
@@ -26,7 +26,7 @@ fn note_word(classes: &[u8; 256], d: &[u8], t: Read<usize>) -> Choice
 
 // The same as notes_on, where there may be notes. Statements that a definition has once are read by it too: with one caller alone the
 // compiler would lay it into notes_on, which would be too large then to be laid into the readers of a variable's statements.
-fn notes_apart(classes: &[u8; 256], d: &[u8], t: Read<usize>) -> Read<usize>
+fn notes_apart(classes: &[u8; 256], d: &[u8], t: OrFault<usize>) -> OrFault<usize>
     requires { Classes classes.now }
     ensures { result ≡ notes_on d.now t }
 {
@@ -79,7 +79,7 @@ fn no_note(d: &[u8], m: usize) -> bool
 }
 
 // NOTE and a string, as often as they stand between two statements, with the gaps around them.
-pub fn notes_on(classes: &[u8; 256], d: &[u8], t: Read<usize>) -> Read<usize>
+pub fn notes_on(classes: &[u8; 256], d: &[u8], t: OrFault<usize>) -> OrFault<usize>
     requires { Classes classes.now }
     ensures { result ≡ notes_on d.now t }
 {
@@ -93,7 +93,7 @@ pub fn notes_on(classes: &[u8; 256], d: &[u8], t: Read<usize>) -> Read<usize>
 
 // The first word of a statement, behind the notes before it. The readers of statements that a variable has call the two functions
 // themselves: so the compiler knows the word that it compares.
-pub fn statement_on(classes: &[u8; 256], d: &[u8], t: Read<usize>, w: &[u8]) -> Read<usize>
+pub fn statement_on(classes: &[u8; 256], d: &[u8], t: OrFault<usize>, w: &[u8]) -> OrFault<usize>
     requires { Classes classes.now }
     ensures { result ≡ statement_on d.now t w.now }
 {
@@ -102,7 +102,7 @@ pub fn statement_on(classes: &[u8; 256], d: &[u8], t: Read<usize>, w: &[u8]) -> 
 }
 
 // The version: the longest run of value bytes, which is to be 1.1 as text.
-fn version_at(classes: &[u8; 256], d: &[u8], n: usize) -> Read<usize>
+fn version_at(classes: &[u8; 256], d: &[u8], n: usize) -> OrFault<usize>
     requires { Classes classes.now }
     ensures { result ≡ version_here d.now n }
 {
@@ -131,7 +131,7 @@ fn version_at(classes: &[u8; 256], d: &[u8], n: usize) -> Read<usize>
 }
 
 // SSS, with nothing before it, and VERSION 1.1.
-pub fn read_opening(classes: &[u8; 256], d: &[u8]) -> Read<usize>
+pub fn read_opening(classes: &[u8; 256], d: &[u8]) -> OrFault<usize>
     requires { Classes classes.now }
     ensures { result ≡ opening_of d.now }
 {
@@ -144,7 +144,7 @@ pub fn read_opening(classes: &[u8; 256], d: &[u8]) -> Read<usize>
 }
 
 // RECORD and one letter.
-pub fn record_on(classes: &[u8; 256], d: &[u8], t: Read<usize>) -> Read<usize>
+pub fn record_on(classes: &[u8; 256], d: &[u8], t: OrFault<usize>) -> OrFault<usize>
     requires { Classes classes.now }
     ensures { result ≡ record_on d.now t }
 {
@@ -159,7 +159,7 @@ pub enum Typed {
     Not(Fault),
 }
 
-fn type_here(classes: &[u8; 256], d: &[u8], t: Read<usize>) -> Typed
+fn type_here(classes: &[u8; 256], d: &[u8], t: OrFault<usize>) -> Typed
     requires { Classes classes.now }
     ensures { result ≡ type_here d.now t }
 {
@@ -181,7 +181,7 @@ fn type_here(classes: &[u8; 256], d: &[u8], t: Read<usize>) -> Typed
     }
 }
 
-pub fn type_on(classes: &[u8; 256], d: &[u8], t: Read<usize>) -> Typed
+pub fn type_on(classes: &[u8; 256], d: &[u8], t: OrFault<usize>) -> Typed
     requires { Classes classes.now }
     ensures { result ≡ type_on d.now t }
 {
@@ -202,7 +202,7 @@ pub struct Position {
 
 // What is wrong with two locations, of which the second says less than the first where `below`: 7 comes before 8, and an earlier place
 // before a later.
-pub fn judge_position(below: bool, a: Figures, b: Figures, next: usize) -> Read<Position>
+pub fn judge_position(below: bool, a: Figures, b: Figures, next: usize) -> OrFault<Position>
     ensures { result ≡ judge_position below a b next }
 {
     if a.size == 0 {
@@ -256,10 +256,10 @@ fn says_less(classes: &[u8; 256], d: &[u8], y: Figures, x: Figures) -> bool
 fn both(
     classes: &[u8; 256],
     d: &[u8],
-    a: Read<Figures>,
-    b: Read<Figures>,
-    end: Read<usize>,
-) -> Read<Position>
+    a: OrFault<Figures>,
+    b: OrFault<Figures>,
+    end: OrFault<usize>,
+) -> OrFault<Position>
     requires classes { Classes classes.now }
     requires held { Held d.now a × Held d.now b }
     ensures { result ≡ both_of d.now a b end }
@@ -271,7 +271,7 @@ fn both(
     judge_position(below, x, y, next)
 }
 
-pub fn position_on(classes: &[u8; 256], d: &[u8], t: Read<usize>) -> Read<Position>
+pub fn position_on(classes: &[u8; 256], d: &[u8], t: OrFault<usize>) -> OrFault<Position>
     requires { Classes classes.now }
     ensures { result ≡ position_on d.now t }
 {
@@ -299,7 +299,7 @@ pub struct Subfields {
 }
 
 // With OF.
-pub fn judge_fields(n: Figures, w: Figures, next: usize) -> Read<Subfields>
+pub fn judge_fields(n: Figures, w: Figures, next: usize) -> OrFault<Subfields>
     ensures { result ≡ judge_of n w next }
 {
     if n.size == 0 {
@@ -322,7 +322,7 @@ pub fn judge_fields(n: Figures, w: Figures, next: usize) -> Read<Subfields>
 }
 
 // Without OF n must divide the position's width exactly.
-pub fn judge_even(n: Figures, width: u64, next: usize) -> Read<Subfields>
+pub fn judge_even(n: Figures, width: u64, next: usize) -> OrFault<Subfields>
     ensures { result ≡ judge_even n width next }
 {
     let count = n.size;
@@ -345,7 +345,7 @@ pub fn judge_even(n: Figures, width: u64, next: usize) -> Read<Subfields>
     })
 }
 
-fn fields(a: Read<Figures>, b: Read<Figures>) -> Read<Subfields>
+fn fields(a: OrFault<Figures>, b: OrFault<Figures>) -> OrFault<Subfields>
     ensures { result ≡ fields_of a b }
 {
     let x = a?;
@@ -353,7 +353,7 @@ fn fields(a: Read<Figures>, b: Read<Figures>) -> Read<Subfields>
     judge_fields(x, y, y.next)
 }
 
-fn even(a: Read<Figures>, width: u64, end: Read<usize>) -> Read<Subfields>
+fn even(a: OrFault<Figures>, width: u64, end: OrFault<usize>) -> OrFault<Subfields>
     ensures { result ≡ even_of a width end }
 {
     let x = a?;
@@ -362,7 +362,12 @@ fn even(a: Read<Figures>, width: u64, end: Read<usize>) -> Read<Subfields>
 }
 
 // What stands behind the word SPREAD, for a position of so many bytes.
-pub fn spread_rest(classes: &[u8; 256], d: &[u8], t: Read<usize>, width: u64) -> Read<Subfields>
+pub fn spread_rest(
+    classes: &[u8; 256],
+    d: &[u8],
+    t: OrFault<usize>,
+    width: u64,
+) -> OrFault<Subfields>
     requires { Classes classes.now }
     ensures { result ≡ spread_rest d.now t width }
 {
@@ -378,7 +383,7 @@ pub fn spread_rest(classes: &[u8; 256], d: &[u8], t: Read<usize>, width: u64) ->
     }
 }
 
-pub fn judge_size(n: Read<Figures>) -> Read<Figures>
+pub fn judge_size(n: OrFault<Figures>) -> OrFault<Figures>
     ensures { result ≡ judge_size n }
 {
     let x = n?;
@@ -397,7 +402,7 @@ pub fn judge_size(n: Read<Figures>) -> Read<Figures>
     Ok(x)
 }
 
-pub fn size_on(classes: &[u8; 256], d: &[u8], t: Read<usize>) -> Read<Figures>
+pub fn size_on(classes: &[u8; 256], d: &[u8], t: OrFault<usize>) -> OrFault<Figures>
     requires { Classes classes.now }
     ensures { result ≡ size_on d.now t }
 {

@@ -6,7 +6,7 @@ use Rattle.scan.specs.rule.Number.{run_of, is_value}
 use Rattle.scan.specs.rule.Word.{word_at}
 use Rattle.scan.specs.declared.Word.{Word}
 use Rattle.scan.specs.declared.Word.TheVariants as spelled
-use Rattle.tokens.specs.rule.Gap.{gap_at, Read}
+use Rattle.tokens.specs.rule.Gap.{gap_at, OrFault}
 use Rattle.tokens.specs.Token.{number_on, string_on}
 use Rattle.statements.specs.Note.{notes_on}
 use Rattle.steps.specs.declared.Span.{Span}
@@ -17,7 +17,7 @@ use Rattle.tokens.specs.declared.Quoted.{Quoted}
 abbrev pub span : ℕ → ℕ → ℕ → ℕ → Span
 span a e n x = record { from = a; end = e; next = n; size = x }
 
-unfoldable pub place_in : ℕ → Read ℕ → ℕ
+unfoldable pub place_in : ℕ → OrFault ℕ → ℕ
 place_in n (Ok m) = m
 place_in n (Err f) = n
 
@@ -46,14 +46,14 @@ word_found d n w = found_in (gap_past d n) (word_at d (gap_past d n) w)
 unfoldable pub statement_found : List ℕ → ℕ → List ℕ → Found
 statement_found d n w = found_in (notes_past d n) (word_at d (notes_past d n) w)
 
-unfoldable pub number_in : Read Figures → Span
+unfoldable pub number_in : OrFault Figures → Span
 number_in (Ok x) = span x.place x.next x.next x.size
 number_in (Err f) = span 0 0 0 0
 
 unfoldable pub number_span : List ℕ → ℕ → Span
 number_span d n = number_in (number_on d (Ok n))
 
-unfoldable pub phrase_in : Read Quoted → Span
+unfoldable pub phrase_in : OrFault Quoted → Span
 phrase_in (Ok q) = span q.place (q.next - 1) q.next 0
 phrase_in (Err f) = span 0 0 0 0
 

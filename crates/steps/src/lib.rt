@@ -12,7 +12,7 @@ ghost use Rattle.steps.specs.Step.{statement_found};
 ghost use Rattle.steps.specs.Step.{number_in, number_span, phrase_in, string_span, value_span};
 
 use scan::Word;
-use tokens::{Figures, Quoted, Read};
+use tokens::{Figures, OrFault, Quoted};
 
 // A stretch of the definition, the place where reading goes on behind it, and of a number what it says.
 #[derive(Clone, Copy)]
@@ -30,7 +30,7 @@ pub struct Found {
     pub next: usize,
 }
 
-fn place_in(n: usize, t: Read<usize>) -> usize
+fn place_in(n: usize, t: OrFault<usize>) -> usize
     ensures { result ≡ place_in n t }
 {
     match t {
@@ -124,7 +124,7 @@ pub fn find_statement(classes: &[u8; 256], d: &[u8], n: usize, w: &[u8]) -> Foun
     find_here(classes, d, g, w)
 }
 
-fn number_in(n: Read<Figures>) -> Span
+fn number_in(n: OrFault<Figures>) -> Span
     ensures { result ≡ number_in n }
 {
     match n {
@@ -158,7 +158,7 @@ fn quote_before(n: usize) -> usize
     if n == 0 { 0 } else { n - 1 }
 }
 
-fn phrase_in(p: Read<Quoted>) -> Span
+fn phrase_in(p: OrFault<Quoted>) -> Span
     ensures { result ≡ phrase_in p }
 {
     match p {

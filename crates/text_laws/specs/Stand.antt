@@ -19,7 +19,7 @@ use Rattle.marks.proofs.Levels.{Ahead, by_past, string_ahead}
 use Rattle.tokens.specs.declared.Choice.{Choice}
 use Rattle.tokens.specs.declared.Choice.TheVariants.{Taken, Left}
 use Rattle.tokens.specs.declared.Quoted.{Quoted}
-use Rattle.tokens.specs.rule.Gap.{fault, Read}
+use Rattle.tokens.specs.rule.Gap.{fault, OrFault}
 use Rattle.tokens.specs.Gap.{gap_on}
 use Rattle.tokens.specs.Token.{choice_of, word_on, word_here, value_here, past_value, of_skip, string_in, phrase_on, string_on, past_string}
 use Rattle.statements.specs.declared.Typed.{Typed}
@@ -102,10 +102,10 @@ module _ (d : List ℕ) where
     by true (Bad o) i h e = none cc
     by false k i h e = none cc
 
-  string_stands : (t : Read ℕ) (q : Quoted) → string_on d t ≡ Ok q → Stands q
+  string_stands : (t : OrFault ℕ) (q : Quoted) → string_on d t ≡ Ok q → Stands q
   unfolding string_on
   string_stands t q = by (gap_on d t) where
-    by : (g : Read ℕ) → phrase_on g (λ n. string_in (text d n)) ≡ Ok q → Stands q
+    by : (g : OrFault ℕ) → phrase_on g (λ n. string_in (text d n)) ≡ Ok q → Stands q
     by (Ok n) e = string_in_lem (from_text d n) q e
     by (Err f) e = none cc
 
@@ -113,7 +113,7 @@ module _ (d : List ℕ) where
   abbrev pub LineStands : Said → Type 0
   LineStands s = Stands s.text
 
-  said_text : (a : Read Value) (q : Read Quoted) (n : ℕ) (end : Read ℕ) (s : Said) → said_of a q n end ≡ Ok s → q ≡ Ok s.text
+  said_text : (a : OrFault Value) (q : OrFault Quoted) (n : ℕ) (end : OrFault ℕ) (s : Said) → said_of a q n end ≡ Ok s → q ≡ Ok s.text
   unfolding said_of
   said_text (Err f) q n end s e = none cc
   said_text (Ok v) (Err f) n end s e = none cc
@@ -121,7 +121,7 @@ module _ (d : List ℕ) where
   said_text (Ok v) (Ok q) n (Ok m) s e = let j : record { value = v; text = q; special = n; next = m } ≡ s = cc in rw
       (← j) refl
 
-  line_stands : (a : Read Value) (s : Said) → line_rest d a ≡ Ok s → LineStands s
+  line_stands : (a : OrFault Value) (s : Said) → line_rest d a ≡ Ok s → LineStands s
   unfolding line_rest
   line_stands a s = by (choice_of d (gap_on d (past_string (string_on d (past_value a)))) SPECIAL) where
     by : (k : Choice) → special_or a (string_on d (past_value a)) (gap_on d (past_string (string_on d (past_value a)))) k ≡ Ok s
@@ -152,12 +152,12 @@ module _ (d : List ℕ) where
     again : (s s' : Listing) → Each LineStands s.lines → line_step d quantity first s ≡ Again s' → Each LineStands s'.lines
     unfolding line_step
     again s s' h = by (line_rest d s.amount) refl where
-      judged : (x : Said) (v : Read ℤ) → LineStands x → judged_step d s x v ≡ Again s' → Each LineStands s'.lines
+      judged : (x : Said) (v : OrFault ℤ) → LineStands x → judged_step d s x v ≡ Again s' → Each LineStands s'.lines
       judged x (Ok z) k e = turned (s.lines ++ x ∷ []) (more_of d (grown_by s.block x.value) x.next) s'
           (each_more x h k) e
       judged x (Err f) k e = none cc
 
-      by : (r : Read Said) → line_rest d s.amount ≡ r → read_step d quantity first s r ≡ Again s' → Each LineStands s'.lines
+      by : (r : OrFault Said) → line_rest d s.amount ≡ r → read_step d quantity first s r ≡ Again s' → Each LineStands s'.lines
       by (Ok x) i e = judged x (judge_line (number_at s.lines) (length s.lines) first quantity s.block x.value)
           (line_stands s.amount x i) e
       by (Err f) i e = none cc
@@ -165,16 +165,16 @@ module _ (d : List ℕ) where
     done : (s : Listing) (g : Given) → Each LineStands s.lines → line_step d quantity first s ≡ Done g → LinesStand g
     unfolding line_step
     done s g h = by (line_rest d s.amount) refl where
-      judged : (x : Said) (v : Read ℤ) → LineStands x → judged_step d s x v ≡ Done g → LinesStand g
+      judged : (x : Said) (v : OrFault ℤ) → LineStands x → judged_step d s x v ≡ Done g → LinesStand g
       judged x (Ok z) k e = over (s.lines ++ x ∷ []) (more_of d (grown_by s.block x.value) x.next) g (each_more x h k) e
       judged x (Err f) k e = let j : given.Not f ≡ g = cc in rw (← j) (no_lines f)
 
-      by : (r : Read Said) → line_rest d s.amount ≡ r → read_step d quantity first s r ≡ Done g → LinesStand g
+      by : (r : OrFault Said) → line_rest d s.amount ≡ r → read_step d quantity first s r ≡ Done g → LinesStand g
       by (Ok x) i e = judged x (judge_line (number_at s.lines) (length s.lines) first quantity s.block x.value)
           (line_stands s.amount x i) e
       by (Err f) i e = let j : given.Not f ≡ g = cc in rw (← j) (no_lines f)
 
-    from_none : (a : Read Value) (b : Block) → LinesStand (lines_from d quantity first (state_of a b []))
+    from_none : (a : OrFault Value) (b : Block) → LinesStand (lines_from d quantity first (state_of a b []))
     unfolding lines_from
     from_none a b = loop_keeps (line_step d quantity first) (given.Not (fault 0 0))
         (λ s. Each LineStands s.lines) LinesStand again done (no_lines (fault 0 0)) (suc (4096 - (first + 0))) (state_of a b []) (nil)
@@ -183,7 +183,7 @@ module _ (d : List ℕ) where
     unfolding range_then closed_by
     ranged_stand (ranged.Not f) = no_lines f
     ranged_stand (ranged.Is b with n) = by with where
-      shut : (t : Read ℕ) → LinesStand (closed_by b t)
+      shut : (t : OrFault ℕ) → LinesStand (closed_by b t)
       shut (Ok m) = record { lines_stand = λ {l = l} e. let i : [] ≡ l = cc in rw (← i) (nil) }
       shut (Err f) = no_lines f
 
@@ -192,11 +192,11 @@ module _ (d : List ℕ) where
       by true = from_none (value_here d (notes_on d (Ok n))) b
       by false = shut (word_on d (word_here d (notes_on d (Ok n)) END) VALUES)
 
-    values_stand : (t : Read ℕ) → LinesStand (values_on d quantity first t)
+    values_stand : (t : OrFault ℕ) → LinesStand (values_on d quantity first t)
     unfolding values_on
     values_stand t = by (value_here d (notes_on d (statement_on d t VALUES)))
         (choice_of d (gap_on d (past_value (value_here d (notes_on d (statement_on d t VALUES))))) TO) where
-          by : (a : Read Value) (k : Choice) → LinesStand (to_or d quantity first a k)
+          by : (a : OrFault Value) (k : Choice) → LinesStand (to_or d quantity first a k)
           by a (Taken m) = ranged_stand (range_rest d quantity a (Ok m))
           by a Left = from_none a empty_block
 
@@ -207,7 +207,7 @@ module _ (d : List ℕ) where
   no_telling : (f : _) → TellingStands (told.Not f)
   no_telling f = record { telling_stands = λ e. none cc }
 
-  values_rest_lem : (quantity : Bool) (first : ℕ) (t : Read ℕ) (count width : ℕ)
+  values_rest_lem : (quantity : Bool) (first : ℕ) (t : OrFault ℕ) (count width : ℕ)
       → TellingStands (values_rest d quantity first t count width)
   unfolding values_rest join_values
   values_rest_lem quantity first t count width = by (values_on d quantity first t) (values_stand quantity first t) where
@@ -219,10 +219,10 @@ module _ (d : List ℕ) where
     }
     by (given.Not f) h = no_telling f
 
-  spread_rest_lem : (first : ℕ) (t : Read ℕ) (w : ℕ) → TellingStands (spread_then d first t w)
+  spread_rest_lem : (first : ℕ) (t : OrFault ℕ) (w : ℕ) → TellingStands (spread_then d first t w)
   unfolding spread_then
   spread_rest_lem first t w = by (choice_of d (notes_on d t) SPREAD) where
-    spread : (s : Read Subfields) → TellingStands (spread_or d first s)
+    spread : (s : OrFault Subfields) → TellingStands (spread_or d first s)
     spread (Ok s) = values_rest_lem false first (Ok s.next) s.count s.width
     spread (Err f) = no_telling f
 
@@ -230,7 +230,7 @@ module _ (d : List ℕ) where
     by (Taken m) = spread (spread_rest d (Ok m) w)
     by Left = values_rest_lem false first (notes_on d t) 0 0
 
-  size_rest : (x : Read Figures) → TellingStands (join_size x)
+  size_rest : (x : OrFault Figures) → TellingStands (join_size x)
   unfolding join_size
   size_rest (Ok y) = record {
     telling_stands = λ {x} e.
@@ -239,7 +239,7 @@ module _ (d : List ℕ) where
   }
   size_rest (Err f) = no_telling f
 
-  nothing_rest : (t : Read ℕ) → TellingStands (join_nothing t)
+  nothing_rest : (t : OrFault ℕ) → TellingStands (join_nothing t)
   unfolding join_nothing
   nothing_rest (Ok n) = record {
     telling_stands = λ {x} e.
@@ -247,7 +247,7 @@ module _ (d : List ℕ) where
   }
   nothing_rest (Err f) = no_telling f
 
-  rest_stands : (first kind : ℕ) (t : Read ℕ) (w : ℕ) → TellingStands (rest_of d first kind t w)
+  rest_stands : (first kind : ℕ) (t : OrFault ℕ) (w : ℕ) → TellingStands (rest_of d first kind t w)
   unfolding rest_of
   rest_stands first kind t w = by (eqb kind 1) (eqb kind 2) (eqb kind 3) (eqb kind 4) where
     by : (a b c e : Bool) → TellingStands (cond a (values_rest d false first t 0 0)
@@ -264,10 +264,10 @@ module _ (d : List ℕ) where
     pub label_stands : Stands v.head.label
     pub lines_stand : Each LineStands (lines_in v)
 
-  head_stands : (i : Read Figures) (h : Head) → head_on d i ≡ Ok h → Stands h.name × Stands h.label
+  head_stands : (i : OrFault Figures) (h : Head) → head_on d i ≡ Ok h → Stands h.name × Stands h.label
   unfolding head_on text_on join_head join_titles
   head_stands i h e = by _ _ i _ _ _ _ refl refl e where
-    by : (t u : Read ℕ) (j : Read Figures) (n l : Read Quoted) (k : Typed) (p : Read Position) → string_on d t ≡ n → string_on d u ≡ l
+    by : (t u : OrFault ℕ) (j : OrFault Figures) (n l : OrFault Quoted) (k : Typed) (p : OrFault Position) → string_on d t ≡ n → string_on d u ≡ l
         → join_head (join_titles j n l) k p ≡ Ok h → Stands h.name × Stands h.label
     by t u (Err f) n l k p a b g = none cc
     by t u (Ok x) (Err f) l k p a b g = none cc
@@ -288,7 +288,7 @@ module _ (d : List ℕ) where
         ≡ h = cc in
         rw (← j) (string_stands t n a, string_stands u l b)
 
-  entry_stands : (t : Read ℕ) (met : ℕ → Bool) (count before : ℕ) (v : Variable) (n : ℕ) → entry_of d t met count before ≡ entry.Is v n
+  entry_stands : (t : OrFault ℕ) (met : ℕ → Bool) (count before : ℕ) (v : Variable) (n : ℕ) → entry_of d t met count before ≡ entry.Is v n
       → VariableStands v
   unfolding entry_of rest_then held_by
   entry_stands t met count before v n = by (head_on d (ident_on d t met count)) refl where
@@ -302,11 +302,11 @@ module _ (d : List ℕ) where
           rw (← j) (record { name_stands = a.0; label_stands = a.1; lines_stand = b.telling_stands refl })
       held false m e = none cc
 
-      ends : (r : Read ℕ) → ended r (λ m. held_by before (variable h x) m) ≡ entry.Is v n → VariableStands v
+      ends : (r : OrFault ℕ) → ended r (λ m. held_by before (variable h x) m) ≡ entry.Is v n → VariableStands v
       ends (Ok m) e = held (holds_in before (variable h x)) m e
       ends (Err f) e = none cc
 
-    by : (r : Read Head) → head_on d (ident_on d t met count) ≡ r → head_then r (rest_then d before) ≡ entry.Is v n → VariableStands v
+    by : (r : OrFault Head) → head_on d (ident_on d t met count) ≡ r → head_then r (rest_then d before) ≡ entry.Is v n → VariableStands v
     by (Err f) i e = none cc
     by (Ok h) i e = told_by h (rest_of d before h.kind (Ok h.next) (h.finish + 1 - h.start))
         (head_stands (ident_on d t met count) h i) (rest_stands before h.kind (Ok h.next) (h.finish + 1 - h.start)) e
@@ -348,7 +348,7 @@ module _ (d : List ℕ) where
       by (entry.Is v n) i e = choice v n (choice_of d (notes_on d (Ok n)) END) (grown v n i) e
       by (entry.Not f) i e = let j : variables.Not f ≡ a = cc in rw (← j) (record { all_stand = λ q. none cc })
 
-  variables_stand : (t : Read ℕ) → AllStand (variables_from d (course t []))
+  variables_stand : (t : OrFault ℕ) → AllStand (variables_from d (course t []))
   unfolding variables_from
   variables_stand t = loop_keeps (variable_step d) (variables.Not (fault 0 0)) (λ s. Each VariableStands s.earlier) AllStand
       (λ s s' h e. next_course s h s' e) (λ s a h e. last_course s h a e) (record { all_stand = λ q. none cc }) (suc (512 - 0))
@@ -357,7 +357,7 @@ module _ (d : List ℕ) where
   survey_stands : (s : Survey) → survey_of d ≡ Whole s → Each VariableStands s.variables
   unfolding survey_of
   survey_stands s = by (variables_from d (course (front_on d).next [])) refl where
-    ends : (v : List Variable) (r : Read ℕ) → Each VariableStands v → variables.ended (front_on d) v r ≡ Whole s
+    ends : (v : List Variable) (r : OrFault ℕ) → Each VariableStands v → variables.ended (front_on d) v r ≡ Whole s
         → Each VariableStands s.variables
     ends v (Ok k) g e = let j : record { front = front_on d; variables = v } ≡ s = cc in rw (← j) g
     ends v (Err f) g e = none cc

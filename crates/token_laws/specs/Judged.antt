@@ -9,7 +9,7 @@ use Rattle.std.proofs.Math.Dec.{eqb, ltb}
 use borrow.Author.Tests.{eqb-true, eqb-false, ltb-true, ltb-false}
 use Rattle.tokens.specs.declared.Fault.{Fault}
 use Rattle.tokens.specs.declared.Figures.{Figures}
-use Rattle.tokens.specs.rule.Gap.{fault, Read}
+use Rattle.tokens.specs.rule.Gap.{fault, OrFault}
 use Rattle.statements.specs.Position.{true_of, below_of, judge_position}
 use Rattle.statements.specs.Spread.{judge_of, judge_even}
 use Rattle.statements.specs.Size.{judge_size}
@@ -73,7 +73,7 @@ pub data SizeFault (n : Figures) : Fault → Type 0 where
 
 -- ---- the answers
 module _ (d : List ℕ) (a b : Figures) (n : ℕ) (order : a.place ≤ b.place) where
-  abbrev PositionSays : Read Position → Type 0
+  abbrev PositionSays : OrFault Position → Type 0
   PositionSays =
       Says (PositionFault d a b) (Ok (record { start = a.size; finish = b.size; place = a.place; next = n })) Err
 
@@ -115,11 +115,11 @@ module _ (d : List ℕ) (a b : Figures) (n : ℕ) (order : a.place ≤ b.place) 
       on i (start_far x) = let y = ltb-false 16384 a.size g in omega arith
       on i (finish_far x) = let y = ltb-false 16384 b.size h in omega arith
 
-  pub position_exactly : (r : Read Position) → (judge_position (below_of d b a) a b n ≡ r) ↔ PositionSays r
+  pub position_exactly : (r : OrFault Position) → (judge_position (below_of d b a) a b n ≡ r) ↔ PositionSays r
   position_exactly r = (λ e. rw e at position_says, says_once position_says)
 
 module _ (n w : Figures) (next : ℕ) (order : n.place ≤ w.place) where
-  abbrev SpreadSays : Read Subfields → Type 0
+  abbrev SpreadSays : OrFault Subfields → Type 0
   SpreadSays = Says (SpreadFault n w) (Ok (record { count = n.size; width = w.size; next = next })) Err
 
   spread_says : SpreadSays (judge_of n w next)
@@ -141,12 +141,12 @@ module _ (n w : Figures) (next : ℕ) (order : n.place ≤ w.place) where
       on i (SpreadFault.count_0 x) = eqb-false n.size 0 e x
       on i (width_0 x) = eqb-false w.size 0 f x
 
-  pub spread_exactly : (r : Read Subfields) → (judge_of n w next ≡ r) ↔ SpreadSays r
+  pub spread_exactly : (r : OrFault Subfields) → (judge_of n w next ≡ r) ↔ SpreadSays r
   spread_exactly r = (λ e. rw e at spread_says, says_once spread_says)
 
 module _ (n : Figures) where
   module _ (width next : ℕ) where
-    abbrev EvenSays : Read Subfields → Type 0
+    abbrev EvenSays : OrFault Subfields → Type 0
     EvenSays = Says (EvenFault n width) (Ok (record { count = n.size; width = width / n.size; next = next })) Err
 
     even_says : EvenSays (judge_even n width next)
@@ -167,10 +167,10 @@ module _ (n : Figures) where
         none i (EvenFault.count_0 x) = eqb-false n.size 0 e x
         none i (inexact x) = x (eqb-true (width % n.size) 0 f)
 
-    pub even_exactly : (r : Read Subfields) → (judge_even n width next ≡ r) ↔ EvenSays r
+    pub even_exactly : (r : OrFault Subfields) → (judge_even n width next ≡ r) ↔ EvenSays r
     even_exactly r = (λ e. rw e at even_says, says_once even_says)
 
-  abbrev SizeSays : Read Figures → Type 0
+  abbrev SizeSays : OrFault Figures → Type 0
   SizeSays = Says (SizeFault n) (Ok n) Err
 
   size_says : SizeSays (judge_size (Ok n))
@@ -191,5 +191,5 @@ module _ (n : Figures) where
       on i (size_0 x) = eqb-false n.size 0 e x
       on i (too_large x) = let y = ltb-false 4096 n.size f in omega arith
 
-  pub size_exactly : (r : Read Figures) → (judge_size (Ok n) ≡ r) ↔ SizeSays r
+  pub size_exactly : (r : OrFault Figures) → (judge_size (Ok n) ≡ r) ↔ SizeSays r
   size_exactly r = (λ e. rw e at size_says, says_once size_says)

@@ -17,7 +17,7 @@ use Rattle.statements.specs.rule.Words.{LABEL, TYPE, SINGLE, MULTIPLE, QUANTITY,
 use Rattle.statements.specs.rule.Words.{WITH, SPECIAL, END, NOTE, ONE-ONE}
 use Rattle.scan.proofs.Keywords.{word_exactly}
 use Rattle.scan.proofs.Texts.{From, at_stop, at_sign, from_text}
-use Rattle.tokens.specs.rule.Gap.{fault, Read}
+use Rattle.tokens.specs.rule.Gap.{fault, OrFault}
 use Rattle.tokens.specs.Gap.{then, spaces_on}
 use Rattle.tokens.specs.Token.{of_word, word_here}
 use Rattle.statements.specs.Opening.{whole, version_here, opening_of}
@@ -84,7 +84,7 @@ pub data Goes (d : List ℕ) (n : ℕ) : Type 0 where
 
 -- what the opening says: 1.1, with what is read next behind it; or 2 at what stands where SSS, VERSION or a run is due; or 4 at a run that
 -- is not 1.1
-pub data Opens (d : List ℕ) : Read ℕ → Type 0 where
+pub data Opens (d : List ℕ) : OrFault ℕ → Type 0 where
   one_one : {a p : ℕ} → Goes d a → Spaces d a p → run_bytes is_value (text d p) ≡ ONE-ONE → Opens d (Ok (run_of is_value p (text d p)))
   sss_due : ((n : ℕ) → Begins d n → ⊥) → Opens d (Err (fault 2 (place_of (text d 0))))
   version_due : {a p : ℕ} → Begins d a → Spaces d a p → ((n : ℕ) → Written VERSION p (text d p) n → ⊥) → Opens d (Err (fault 2 p))
@@ -253,7 +253,7 @@ module _ (d : List ℕ) where
   not_there p w k f (Matched n) e = absurd (f n ((word_exactly d p n w k).0 e))
   not_there p w k f Not e = refl
 
-  complete : {r : Read ℕ} → Opens d r → opening_of d ≡ r
+  complete : {r : OrFault ℕ} → Opens d r → opening_of d ≡ r
   unfolding opening_of word_here spaces_on
   complete (one_one {p = p} (version {p = q} b s w) s' e) =
       rw (sss_at b, spaces_complete d s, version_at _ q w, spaces_complete d s') (run_one_one p e)
@@ -295,5 +295,5 @@ module _ (d : List ℕ) where
     by (Matched a) e = from_sss a (begun a e) (word_at d (behind d a) VERSION) refl
     by Not e = sss_due (λ n b. never (sym e ∙ sss_at b))
 
-  pub opening_exactly : (r : Read ℕ) → (opening_of d ≡ r) ↔ Opens d r
+  pub opening_exactly : (r : OrFault ℕ) → (opening_of d ≡ r) ↔ Opens d r
   opening_exactly r = (λ e. rw e at sound, complete)

@@ -19,7 +19,7 @@ use Rattle.marks.proofs.Levels.{ahead, comment_ahead}
 use Rattle.marks.proofs.Comments.{comment_exactly}
 use Rattle.tokens.specs.declared.Choice.TheVariants.{Taken}
 use Rattle.tokens.specs.declared.Figures.{Figures}
-use Rattle.tokens.specs.rule.Gap.{fault, gap_at, Read}
+use Rattle.tokens.specs.rule.Gap.{fault, gap_at, OrFault}
 use Rattle.tokens.specs.Gap.{gap_on}
 use Rattle.tokens.specs.Token.{of_choice, choice_of, of_digits, number_here, number_on}
 use Rattle.token_laws.specs.Gaps.{Gap, none, space, comment, Behind, token, ended, gap_exactly}
@@ -82,18 +82,18 @@ module _ (d : List ℕ) where
         let n : run_of is_digit k (text d k) ≡ x.next = ap (λ (y : Figures). y.next) j in
         (sym (ap (λ (y : Figures). y.place) j), omega (arith, run_ahead d is_digit (from_text d k)))
 
-  number_later : (g : Read ℕ) (x : Figures) → number_here d g ≡ Ok x → (k : ℕ) × (g ≡ Ok k) × (x.place ≡ k) × (k ≤ x.next)
+  number_later : (g : OrFault ℕ) (x : Figures) → number_here d g ≡ Ok x → (k : ℕ) × (g ≡ Ok k) × (x.place ≡ k) × (k ≤ x.next)
   unfolding number_here
   number_later (Ok k) x e = let h = number_at k x e in (k, refl, h.0, h.1)
   number_later (Err f) x e = let z : ◌≡◌ {A = ℕ} 0 1 = cc in absurd (omega arith)
 
-  taken_later : (g : Read ℕ) (w : List ℕ) (m : ℕ) → choice_of d g w ≡ Taken m → (k : ℕ) × (g ≡ Ok k) × (k ≤ m)
+  taken_later : (g : OrFault ℕ) (w : List ℕ) (m : ℕ) → choice_of d g w ≡ Taken m → (k : ℕ) × (g ≡ Ok k) × (k ≤ m)
   unfolding choice_of
   taken_later (Ok k) w m e = (k, refl, choice_later k w m e)
   taken_later (Err f) w m e = let z : ◌≡◌ {A = ℕ} 0 1 = cc in absurd (omega arith)
 
   -- IN ORDER: a number x, a word w that is taken behind it, and a number y behind that
-  pub pair_ordered : (t : Read ℕ) (w : List ℕ) (m : ℕ) (x y : Figures) → number_on d t ≡ Ok x
+  pub pair_ordered : (t : OrFault ℕ) (w : List ℕ) (m : ℕ) (x y : Figures) → number_on d t ≡ Ok x
       → choice_of d (gap_on d (Ok x.next)) w ≡ Taken m → number_on d (Ok m) ≡ Ok y → x.place ≤ y.place
   unfolding number_on gap_on
   pair_ordered t w m x y e f h =

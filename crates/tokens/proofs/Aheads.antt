@@ -25,7 +25,7 @@ use Rattle.marks.specs.rule.Marks.{comment_of, inside_of, moved, string_of}
 use Rattle.marks.proofs.Levels.{Ahead, by_past, string_ahead}
 use Rattle.tokens.specs.declared.Choice.TheVariants.{Taken}
 use Rattle.tokens.specs.declared.Quoted.{Quoted}
-use Rattle.tokens.specs.rule.Gap.{fault, gap_skip, gap_step, gap_at, Read}
+use Rattle.tokens.specs.rule.Gap.{fault, gap_skip, gap_step, gap_at, OrFault}
 use Rattle.tokens.specs.Gap.{gap_on, left}
 use Rattle.tokens.specs.Token.{of_word, word_here, word_on, of_choice, choice_of, of_skip, phrase_on, string_in, string_on, past_string}
 use Rattle.tokens.proofs.Gaps.{gap_less, gap_again, gap_done}
@@ -58,7 +58,7 @@ module _ (d : List ℕ) where
         by false ih e = let z : ◌≡◌ {A = ℕ} 0 1 = cc in absurd (omega arith)
 
   -- a word that was taken: less is left
-  pub taken_less : (t : Read ℕ) (x : ℕ) (w : List ℕ) {m : ℕ} → choice_of d t (x ∷ w) ≡ Taken m → left d (Ok m) < left d t
+  pub taken_less : (t : OrFault ℕ) (x : ℕ) (w : List ℕ) {m : ℕ} → choice_of d t (x ∷ w) ≡ Taken m → left d (Ok m) < left d t
   unfolding choice_of left word_at
   taken_less (Ok n) x w {m} e = by (word_of n (text d n) (x ∷ w)) refl e where
     by : (r : Word) → word_of n (text d n) (x ∷ w) ≡ r → of_choice r ≡ Taken m → suc (length d - m) < suc (length d - n)
@@ -67,7 +67,7 @@ module _ (d : List ℕ) where
   taken_less (Err f) x w e = let z : ◌≡◌ {A = ℕ} 0 1 = cc in absurd (omega arith)
 
   -- ---- gaps
-  step_done : (at : ℕ) (t : Text) → at ≤ place_of t → (r : Read ℕ) → gap_step t ≡ Done r → left d r ≤ left d (Ok at)
+  step_done : (at : ℕ) (t : Text) → at ≤ place_of t → (r : OrFault ℕ) → gap_step t ≡ Done r → left d r ≤ left d (Ok at)
   unfolding gap_step left place_of
   step_done at (stop p) h r e = let q : Ok p ≡ r = cc in rw (← q) (omega arith)
   step_done at (sign p b u) h r e = by (is_space b) (eqb b 60) (comment_of 1 u) e where
@@ -82,12 +82,12 @@ module _ (d : List ℕ) where
   unfolding left
   gap_within zero n h = absurd (omega arith)
   gap_within (suc f) n h = by (gap_step (text d n)) refl (gap_within f) where
-    by : (s : Next ℕ (Read ℕ)) → gap_step (text d n) ≡ s → ((m : ℕ) → length d - m < f → left d (gap_at d m) ≤ left d (Ok m))
+    by : (s : Next ℕ (OrFault ℕ)) → gap_step (text d n) ≡ s → ((m : ℕ) → length d - m < f → left d (gap_at d m) ≤ left d (Ok m))
         → left d (gap_at d n) ≤ left d (Ok n)
     by (Again m) e ih = let l = gap_less d (from_text d n) e in let k = ih m (omega arith) in rw (gap_again d n e) (omega arith)
     by (Done r) e ih = rw (gap_done d n e) (step_done n (text d n) (place_from d n) r e)
 
-  pub gap_left : (t : Read ℕ) → left d (gap_on d t) ≤ left d t
+  pub gap_left : (t : OrFault ℕ) → left d (gap_on d t) ≤ left d t
   unfolding gap_on
   gap_left (Ok n) = gap_within (suc (length d - n)) n (omega arith)
   gap_left (Err f) = omega arith
@@ -103,10 +103,10 @@ module _ (d : List ℕ) where
     by true (Bad o) h = omega arith
     by false k h = omega arith
 
-  pub string_left : (t : Read ℕ) → left d (past_string (string_on d t)) ≤ left d t
+  pub string_left : (t : OrFault ℕ) → left d (past_string (string_on d t)) ≤ left d t
   unfolding string_on past_string left
   string_left t = by (gap_on d t) (gap_left t) where
-    by : (g : Read ℕ) → left d g ≤ left d t → left d (past_string (phrase_on g λ n. string_in (text d n))) ≤ left d t
+    by : (g : OrFault ℕ) → left d g ≤ left d t → left d (past_string (phrase_on g λ n. string_in (text d n))) ≤ left d t
     by (Ok n) h = let k = string_in_lem n (from_text d n) in omega arith
     by (Err f) h = omega arith
 
@@ -135,10 +135,10 @@ module _ (d : List ℕ) where
     by true (Bad o) i e = let z : ◌≡◌ {A = ℕ} 0 1 = cc in absurd (omega arith)
     by false k i e = let z : ◌≡◌ {A = ℕ} 0 1 = cc in absurd (omega arith)
 
-  pub quoted_within : (t : Read ℕ) (q : Quoted) → string_on d t ≡ Ok q → (q.place ≤ length d) × (q.length ≤ length d)
+  pub quoted_within : (t : OrFault ℕ) (q : Quoted) → string_on d t ≡ Ok q → (q.place ≤ length d) × (q.length ≤ length d)
   unfolding string_on
   quoted_within t q = by (gap_on d t) where
-    by : (g : Read ℕ) → phrase_on g (λ n. string_in (text d n)) ≡ Ok q → (q.place ≤ length d) × (q.length ≤ length d)
+    by : (g : OrFault ℕ) → phrase_on g (λ n. string_in (text d n)) ≡ Ok q → (q.place ≤ length d) × (q.length ≤ length d)
     by (Ok n) e = quoted_in (from_text d n) q e
     by (Err f) e = let z : ◌≡◌ {A = ℕ} 0 1 = cc in absurd (omega arith)
 
@@ -153,15 +153,15 @@ module _ (d : List ℕ) where
     by true (Bad o) h e = let z : ◌≡◌ {A = ℕ} 0 1 = cc in absurd (omega arith)
     by false k h e = let z : ◌≡◌ {A = ℕ} 0 1 = cc in absurd (omega arith)
 
-  pub string_next : (t : Read ℕ) (q : Quoted) → string_on d t ≡ Ok q → 2 ≤ q.next
+  pub string_next : (t : OrFault ℕ) (q : Quoted) → string_on d t ≡ Ok q → 2 ≤ q.next
   unfolding string_on
   string_next t q = by (gap_on d t) where
-    by : (g : Read ℕ) → phrase_on g (λ n. string_in (text d n)) ≡ Ok q → 2 ≤ q.next
+    by : (g : OrFault ℕ) → phrase_on g (λ n. string_in (text d n)) ≡ Ok q → 2 ≤ q.next
     by (Ok n) e = next_in (from_text d n) q e
     by (Err f) e = let z : ◌≡◌ {A = ℕ} 0 1 = cc in absurd (omega arith)
 
   -- ---- a word that is due
-  word_here_lem : (t : Read ℕ) (x : ℕ) (w : List ℕ) → left d (word_here d t (x ∷ w)) ≤ left d t
+  word_here_lem : (t : OrFault ℕ) (x : ℕ) (w : List ℕ) → left d (word_here d t (x ∷ w)) ≤ left d t
   unfolding word_here word_at left
   word_here_lem (Ok n) x w = by (word_of n (text d n) (x ∷ w)) refl where
     by : (r : Word) → word_of n (text d n) (x ∷ w) ≡ r → left d (of_word n r) ≤ suc (length d - n)
@@ -169,6 +169,6 @@ module _ (d : List ℕ) where
     by Not f = omega arith
   word_here_lem (Err f) x w = omega arith
 
-  pub word_left : (t : Read ℕ) (x : ℕ) (w : List ℕ) → left d (word_on d t (x ∷ w)) ≤ left d t
+  pub word_left : (t : OrFault ℕ) (x : ℕ) (w : List ℕ) → left d (word_on d t (x ∷ w)) ≤ left d t
   unfolding word_on
   word_left t x w = omega (arith, word_here_lem (gap_on d t) x w, gap_left t)

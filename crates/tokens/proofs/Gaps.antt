@@ -17,16 +17,16 @@ use Rattle.scan.proofs.Loops.{loop_again, loop_done}
 use Rattle.marks.specs.declared.Skip.{Skip}
 use Rattle.marks.proofs.Levels.{Ahead, by_past, by_none, by_bad, comment_ahead}
 use Rattle.tokens.specs.declared.Pace.TheVariants.{On, Over}
-use Rattle.tokens.specs.rule.Gap.{gap_skip, gap_step, gap_at, Read}
+use Rattle.tokens.specs.rule.Gap.{gap_skip, gap_step, gap_at, OrFault}
 use Rattle.tokens.specs.Gap.{pace_of}
 
 -- what the code's step says of the step
-pub pace_on : {s : Next ℕ (Read ℕ)} {n : ℕ} → pace_of s ≡ On n → s ≡ Again n
+pub pace_on : {s : Next ℕ (OrFault ℕ)} {n : ℕ} → pace_of s ≡ On n → s ≡ Again n
 unfolding pace_of
 pace_on {s = Again m} e = cc
 pace_on {s = Done r} e = let z : ◌≡◌ {A = ℕ} 0 1 = cc in absurd (omega arith)
 
-pub pace_over : {s : Next ℕ (Read ℕ)} {r : Read ℕ} → pace_of s ≡ Over r → s ≡ Done r
+pub pace_over : {s : Next ℕ (OrFault ℕ)} {r : OrFault ℕ} → pace_of s ≡ Over r → s ≡ Done r
 unfolding pace_of
 pace_over {s = Again m} e = let z : ◌≡◌ {A = ℕ} 0 1 = cc in absurd (omega arith)
 pace_over {s = Done r} e = cc
@@ -54,14 +54,14 @@ module _ (d : List ℕ) (n : ℕ) where
   unfolding gap_at
   gap_again e = loop_again (λ n. gap_step (text d n)) (Ok 0) (λ n. length d - n) (λ s s'. gap_less d (from_text d s)) e
 
-  pub gap_done : {g : Read ℕ} → gap_step (text d n) ≡ Done g → gap_at d n ≡ g
+  pub gap_done : {g : OrFault ℕ} → gap_step (text d n) ≡ Done g → gap_at d n ≡ g
   unfolding gap_at
   gap_done e = loop_done (λ n. gap_step (text d n)) (Ok 0) (λ n. length d - n) (λ s s'. gap_less d (from_text d s)) e
 
 -- ---- a byte of 32 or below at n is passed: the gap from the next place on ends as it does
 gap_same : (d : List ℕ) (n m : ℕ) → text d n ≡ text d m → gap_at d n ≡ gap_at d m
 gap_same d n m e = by (gap_step (text d n)) refl where
-  by : (s : Next ℕ (Read ℕ)) → gap_step (text d n) ≡ s → gap_at d n ≡ gap_at d m
+  by : (s : Next ℕ (OrFault ℕ)) → gap_step (text d n) ≡ s → gap_at d n ≡ gap_at d m
   by (Again k) h = gap_again d n h ∙ sym (gap_again d m (ap gap_step (sym e) ∙ h))
   by (Done g) h = gap_done d n h ∙ sym (gap_done d m (ap gap_step (sym e) ∙ h))
 

@@ -19,21 +19,21 @@ use Rattle.tokens.specs.declared.Choice.{Choice}
 use Rattle.tokens.specs.declared.Choice.TheVariants.{Taken, Left}
 use Rattle.tokens.specs.declared.Mark.{Mark}
 use Rattle.tokens.specs.declared.Value.{Value}
-use Rattle.tokens.specs.rule.Gap.{fault, Read}
+use Rattle.tokens.specs.rule.Gap.{fault, OrFault}
 use Rattle.tokens.specs.Gap.{then, gap_on}
 use Rattle.tokens.specs.declared.Figures.{Figures}
 use Rattle.tokens.specs.declared.Quoted.{Quoted}
 
 -- ---- words
-abbrev pub of_word : ℕ → Word → Read ℕ
+abbrev pub of_word : ℕ → Word → OrFault ℕ
 of_word n (Matched m) = Ok m
 of_word n Not = Err (fault 2 n)
 
 -- a word that is due right here, and one behind a gap
-unfoldable pub word_here : List ℕ → Read ℕ → List ℕ → Read ℕ
+unfoldable pub word_here : List ℕ → OrFault ℕ → List ℕ → OrFault ℕ
 word_here d t w = then t λ n. of_word n (word_at d n w)
 
-unfoldable pub word_on : List ℕ → Read ℕ → List ℕ → Read ℕ
+unfoldable pub word_on : List ℕ → OrFault ℕ → List ℕ → OrFault ℕ
 word_on d t w = word_here d (gap_on d t) w
 
 -- a word that may stand right here
@@ -41,24 +41,24 @@ abbrev pub of_choice : Word → Choice
 of_choice (Matched m) = Taken m
 of_choice Not = Left
 
-unfoldable pub choice_of : List ℕ → Read ℕ → List ℕ → Choice
+unfoldable pub choice_of : List ℕ → OrFault ℕ → List ℕ → Choice
 choice_of d (Ok n) w = of_choice (word_at d n w)
 choice_of d (Err f) w = Left
 
 -- ---- numbers: the longest run of digits
-unfoldable pub of_digits : ℕ → Digits → Read Figures
+unfoldable pub of_digits : ℕ → Digits → OrFault Figures
 of_digits n r =
     cond (eqb r.count 0) (Err (fault 2 n))
     (Ok (record { size = r.size; count = r.count; place = n; next = r.next }))
 
-unfoldable pub number_here : List ℕ → Read ℕ → Read Figures
+unfoldable pub number_here : List ℕ → OrFault ℕ → OrFault Figures
 number_here d (Ok n) = of_digits n (digits_from 0 0 n (text d n))
 number_here d (Err f) = Err f
 
-unfoldable pub number_on : List ℕ → Read ℕ → Read Figures
+unfoldable pub number_on : List ℕ → OrFault ℕ → OrFault Figures
 number_on d t = number_here d (gap_on d t)
 
-unfoldable pub past_number : Read Figures → Read ℕ
+unfoldable pub past_number : OrFault Figures → OrFault ℕ
 past_number (Ok r) = Ok r.next
 past_number (Err f) = Err f
 
@@ -89,49 +89,49 @@ value_at d at =
       next = end;
     }
 
-unfoldable pub of_value : ℕ → Value → Read Value
+unfoldable pub of_value : ℕ → Value → OrFault Value
 of_value n v = cond (eqb v.next n) (Err (fault 2 n)) (Ok v)
 
-unfoldable pub value_here : List ℕ → Read ℕ → Read Value
+unfoldable pub value_here : List ℕ → OrFault ℕ → OrFault Value
 value_here d (Ok n) = of_value n (value_at d n)
 value_here d (Err f) = Err f
 
-unfoldable pub value_on : List ℕ → Read ℕ → Read Value
+unfoldable pub value_on : List ℕ → OrFault ℕ → OrFault Value
 value_on d t = value_here d (gap_on d t)
 
-unfoldable pub past_value : Read Value → Read ℕ
+unfoldable pub past_value : OrFault Value → OrFault ℕ
 past_value (Ok v) = Ok v.next
 past_value (Err f) = Err f
 
 -- ---- strings: the place is just after the opening quote at p, the length reaches to just before the closing one
-abbrev pub of_skip : ℕ → Skip → Read Quoted
+abbrev pub of_skip : ℕ → Skip → OrFault Quoted
 of_skip p (Past n) = Ok (record { place = p + 1; length = n - (p + 1) - 1; next = n })
 of_skip p Unclosed = Err (fault 3 p)
 of_skip p (Bad q) = Err (fault 3 q)
 
 -- from an opening quote at p to a closing one at m
-abbrev pub closed_at : ℕ → ℕ → Read Quoted
+abbrev pub closed_at : ℕ → ℕ → OrFault Quoted
 closed_at p m = Ok (record { place = p + 1; length = m - p - 1; next = m + 1 })
 
-unfoldable pub string_in : Text → Read Quoted
+unfoldable pub string_in : Text → OrFault Quoted
 string_in (stop p) = Err (fault 2 p)
 string_in (sign p b t) = cond (eqb b 34) (of_skip p (string_of Plain t)) (Err (fault 2 p))
 
-abbrev pub phrase_on : Read ℕ → (ℕ → Read Quoted) → Read Quoted
+abbrev pub phrase_on : OrFault ℕ → (ℕ → OrFault Quoted) → OrFault Quoted
 phrase_on (Ok n) k = k n
 phrase_on (Err f) k = Err f
 
-unfoldable pub string_on : List ℕ → Read ℕ → Read Quoted
+unfoldable pub string_on : List ℕ → OrFault ℕ → OrFault Quoted
 string_on d t = phrase_on (gap_on d t) λ n. string_in (text d n)
 
-unfoldable pub past_string : Read Quoted → Read ℕ
+unfoldable pub past_string : OrFault Quoted → OrFault ℕ
 past_string (Ok q) = Ok q.next
 past_string (Err f) = Err f
 
 -- ---- one letter
-unfoldable pub letter_in : Text → Read ℕ
+unfoldable pub letter_in : Text → OrFault ℕ
 letter_in (stop p) = Err (fault 2 p)
 letter_in (sign p b t) = cond (eqb (class_of b) 3) (Ok (p + 1)) (Err (fault 2 p))
 
-unfoldable pub letter_on : List ℕ → Read ℕ → Read ℕ
+unfoldable pub letter_on : List ℕ → OrFault ℕ → OrFault ℕ
 letter_on d t = then (gap_on d t) λ n. letter_in (text d n)

@@ -26,13 +26,13 @@ pub struct Fault {
 }
 
 // What a reader read, as where reading stands, or the refusal that ended it.
-pub type Read<T> = Result<T, Fault>;
+pub type OrFault<T> = Result<T, Fault>;
 
 // What stands at a place of a gap: a space or a comment, and the place after it; or the gap is over.
 #[derive(Clone, Copy)]
 pub enum Pace {
     On(usize),
-    Over(Read<usize>),
+    Over(OrFault<usize>),
 }
 
 fn step_gap(classes: &[u8; 256], d: &[u8], at: usize) -> Pace
@@ -178,7 +178,7 @@ fn token_at(d: &[u8], n: usize) -> bool
 }
 
 // The spaces and comments from a place on: the place of the token behind them.
-pub fn skip_gap(classes: &[u8; 256], d: &[u8], at: usize) -> Read<usize>
+pub fn skip_gap(classes: &[u8; 256], d: &[u8], at: usize) -> OrFault<usize>
     requires { Classes classes.now }
     ensures { result ≡ gap_at d.now at }
 {
@@ -200,7 +200,7 @@ pub fn skip_gap(classes: &[u8; 256], d: &[u8], at: usize) -> Read<usize>
 }
 
 // Most gaps have no comment: what has one is a call of its own.
-pub fn gap_on(classes: &[u8; 256], d: &[u8], t: Read<usize>) -> Read<usize>
+pub fn gap_on(classes: &[u8; 256], d: &[u8], t: OrFault<usize>) -> OrFault<usize>
     requires { Classes classes.now }
     ensures { result ≡ gap_on d.now t }
 {
@@ -219,7 +219,7 @@ pub fn gap_on(classes: &[u8; 256], d: &[u8], t: Read<usize>) -> Read<usize>
 }
 
 // Spaces alone: before the end of the VERSION statement no comment stands.
-pub fn spaces_on(classes: &[u8; 256], d: &[u8], t: Read<usize>) -> Read<usize>
+pub fn spaces_on(classes: &[u8; 256], d: &[u8], t: OrFault<usize>) -> OrFault<usize>
     requires { Classes classes.now }
     ensures { result ≡ spaces_on d.now t }
 {
@@ -233,7 +233,7 @@ pub fn spaces_on(classes: &[u8; 256], d: &[u8], t: Read<usize>) -> Read<usize>
 }
 
 // A word that is due right here.
-pub fn word_here(classes: &[u8; 256], d: &[u8], t: Read<usize>, w: &[u8]) -> Read<usize>
+pub fn word_here(classes: &[u8; 256], d: &[u8], t: OrFault<usize>, w: &[u8]) -> OrFault<usize>
     requires { Classes classes.now }
     ensures { result ≡ word_here d.now t w.now }
 {
@@ -249,7 +249,7 @@ pub fn word_here(classes: &[u8; 256], d: &[u8], t: Read<usize>, w: &[u8]) -> Rea
     }
 }
 
-pub fn word_on(classes: &[u8; 256], d: &[u8], t: Read<usize>, w: &[u8]) -> Read<usize>
+pub fn word_on(classes: &[u8; 256], d: &[u8], t: OrFault<usize>, w: &[u8]) -> OrFault<usize>
     requires { Classes classes.now }
     ensures { result ≡ word_on d.now t w.now }
 {
@@ -264,7 +264,7 @@ pub enum Choice {
     Left,
 }
 
-pub fn perhaps(classes: &[u8; 256], d: &[u8], t: Read<usize>, w: &[u8]) -> Choice
+pub fn perhaps(classes: &[u8; 256], d: &[u8], t: OrFault<usize>, w: &[u8]) -> Choice
     requires { Classes classes.now }
     ensures { result ≡ choice_of d.now t w.now }
 {
@@ -360,7 +360,7 @@ pub struct Figures {
 }
 
 // The same as number_here, whatever stands behind the digits.
-fn number_apart(classes: &[u8; 256], d: &[u8], n: usize) -> Read<Figures>
+fn number_apart(classes: &[u8; 256], d: &[u8], n: usize) -> OrFault<Figures>
     requires { Classes classes.now }
     ensures { result ≡ number_here d.now (Ok n) }
 {
@@ -379,7 +379,7 @@ fn number_apart(classes: &[u8; 256], d: &[u8], n: usize) -> Read<Figures>
     })
 }
 
-pub fn number_here(classes: &[u8; 256], d: &[u8], t: Read<usize>) -> Read<Figures>
+pub fn number_here(classes: &[u8; 256], d: &[u8], t: OrFault<usize>) -> OrFault<Figures>
     requires { Classes classes.now }
     ensures { result ≡ number_here d.now t }
 {
@@ -402,7 +402,7 @@ pub fn number_here(classes: &[u8; 256], d: &[u8], t: Read<usize>) -> Read<Figure
     }
 }
 
-pub fn number_on(classes: &[u8; 256], d: &[u8], t: Read<usize>) -> Read<Figures>
+pub fn number_on(classes: &[u8; 256], d: &[u8], t: OrFault<usize>) -> OrFault<Figures>
     requires { Classes classes.now }
     ensures { result ≡ number_on d.now t }
 {
@@ -410,7 +410,7 @@ pub fn number_on(classes: &[u8; 256], d: &[u8], t: Read<usize>) -> Read<Figures>
     number_here(classes, d, g)
 }
 
-pub fn past_number(n: Read<Figures>) -> Read<usize>
+pub fn past_number(n: OrFault<Figures>) -> OrFault<usize>
     ensures { result ≡ past_number n }
 {
     match n {
@@ -492,7 +492,7 @@ pub fn read_value(classes: &[u8; 256], d: &[u8], at: usize) -> Value
 }
 
 // The same as value_here, for a value of any form. The second value of a range is read by it too, for the reason that string_apart has.
-fn value_apart(classes: &[u8; 256], d: &[u8], n: usize) -> Read<Value>
+fn value_apart(classes: &[u8; 256], d: &[u8], n: usize) -> OrFault<Value>
     requires { Classes classes.now }
     ensures { result ≡ value_here d.now (Ok n) }
 {
@@ -506,7 +506,7 @@ fn value_apart(classes: &[u8; 256], d: &[u8], n: usize) -> Read<Value>
     Ok(v)
 }
 
-pub fn value_here(classes: &[u8; 256], d: &[u8], t: Read<usize>) -> Read<Value>
+pub fn value_here(classes: &[u8; 256], d: &[u8], t: OrFault<usize>) -> OrFault<Value>
     requires { Classes classes.now }
     ensures { result ≡ value_here d.now t }
 {
@@ -535,7 +535,7 @@ pub fn value_here(classes: &[u8; 256], d: &[u8], t: Read<usize>) -> Read<Value>
     }
 }
 
-pub fn value_on(classes: &[u8; 256], d: &[u8], t: Read<usize>) -> Read<Value>
+pub fn value_on(classes: &[u8; 256], d: &[u8], t: OrFault<usize>) -> OrFault<Value>
     requires { Classes classes.now }
     ensures { result ≡ value_on d.now t }
 {
@@ -545,7 +545,7 @@ pub fn value_on(classes: &[u8; 256], d: &[u8], t: Read<usize>) -> Read<Value>
     }
 }
 
-pub fn past_value(v: Read<Value>) -> Read<usize>
+pub fn past_value(v: OrFault<Value>) -> OrFault<usize>
     ensures { result ≡ past_value v }
 {
     match v {
@@ -563,7 +563,7 @@ pub struct Quoted {
     pub next: usize,
 }
 
-pub fn string_at(classes: &[u8; 256], d: &[u8], at: usize) -> Read<Quoted>
+pub fn string_at(classes: &[u8; 256], d: &[u8], at: usize) -> OrFault<Quoted>
     requires { Classes classes.now }
     ensures { result ≡ string_in (text d.now at) }
 {
@@ -611,7 +611,7 @@ fn closing(d: &[u8], n: usize) -> usize
 
 // The same as string_on, whatever the gap and the string hold. Notes are read by it too: with one caller alone the compiler would lay it
 // into string_on, which would be too large then to be laid into the readers of lines and texts.
-pub fn string_apart(classes: &[u8; 256], d: &[u8], n: usize) -> Read<Quoted>
+pub fn string_apart(classes: &[u8; 256], d: &[u8], n: usize) -> OrFault<Quoted>
     requires { Classes classes.now }
     ensures { result ≡ string_on d.now (Ok n) }
 {
@@ -621,7 +621,7 @@ pub fn string_apart(classes: &[u8; 256], d: &[u8], n: usize) -> Read<Quoted>
     }
 }
 
-pub fn string_on(classes: &[u8; 256], d: &[u8], t: Read<usize>) -> Read<Quoted>
+pub fn string_on(classes: &[u8; 256], d: &[u8], t: OrFault<usize>) -> OrFault<Quoted>
     requires { Classes classes.now }
     ensures { result ≡ string_on d.now t }
 {
@@ -642,7 +642,7 @@ pub fn string_on(classes: &[u8; 256], d: &[u8], t: Read<usize>) -> Read<Quoted>
     }
 }
 
-pub fn past_string(s: Read<Quoted>) -> Read<usize>
+pub fn past_string(s: OrFault<Quoted>) -> OrFault<usize>
     ensures { result ≡ past_string s }
 {
     match s {
@@ -652,7 +652,7 @@ pub fn past_string(s: Read<Quoted>) -> Read<usize>
 }
 
 // One letter.
-pub fn letter_at(classes: &[u8; 256], d: &[u8], at: usize) -> Read<usize>
+pub fn letter_at(classes: &[u8; 256], d: &[u8], at: usize) -> OrFault<usize>
     requires { Classes classes.now }
     ensures { result ≡ letter_in (text d.now at) }
 {
@@ -667,7 +667,7 @@ pub fn letter_at(classes: &[u8; 256], d: &[u8], at: usize) -> Read<usize>
     }
 }
 
-pub fn letter_on(classes: &[u8; 256], d: &[u8], t: Read<usize>) -> Read<usize>
+pub fn letter_on(classes: &[u8; 256], d: &[u8], t: OrFault<usize>) -> OrFault<usize>
     requires { Classes classes.now }
     ensures { result ≡ letter_on d.now t }
 {

@@ -25,7 +25,7 @@ use Rattle.tokens.specs.declared.Choice.{Choice}
 use Rattle.tokens.specs.declared.Choice.TheVariants.{Taken, Left}
 use Rattle.tokens.specs.declared.Mark.{Mark}
 use Rattle.tokens.specs.declared.Value.{Value}
-use Rattle.tokens.specs.rule.Gap.{fault, Read}
+use Rattle.tokens.specs.rule.Gap.{fault, OrFault}
 use Rattle.tokens.specs.Gap.{gap_on}
 use Rattle.tokens.specs.Token.{choice_of, word_here, word_on, mark_of, value_at, of_value, value_here, value_on, past_value}
 use Rattle.tokens.proofs.Values.{value_true}
@@ -91,7 +91,7 @@ value_pointed d at =
     let k = run_of is_digit m (text d m) in
     ⊎_elim (λ e. inl (ap (λ (n : ℕ). 0 + n) e)) inr (mark_pointed d k (text d k) (run_stops d (from_text d m) refl))
 
-pub value_genuine : (d : List ℕ) (t : Read ℕ) (v : Value) → value_here d t ≡ Ok v → Genuine (size_in d v) v
+pub value_genuine : (d : List ℕ) (t : OrFault ℕ) (v : Value) → value_here d t ≡ Ok v → Genuine (size_in d v) v
 unfolding value_here of_value
 value_genuine d (Err f) v e = let z : ◌≡◌ {A = ℕ} 0 1 = cc in absurd (omega arith)
 value_genuine d (Ok n) v e = by (eqb (value_at d n).next n) e where
@@ -231,7 +231,7 @@ module _ (d : List ℕ) (quantity : Bool) where
   unfoldable pub Made : Block → Type 0
   Made b = GoodBlock quantity b × (b.ranged ≡ true) × (b.known ≡ true)
 
-  ranged_good : (a c : Read Value) (end : Read ℕ) (w : Bool) {b : Block} {with : Bool} {n : ℕ}
+  ranged_good : (a c : OrFault Value) (end : OrFault ℕ) (w : Bool) {b : Block} {with : Bool} {n : ℕ}
       → ((v : Value) → a ≡ Ok v → Genuine (size_in d v) v) → ((v : Value) → c ≡ Ok v → Genuine (size_in d v) v)
       → ranged_of d quantity a c end w ≡ ranged.Is b with n → Made b
   unfolding ranged_of Made true_of
@@ -239,16 +239,16 @@ module _ (d : List ℕ) (quantity : Bool) where
   ranged_good (Ok x) (Err f) end w ga gc e = let z : ◌≡◌ {A = ℕ} 0 1 = cc in absurd (omega arith)
   ranged_good (Ok x) (Ok y) (Err f) w ga gc e = let z : ◌≡◌ {A = ℕ} 0 1 = cc in absurd (omega arith)
   ranged_good (Ok x) (Ok y) (Ok m) w {b} {with} {n} ga gc e = by (judge_range (reversed_of d x y) quantity x y) refl e where
-    by : (j : Read Block) → judge_range (reversed_of d x y) quantity x y ≡ j → settled j w m ≡ ranged.Is b with n → Made b
+    by : (j : OrFault Block) → judge_range (reversed_of d x y) quantity x y ≡ j → settled j w m ≡ ranged.Is b with n → Made b
     by (Ok k) i e = let q : k ≡ b = cc in
         judged_good quantity (reversed_of d x y) x y (size_in d x) (size_in d y) (ga x refl) (gc y refl) refl (rw q at i)
     by (Err f) i e = let z : ◌≡◌ {A = ℕ} 0 1 = cc in absurd (omega arith)
 
-  pub rest_good : (a : Read Value) (t : Read ℕ) {b : Block} {with : Bool} {n : ℕ} → ((v : Value) → a ≡ Ok v → Genuine (size_in d v) v)
+  pub rest_good : (a : OrFault Value) (t : OrFault ℕ) {b : Block} {with : Bool} {n : ℕ} → ((v : Value) → a ≡ Ok v → Genuine (size_in d v) v)
       → range_rest d quantity a t ≡ ranged.Is b with n → Made b
   unfolding range_rest value_on
   rest_good a t {b} {with} {n} ga = by (choice_of d (gap_on d (past_value c)) WITH) where
-    c : Read Value
+    c : OrFault Value
     c = value_here d (gap_on d t)
 
     by : (k : Choice) → with_or d quantity a c (gap_on d (past_value c)) k ≡ ranged.Is b with n → Made b
@@ -401,7 +401,7 @@ module _ (d : List ℕ) (quantity : Bool) (first : ℕ) (h : length d ≤ 104857
       → Keeps (after l (more_of d b n))
   unfolding more_of end_of
   more_keeps b l n gb gl kn some = by (choice_of d (notes_on d (Ok n)) END) where
-    ends : (r : Read ℕ) → Keeps (after l (end_of b r))
+    ends : (r : OrFault ℕ) → Keeps (after l (end_of b r))
     ends (Ok m) = over (is_given b l m (record { block = gb; lines = gl; near = kn.near; something = inr some }))
     ends (Err f) = over (not_given f)
 
@@ -412,7 +412,7 @@ module _ (d : List ℕ) (quantity : Bool) (first : ℕ) (h : length d ≤ 104857
   step_keeps : (l : Listing) → Sofar l → Keeps (line_step d quantity first l)
   unfolding line_step
   step_keeps l k = by (line_rest d l.amount) refl where
-    judge : (s : Said) (v : Read ℤ) → line_rest d l.amount ≡ Ok s
+    judge : (s : Said) (v : OrFault ℤ) → line_rest d l.amount ≡ Ok s
         → judge_line (number_at l.lines) (length l.lines) first quantity l.block s.value ≡ v → Keeps (judged_step d l s v)
     judge s (Ok z) j i =
         let t = good_line (number_at l.lines) (length l.lines) first quantity l.block s.value i in
@@ -427,7 +427,7 @@ module _ (d : List ℕ) (quantity : Bool) (first : ℕ) (h : length d ≤ 104857
         (omega (arith, count_more l.lines s))
     judge s (Err f) j i = over (not_given f)
 
-    by : (r : Read Said) → line_rest d l.amount ≡ r → Keeps (read_step d quantity first l r)
+    by : (r : OrFault Said) → line_rest d l.amount ≡ r → Keeps (read_step d quantity first l r)
     by (Ok s) j = judge s (judge_line (number_at l.lines) (length l.lines) first quantity l.block s.value) j refl
     by (Err f) j = over (not_given f)
 
@@ -443,7 +443,7 @@ module _ (d : List ℕ) (quantity : Bool) (first : ℕ) (h : length d ≤ 104857
   no_lines : first ≤ 4096 → GoodLines quantity first []
   no_lines r = record { few = omega arith; limited = λ i e. absurd (omega arith); differ = λ i j a e. absurd (omega arith); each = none }
 
-  lines_given : (a : Read Value) (b : Block) → first ≤ 4096 → ((v : Value) → a ≡ Ok v → Genuine (size_in d v) v) → GoodBlock quantity b
+  lines_given : (a : OrFault Value) (b : Block) → first ≤ 4096 → ((v : Value) → a ≡ Ok v → Genuine (size_in d v) v) → GoodBlock quantity b
       → (b.ranged ≡ true → b.known ≡ true) → GoodGiven (lines_from d quantity first (state_of a b []))
   unfolding lines_from
   lines_given a b r ga gb kn =
@@ -460,7 +460,7 @@ module _ (d : List ℕ) (quantity : Bool) (first : ℕ) (h : length d ≤ 104857
   unfolding range_then closed_by Made
   range_given r (ranged.Not f) m = not_given f
   range_given r (ranged.Is b with n) m = by with (m b with n refl) where
-    close : (e : Read ℕ) → GoodBlock quantity b × (b.ranged ≡ true) × (b.known ≡ true) → GoodGiven (closed_by b e)
+    close : (e : OrFault ℕ) → GoodBlock quantity b × (b.ranged ≡ true) × (b.known ≡ true) → GoodGiven (closed_by b e)
     close (Ok k) g = is_given b [] k (record {
       block = g.0;
       lines = no_lines r;
@@ -475,13 +475,13 @@ module _ (d : List ℕ) (quantity : Bool) (first : ℕ) (h : length d ≤ 104857
     by true g = lines_given (value_here d (notes_on d (Ok n))) b r (value_genuine d (notes_on d (Ok n))) g.0 (λ q. g.2)
     by false g = close (word_on d (word_here d (notes_on d (Ok n)) END) VALUES) g
 
-  all_given : first ≤ 4096 → (t : Read ℕ) → GoodGiven (values_on d quantity first t)
+  all_given : first ≤ 4096 → (t : OrFault ℕ) → GoodGiven (values_on d quantity first t)
   unfolding values_on
   all_given r t = by (choice_of d (gap_on d (past_value a)) TO) where
-    n : Read ℕ
+    n : OrFault ℕ
     n = notes_on d (statement_on d t VALUES)
 
-    a : Read Value
+    a : OrFault Value
     a = value_here d n
 
     by : (k : Choice) → GoodGiven (to_or d quantity first a k)
@@ -490,7 +490,7 @@ module _ (d : List ℕ) (quantity : Bool) (first : ℕ) (h : length d ≤ 104857
     by Left = lines_given a empty_block r (value_genuine d n) (none_good quantity) (λ q. holds_not q refl)
 
 -- VALUES that were read are good
-pub values_good_lem : (d : List ℕ) (quantity : Bool) (first : ℕ) (t : Read ℕ) {b : Block} {l : List Said} {n : ℕ} → length d ≤ 1048576
+pub values_good_lem : (d : List ℕ) (quantity : Bool) (first : ℕ) (t : OrFault ℕ) {b : Block} {l : List Said} {n : ℕ} → length d ≤ 1048576
     → first
     ≤ 4096 → values_on d quantity first t ≡ Is b l n → GoodValues quantity first b l
 values_good_lem d quantity first t h r e = (all_given d quantity first h r t).of e

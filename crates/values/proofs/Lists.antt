@@ -19,7 +19,7 @@ use Rattle.tokens.specs.declared.Choice.{Choice}
 use Rattle.tokens.specs.declared.Choice.TheVariants.{Taken, Left}
 use Rattle.tokens.specs.declared.Value.{Value}
 use Rattle.tokens.specs.declared.Quoted.{Quoted}
-use Rattle.tokens.specs.rule.Gap.{fault, Read}
+use Rattle.tokens.specs.rule.Gap.{fault, OrFault}
 use Rattle.tokens.specs.Gap.{gap_on}
 use Rattle.tokens.specs.Token.{choice_of, past_value, string_on, past_string}
 use Rattle.tokens.proofs.Aheads.{quoted_within}
@@ -78,7 +78,7 @@ judge_alike f g n first quantity b v h = rw (repeated_alike f g n (scaled_of v) 
 abbrev said : Value → Quoted → ℕ → ℕ → Said
 said v q n m = record { value = v; text = q; special = n; next = m }
 
-said_parts : (a : Read Value) (q : Read Quoted) (n : ℕ) (end : Read ℕ) (s : Said) → said_of a q n end ≡ Ok s → (a ≡ Ok s.value)
+said_parts : (a : OrFault Value) (q : OrFault Quoted) (n : ℕ) (end : OrFault ℕ) (s : Said) → said_of a q n end ≡ Ok s → (a ≡ Ok s.value)
     × (q ≡ Ok s.text) × (s.special ≡ n)
 unfolding said_of
 said_parts (Err f) q n end s e = let z : ◌≡◌ {A = ℕ} 0 1 = cc in absurd (omega arith)
@@ -86,7 +86,7 @@ said_parts (Ok v) (Err f) n end s e = let z : ◌≡◌ {A = ℕ} 0 1 = cc in ab
 said_parts (Ok v) (Ok q) n (Err f) s e = let z : ◌≡◌ {A = ℕ} 0 1 = cc in absurd (omega arith)
 said_parts (Ok v) (Ok q) n (Ok m) s e = let j : said v q n m ≡ s = cc in rw (← j) (refl, refl, refl)
 
-module _ (d : List ℕ) (a : Read Value) (s : Said) where
+module _ (d : List ℕ) (a : OrFault Value) (s : Said) where
   pub line_value_lem : line_rest d a ≡ Ok s → a ≡ Ok s.value
   unfolding line_rest
   line_value_lem = by (choice_of d (gap_on d (past_string (string_on d (past_value a)))) SPECIAL) where
@@ -95,8 +95,8 @@ module _ (d : List ℕ) (a : Read Value) (s : Said) where
     by (Taken m) e = (said_parts a (string_on d (past_value a)) 1 (Ok m) s e).0
     by Left e = (said_parts a (string_on d (past_value a)) 0 (gap_on d (past_string (string_on d (past_value a)))) s e).0
 
-module _ (d : List ℕ) (a : Read Value) (s : Said) (h : length d ≤ 1048576) where
-  within : (q : Read Quoted) (n : ℕ) → q ≡ string_on d (past_value a) → n ≤ 1 → (a ≡ Ok s.value) × (q ≡ Ok s.text)
+module _ (d : List ℕ) (a : OrFault Value) (s : Said) (h : length d ≤ 1048576) where
+  within : (q : OrFault Quoted) (n : ℕ) → q ≡ string_on d (past_value a) → n ≤ 1 → (a ≡ Ok s.value) × (q ≡ Ok s.text)
       × (s.special ≡ n) → GoodLine s
   within q n e l p =
       let k = quoted_within d (past_value a) s.text (sym e ∙ p.1) in
@@ -195,7 +195,7 @@ pub record Onward (d : List ℕ) (quantity : Bool) (n first : ℕ) (start room :
   pub step : line_step d quantity first l ≡ after (l.lines ++ line ∷ []) t
   pub holds : Holds n first start room stamp marks (last + 1) (l.lines ++ line ∷ [])
 
-module _ (d : List ℕ) (quantity : Bool) (first : ℕ) (a : Read Value) (b : Block) {n : ℕ} {start room : List ℤ} {stamp : ℕ} {marks : List ℕ}
+module _ (d : List ℕ) (quantity : Bool) (first : ℕ) (a : OrFault Value) (b : Block) {n : ℕ} {start room : List ℤ} {stamp : ℕ} {marks : List ℕ}
     {last : ℕ} {l : List Said} (h : Holds n first start room stamp marks last l) where
   abbrev at : Standing
   at = stand_at a b last room
@@ -206,7 +206,7 @@ module _ (d : List ℕ) (quantity : Bool) (first : ℕ) (a : Read Value) (b : Bl
       (state_of a b l) t
   unfolding turn_of room_after marks_after line_step
   turned w t = by (line_rest d a) refl where
-    judged : (s : Said) (v : Read ℤ) → line_rest d a ≡ Ok s → judged_at quantity first at s ≡ v → t ≡ judged_turn d b s v
+    judged : (s : Said) (v : OrFault ℤ) → line_rest d a ≡ Ok s → judged_at quantity first at s ≡ v → t ≡ judged_turn d b s v
         → ((f : Fault) → t ≡ turn.Not f → ⊥) → Onward d quantity n first start (judged_room room last s v) stamp
         (judged_marks marks stamp v)
         last (state_of a b l) t
@@ -221,7 +221,7 @@ module _ (d : List ℕ) (quantity : Bool) (first : ℕ) (a : Read Value) (b : Bl
         }
     judged s (Err f) j i e o = absurd (o f e)
 
-    by : (r : Read Said) → line_rest d a ≡ r → t ≡ read_turn d quantity first at r → ((f : Fault) → t ≡ turn.Not f → ⊥)
+    by : (r : OrFault Said) → line_rest d a ≡ r → t ≡ read_turn d quantity first at r → ((f : Fault) → t ≡ turn.Not f → ⊥)
         → Onward d quantity n first start (read_room quantity first at r) stamp (read_marks quantity first at marks stamp r) last
         (state_of a b l) t
     by (Ok s) j e o = judged s (judged_at quantity first at s) j refl e o
@@ -230,7 +230,7 @@ module _ (d : List ℕ) (quantity : Bool) (first : ℕ) (a : Read Value) (b : Bl
   -- the same of what the code gave back
   module _ {t : Turn} {end : List ℤ} {ends : List ℕ} (e : t ≡ turn_of d quantity first at) (f : end ≡ room_after d quantity first at)
       (g : ends ≡ marks_after d quantity first at marks stamp) where
-    pub went_more : Spare n last → {c : Read Value} {k : Block} → t ≡ turn.More c k
+    pub went_more : Spare n last → {c : OrFault Value} {k : Block} → t ≡ turn.More c k
         → Onward d quantity n first start end stamp ends last (state_of a b l) (turn.More c k)
     went_more w i = rw (f, g) (turned w _ (sym i ∙ e) (λ q j. let z : ◌≡◌ {A = ℕ} 0 1 = cc in absurd (omega arith)))
 
@@ -242,12 +242,12 @@ module _ (d : List ℕ) (quantity : Bool) (first : ℕ) (a : Read Value) (b : Bl
   pub turned_not : {f : Fault} → turn.Not f ≡ turn_of d quantity first at → line_step d quantity first (state_of a b l) ≡ Done (Not f)
   unfolding turn_of line_step
   turned_not {f} = by (line_rest d a) where
-    judged : (s : Said) (v : Read ℤ) → judge_line (number_at l) (length l) first quantity b s.value ≡ v → turn.Not f ≡ judged_turn d b s v
+    judged : (s : Said) (v : OrFault ℤ) → judge_line (number_at l) (length l) first quantity b s.value ≡ v → turn.Not f ≡ judged_turn d b s v
         → judged_step d (state_of a b l) s v ≡ Done (Not f)
     judged s (Ok z) i e = rw (sym e)
     judged s (Err g) i e = cc
 
-    by : (r : Read Said) → turn.Not f ≡ read_turn d quantity first at r → read_step d quantity first (state_of a b l) r ≡ Done (Not f)
+    by : (r : OrFault Said) → turn.Not f ≡ read_turn d quantity first at r → read_step d quantity first (state_of a b l) r ≡ Done (Not f)
     by (Ok s) e = judged s (judge_line (number_at l) (length l) first quantity b s.value) refl
         (rw (judged_here h quantity b s.value) at e)
     by (Err g) e = cc
@@ -267,13 +267,13 @@ module _ (d : List ℕ) (quantity : Bool) (first : ℕ) where
     on s (turn.Over b n) h e = let z : ◌≡◌ {A = ℕ} 0 1 = cc in absurd (omega arith)
     on s (turn.Not f) h e = let z : ◌≡◌ {A = ℕ} 0 1 = cc in absurd (omega arith)
 
-    judged : (s : Said) (v : Read ℤ) → judge_line (number_at l.lines) (length l.lines) first quantity l.block s.value ≡ v
+    judged : (s : Said) (v : OrFault ℤ) → judge_line (number_at l.lines) (length l.lines) first quantity l.block s.value ≡ v
         → judged_step d l s v ≡ Again m → left m < left l
     judged s (Ok z) i e = on s (more_of d (grown_by l.block s.value) s.next)
         (good_line (number_at l.lines) (length l.lines) first quantity l.block s.value i).few e
     judged s (Err f) i e = let z : ◌≡◌ {A = ℕ} 0 1 = cc in absurd (omega arith)
 
-    by : (r : Read Said) → read_step d quantity first l r ≡ Again m → left m < left l
+    by : (r : OrFault Said) → read_step d quantity first l r ≡ Again m → left m < left l
     by (Ok s) e = judged s (judge_line (number_at l.lines) (length l.lines) first quantity l.block s.value) refl e
     by (Err f) e = let z : ◌≡◌ {A = ℕ} 0 1 = cc in absurd (omega arith)
 
@@ -287,9 +287,9 @@ module _ (d : List ℕ) (quantity : Bool) (first : ℕ) where
   lines_done l {g} e = loop_done (line_step d quantity first) (Not (fault 0 0)) left falls {s = l} {a = g} e
 
 -- ---- what the code gives back
-pub record Ran (d : List ℕ) (quantity : Bool) (n first stamp : ℕ) (start : List ℤ) (a₀ : Read Value) (b₀ : Block) (room : List ℤ)
+pub record Ran (d : List ℕ) (quantity : Bool) (n first stamp : ℕ) (start : List ℤ) (a₀ : OrFault Value) (b₀ : Block) (room : List ℤ)
     (marks : List ℕ)
-    (a : Read Value) (b : Block) (last : ℕ) : Type 0 where
+    (a : OrFault Value) (b : Block) (last : ℕ) : Type 0 where
   pub lines : List Said
   pub same : lines_from d quantity first (state_of a₀ b₀ []) ≡ lines_from d quantity first (state_of a b lines)
   pub holds : Holds n first start room stamp marks last lines
@@ -319,7 +319,7 @@ pub listed_none : (first : ℕ) (b : Block) (n : ℕ) → listed.Is b first n �
 unfolding listed_of
 listed_none first b n = let e : first ≡ first + 0 = omega arith in ap (λ (k : ℕ). listed.Is b k n) e
 
-pub stored_none : (first : ℕ) (b : Block) (t : Read ℕ) (room : List ℤ) → Stored first (closed_by b t) room room
+pub stored_none : (first : ℕ) (b : Block) (t : OrFault ℕ) (room : List ℤ) → Stored first (closed_by b t) room room
 unfolding closed_by cells_of
 stored_none first b (Ok n) room =
     record {

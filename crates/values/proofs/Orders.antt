@@ -20,7 +20,7 @@ use Rattle.scan.specs.rule.Loop.{Next, Again, Done, on_next, loop_of}
 use Rattle.tokens.specs.declared.Choice.{Choice}
 use Rattle.tokens.specs.declared.Choice.TheVariants.{Taken, Left}
 use Rattle.tokens.specs.declared.Value.{Value}
-use Rattle.tokens.specs.rule.Gap.{fault, Read}
+use Rattle.tokens.specs.rule.Gap.{fault, OrFault}
 use Rattle.tokens.specs.Token.{choice_of, value_here, word_on}
 use Rattle.statements.specs.rule.Words.{END, VALUES}
 use Rattle.statements.specs.Note.{notes_on}
@@ -133,7 +133,7 @@ module _ (d : List ℕ) (quantity : Bool) (first : ℕ) where
       by true q w = let t = eqb-true v.decimals l.block.decimals (not-false _ w) in other (omega (arith, k.places))
 
     -- both judgements give the same: by the form, decimals that differ, and the size
-    abbrev reader : Bool → Bool → Bool → Read ℤ
+    abbrev reader : Bool → Bool → Bool → OrFault ℤ
     reader x y z =
         cond (eqb (cond x (cond y 6 (cond z 8 0)) 6) 0)
         (cond (again (scaled_of v)) (Err (fault 6 v.place))
@@ -141,7 +141,7 @@ module _ (d : List ℕ) (quantity : Bool) (first : ℕ) where
         (Ok (scaled_of v))))
         (Err (fault (cond x (cond y 6 (cond z 8 0)) 6) v.place))
 
-    abbrev paper : Bool → Bool → Bool → Read ℤ
+    abbrev paper : Bool → Bool → Bool → OrFault ℤ
     paper x y z =
         cond x
         (cond y (Err (fault 6 v.place))
@@ -162,7 +162,7 @@ module _ (d : List ℕ) (quantity : Bool) (first : ℕ) where
       by true false false f u e = rw (true_scaled d g (fits (size_in d v) quantity v g f e))
 
   -- ---- it holds at the start of the lines, and behind each
-  start_alone : (t : Read ℕ) → Steady (state_of (value_here d t) empty_block [])
+  start_alone : (t : OrFault ℕ) → Steady (state_of (value_here d t) empty_block [])
   start_alone t = record { value = value_genuine d t; places = omega arith; unsaid = λ q. refl; lines = none }
 
   start_behind : (n : ℕ) (b : Block) → Made d quantity b → Steady (state_of (value_here d (notes_on d (Ok n))) b [])
@@ -173,7 +173,7 @@ module _ (d : List ℕ) (quantity : Bool) (first : ℕ) where
       → after l (more_of d b n) ≡ Again m → Steady m
   unfolding more_of end_of
   more_steady b l n {m} p q h = by (choice_of d (notes_on d (Ok n)) END) where
-    ends : (r : Read ℕ) → after l (end_of b r) ≡ Again m → Steady m
+    ends : (r : OrFault ℕ) → after l (end_of b r) ≡ Again m → Steady m
     ends (Ok k) e = let z : ◌≡◌ {A = ℕ} 0 1 = cc in absurd (omega arith)
     ends (Err f) e = let z : ◌≡◌ {A = ℕ} 0 1 = cc in absurd (omega arith)
 
@@ -186,7 +186,7 @@ module _ (d : List ℕ) (quantity : Bool) (first : ℕ) where
   step_steady : (l : Listing) {m : Listing} → Steady l → line_step d quantity first l ≡ Again m → Steady m
   unfolding line_step grown_by
   step_steady l {m} k = by (line_rest d l.amount) refl where
-    judge : (s : Said) (v : Read ℤ) → line_rest d l.amount ≡ Ok s
+    judge : (s : Said) (v : OrFault ℤ) → line_rest d l.amount ≡ Ok s
         → judge_line (number_at l.lines) (length l.lines) first quantity l.block s.value ≡ v
         → judged_step d l s v ≡ Again m → Steady m
     judge s (Ok z) j i e =
@@ -199,7 +199,7 @@ module _ (d : List ℕ) (quantity : Bool) (first : ℕ) where
         e
     judge s (Err f) j i e = let z : ◌≡◌ {A = ℕ} 0 1 = cc in absurd (omega arith)
 
-    by : (r : Read Said) → line_rest d l.amount ≡ r → read_step d quantity first l r ≡ Again m → Steady m
+    by : (r : OrFault Said) → line_rest d l.amount ≡ r → read_step d quantity first l r ≡ Again m → Steady m
     by (Ok s) j e = judge s (judge_line (number_at l.lines) (length l.lines) first quantity l.block s.value) j refl e
     by (Err f) j e = let z : ◌≡◌ {A = ℕ} 0 1 = cc in absurd (omega arith)
 
@@ -217,7 +217,7 @@ module _ (d : List ℕ) (quantity : Bool) (first : ℕ) where
   pub paper_step_lem : (l : Listing) → Reached d quantity first l → line_step d quantity first l ≡ paper_step d quantity first l
   unfolding line_step paper_step
   paper_step_lem l r = by (line_rest d l.amount) refl where
-    by : (x : Read Said) → line_rest d l.amount ≡ x → read_step d quantity first l x ≡ paper_read d quantity first l x
+    by : (x : OrFault Said) → line_rest d l.amount ≡ x → read_step d quantity first l x ≡ paper_read d quantity first l x
     by (Ok s) j = ap (judged_step d l s) (paper_verdict l s r j)
     by (Err f) j = refl
 

@@ -13,14 +13,14 @@ use Rattle.values.specs.declared.Ranged.{Ranged}
 use Rattle.values.specs.declared.Ranged.TheVariants as ranged
 use Rattle.values.specs.Range.{range_rest}
 use Rattle.values.specs.Line.{Given, Is, Not, state_of, lines_from}
-use Rattle.tokens.specs.rule.Gap.{Read}
+use Rattle.tokens.specs.rule.Gap.{OrFault}
 use Rattle.tokens.specs.declared.Value.{Value}
 
 -- nothing said yet
 abbrev pub empty_block : Block
 empty_block = record { ranged = false; from = pos 0; to = pos 0; known = false; decimals = 0; point = 0 }
 
-unfoldable pub closed_by : Block → Read ℕ → Given
+unfoldable pub closed_by : Block → OrFault ℕ → Given
 closed_by b (Ok n) = Is b [] n
 closed_by b (Err f) = Not f
 
@@ -32,11 +32,11 @@ range_then d quantity first (ranged.Is b with n) =
     cond with (lines_from d quantity first (state_of (value_here d t) b []))
     (closed_by b (word_on d (word_here d t END) VALUES))
 
-abbrev pub to_or : List ℕ → Bool → ℕ → Read Value → Choice → Given
+abbrev pub to_or : List ℕ → Bool → ℕ → OrFault Value → Choice → Given
 to_or d quantity first a (Taken m) = range_then d quantity first (range_rest d quantity a (Ok m))
 to_or d quantity first a Left = lines_from d quantity first (state_of a empty_block [])
 
-unfoldable pub values_on : List ℕ → Bool → ℕ → Read ℕ → Given
+unfoldable pub values_on : List ℕ → Bool → ℕ → OrFault ℕ → Given
 values_on d quantity first t =
     let a = value_here d (notes_on d (statement_on d t VALUES)) in
     to_or d quantity first a (choice_of d (gap_on d (past_value a)) TO)

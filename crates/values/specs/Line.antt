@@ -11,7 +11,7 @@ use Rattle.tokens.specs.declared.Choice.{Choice}
 use Rattle.tokens.specs.declared.Choice.TheVariants.{Taken, Left}
 use Rattle.tokens.specs.declared.Value.{Value}
 use Rattle.tokens.specs.declared.Quoted.{Quoted}
-use Rattle.tokens.specs.rule.Gap.{fault, Read}
+use Rattle.tokens.specs.rule.Gap.{fault, OrFault}
 use Rattle.tokens.specs.Gap.{gap_on}
 use Rattle.tokens.specs.Token.{choice_of, word_on, value_here, past_value, string_on, past_string}
 use Rattle.statements.specs.rule.Words.{SPECIAL, END, VALUES}
@@ -26,28 +26,28 @@ use Rattle.values.specs.declared.Listed.{Listed}
 use Rattle.values.specs.declared.Listed.TheVariants as listed
 
 -- ---- reading a line
-abbrev pub valued : Read Value → (Value → Read Said) → Read Said
+abbrev pub valued : OrFault Value → (Value → OrFault Said) → OrFault Said
 valued (Ok v) k = k v
 valued (Err f) k = Err f
 
-abbrev pub phrased : Read Quoted → (Quoted → Read Said) → Read Said
+abbrev pub phrased : OrFault Quoted → (Quoted → OrFault Said) → OrFault Said
 phrased (Ok q) k = k q
 phrased (Err f) k = Err f
 
-abbrev pub ended : Read ℕ → (ℕ → Read Said) → Read Said
+abbrev pub ended : OrFault ℕ → (ℕ → OrFault Said) → OrFault Said
 ended (Ok n) k = k n
 ended (Err f) k = Err f
 
 -- the first 2 or 3 met
-unfoldable pub said_of : Read Value → Read Quoted → ℕ → Read ℕ → Read Said
+unfoldable pub said_of : OrFault Value → OrFault Quoted → ℕ → OrFault ℕ → OrFault Said
 said_of a q special end = valued a λ v. phrased q λ t. ended end λ n. Ok (record { value = v; text = t; special = special; next = n })
 
-abbrev pub special_or : Read Value → Read Quoted → Read ℕ → Choice → Read Said
+abbrev pub special_or : OrFault Value → OrFault Quoted → OrFault ℕ → Choice → OrFault Said
 special_or a q g (Taken m) = said_of a q 1 (Ok m)
 special_or a q g Left = said_of a q 0 g
 
 -- a line whose value is a
-unfoldable pub line_rest : List ℕ → Read Value → Read Said
+unfoldable pub line_rest : List ℕ → OrFault Value → OrFault Said
 line_rest d a =
     let q = string_on d (past_value a) in
     let g = gap_on d (past_string q) in
@@ -78,7 +78,7 @@ line_fault quantity b v =
     6
 
 -- a value too large repeats none, so that it may be judged before the repeats
-unfoldable pub judge_line : (ℕ → ℤ) → ℕ → ℕ → Bool → Block → Value → Read ℤ
+unfoldable pub judge_line : (ℕ → ℤ) → ℕ → ℕ → Bool → Block → Value → OrFault ℤ
 judge_line f n first quantity b v =
     cond (eqb (line_fault quantity b v) 0)
     (cond (repeated_in f n (scaled_of v)) (Err (fault 6 v.place))
@@ -110,11 +110,11 @@ cells_of [] = []
 cells_of (s ∷ l) = line_cells s ++ cells_of l
 
 -- ---- what follows a line
-unfoldable pub end_of : Block → Read ℕ → Turn
+unfoldable pub end_of : Block → OrFault ℕ → Turn
 end_of b (Ok n) = turn.Over b n
 end_of b (Err f) = turn.Not f
 
-abbrev pub end_or : List ℕ → Block → Read ℕ → Choice → Turn
+abbrev pub end_or : List ℕ → Block → OrFault ℕ → Choice → Turn
 end_or d b t (Taken m) = end_of b (word_on d (Ok m) VALUES)
 end_or d b t Left = turn.More (value_here d t) b
 
@@ -131,11 +131,11 @@ pub data Given : Type 0 where
 
 -- where the reader of lines stands: the value of the line that comes, what the block has said, and its lines so far
 pub record Listing : Type 0 where
-  pub amount : Read Value
+  pub amount : OrFault Value
   pub block : Block
   pub lines : List Said
 
-abbrev pub state_of : Read Value → Block → List Said → Listing
+abbrev pub state_of : OrFault Value → Block → List Said → Listing
 state_of a b l = record { amount = a; block = b; lines = l }
 
 abbrev pub after : List Said → Turn → Next Listing Given
@@ -143,11 +143,11 @@ after l (turn.More a b) = Again (state_of a b l)
 after l (turn.Over b n) = Done (Is b l n)
 after l (turn.Not f) = Done (Not f)
 
-abbrev pub judged_step : List ℕ → Listing → Said → Read ℤ → Next Listing Given
+abbrev pub judged_step : List ℕ → Listing → Said → OrFault ℤ → Next Listing Given
 judged_step d l s (Ok z) = after (l.lines ++ s ∷ []) (more_of d (grown_by l.block s.value) s.next)
 judged_step d l s (Err f) = Done (Not f)
 
-abbrev pub read_step : List ℕ → Bool → ℕ → Listing → Read Said → Next Listing Given
+abbrev pub read_step : List ℕ → Bool → ℕ → Listing → OrFault Said → Next Listing Given
 read_step d quantity first l (Ok s) =
     judged_step d l s (judge_line (number_at l.lines) (length l.lines) first quantity l.block s.value)
 read_step d quantity first l (Err f) = Done (Not f)

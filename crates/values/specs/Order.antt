@@ -6,7 +6,7 @@ use Rattle.std.specs.Prelude.{ℕ, suc, ◌+◌, ◌-◌, ◌≡◌, Bool, cond,
 use Rattle.cells.specs.rule.Cell.{cell}
 use Rattle.scan.specs.rule.Loop.{Next, Again, Done, loop_of}
 use Rattle.tokens.specs.declared.Value.{Value}
-use Rattle.tokens.specs.rule.Gap.{fault, Read}
+use Rattle.tokens.specs.rule.Gap.{fault, OrFault}
 use Rattle.tokens.specs.Token.{value_here}
 use Rattle.statements.specs.Note.{notes_on}
 use Rattle.values.specs.declared.Block.{Block}
@@ -26,7 +26,7 @@ unfoldable pub true_at : List ℕ → List Said → ℕ → ℤ
 true_at d l i = cell (trues d l) i
 
 -- a value behind the lines l of its block, with `first` lines before the block
-unfoldable pub paper_line : List ℕ → List Said → ℕ → Bool → Block → Value → Read ℤ
+unfoldable pub paper_line : List ℕ → List Said → ℕ → Bool → Block → Value → OrFault ℤ
 paper_line d l first quantity b v =
     cond (form_of quantity v)
     (cond (b.known && not (eqb v.decimals b.decimals)) (Err (fault 6 v.place))
@@ -37,7 +37,7 @@ paper_line d l first quantity b v =
     (Err (fault 6 v.place))
 
 -- the reader of lines, with this judgement
-abbrev pub paper_read : List ℕ → Bool → ℕ → Listing → Read Said → Next Listing Given
+abbrev pub paper_read : List ℕ → Bool → ℕ → Listing → OrFault Said → Next Listing Given
 paper_read d quantity first l (Ok s) = judged_step d l s (paper_line d l.lines first quantity l.block s.value)
 paper_read d quantity first l (Err f) = Done (Not f)
 
@@ -49,7 +49,7 @@ paper_from d quantity first l = loop_of (paper_step d quantity first) (Not (faul
 
 -- where the reader of lines can stand: at the first line of a block without a range, or behind a range; and then behind each line
 pub data Reached (d : List ℕ) (quantity : Bool) (first : ℕ) : Listing → Type 0 where
-  alone : (t : Read ℕ) → Reached d quantity first (state_of (value_here d t) empty_block [])
-  behind : (t u : Read ℕ) {b : Block} {w : Bool} {n : ℕ} → range_rest d quantity (value_here d t) u ≡ ranged.Is b w n
+  alone : (t : OrFault ℕ) → Reached d quantity first (state_of (value_here d t) empty_block [])
+  behind : (t u : OrFault ℕ) {b : Block} {w : Bool} {n : ℕ} → range_rest d quantity (value_here d t) u ≡ ranged.Is b w n
       → Reached d quantity first (state_of (value_here d (notes_on d (Ok n))) b [])
   next : {l m : Listing} → Reached d quantity first l → line_step d quantity first l ≡ Again m → Reached d quantity first m

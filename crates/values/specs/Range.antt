@@ -6,7 +6,7 @@ use Rattle.std.specs.Int.Signed.{lt_z}
 use Rattle.tokens.specs.declared.Choice.{Choice}
 use Rattle.tokens.specs.declared.Choice.TheVariants.{Taken, Left}
 use Rattle.tokens.specs.declared.Value.{Value}
-use Rattle.tokens.specs.rule.Gap.{fault, Read}
+use Rattle.tokens.specs.rule.Gap.{fault, OrFault}
 use Rattle.tokens.specs.Gap.{gap_on}
 use Rattle.tokens.specs.Token.{choice_of, value_on, past_value}
 use Rattle.statements.specs.rule.Words.{WITH}
@@ -16,7 +16,7 @@ use Rattle.values.specs.declared.Ranged.TheVariants.{Is, Not}
 use Rattle.values.specs.declared.Block.{Block}
 
 -- a range whose values have form and order: its limits, and what it says
-unfoldable pub limit_range : Bool → Value → Value → Read Block
+unfoldable pub limit_range : Bool → Value → Value → OrFault Block
 limit_range quantity a b =
     cond (large_of quantity a) (Err (fault 8 a.place))
     (cond (large_of quantity b) (Err (fault 8 b.place))
@@ -34,7 +34,7 @@ abbrev pub reversed_of : List ℕ → Value → Value → Bool
 reversed_of d a b = lt_z (true_of d b) (true_of d a)
 
 -- `below` says whether the second lies below the first: the judgement asks for the outcome, not for the text
-unfoldable pub judge_range : Bool → Bool → Value → Value → Read Block
+unfoldable pub judge_range : Bool → Bool → Value → Value → OrFault Block
 judge_range below quantity a b =
     cond (form_of quantity a) (cond (form_of quantity b)
     (cond (eqb a.decimals b.decimals)
@@ -44,28 +44,28 @@ judge_range below quantity a b =
     (Err (fault 6 b.place)))
     (Err (fault 6 a.place))
 
-abbrev pub settled : Read Block → Bool → ℕ → Ranged
+abbrev pub settled : OrFault Block → Bool → ℕ → Ranged
 settled (Ok b) with n = Is b with n
 settled (Err f) with n = Not f
 
-abbrev pub given : Read Value → (Value → Ranged) → Ranged
+abbrev pub given : OrFault Value → (Value → Ranged) → Ranged
 given (Ok v) k = k v
 given (Err f) k = Not f
 
-abbrev pub ended : Read ℕ → (ℕ → Ranged) → Ranged
+abbrev pub ended : OrFault ℕ → (ℕ → Ranged) → Ranged
 ended (Ok n) k = k n
 ended (Err f) k = Not f
 
 -- the first 2 or 3 met, and then the judgement
-unfoldable pub ranged_of : List ℕ → Bool → Read Value → Read Value → Read ℕ → Bool → Ranged
+unfoldable pub ranged_of : List ℕ → Bool → OrFault Value → OrFault Value → OrFault ℕ → Bool → Ranged
 ranged_of d quantity a b end with = given a λ x. given b λ y. ended end λ n. settled (judge_range (reversed_of d x y) quantity x y) with n
 
-abbrev pub with_or : List ℕ → Bool → Read Value → Read Value → Read ℕ → Choice → Ranged
+abbrev pub with_or : List ℕ → Bool → OrFault Value → OrFault Value → OrFault ℕ → Choice → Ranged
 with_or d quantity a b g (Taken m) = ranged_of d quantity a b (Ok m) true
 with_or d quantity a b g Left = ranged_of d quantity a b g false
 
 -- what stands behind the TO of a range that begins with a
-unfoldable pub range_rest : List ℕ → Bool → Read Value → Read ℕ → Ranged
+unfoldable pub range_rest : List ℕ → Bool → OrFault Value → OrFault ℕ → Ranged
 range_rest d quantity a t =
     let b = value_on d t in
     let g = gap_on d (past_value b) in

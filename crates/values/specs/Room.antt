@@ -4,7 +4,7 @@ use Rattle.std.specs.Prelude.{ℕ, ◌+◌, ◌*◌, ◌-◌, ◌%◌, ◌≤◌
 use Rattle.cells.specs.rule.Cell.{cell, signed_of, pasted}
 use Rattle.layout.specs.rule.Layout.{line_size, most_lines}
 use Rattle.tokens.specs.declared.Fault.{Fault}
-use Rattle.tokens.specs.rule.Gap.{fault, Read}
+use Rattle.tokens.specs.rule.Gap.{fault, OrFault}
 use Rattle.values.specs.declared.Block.{Block}
 use Rattle.values.specs.declared.Said.{Said}
 use Rattle.values.specs.declared.Turn.{Turn}
@@ -52,42 +52,42 @@ pub record storable (s : Said) : Type 0 where
   pub length : s.text.length ≤ 1000000000000000
 
 -- ---- a line that was judged: what follows it, the room and the marks; a line that stands goes in behind the others
-abbrev pub judged_turn : List ℕ → Block → Said → Read ℤ → Turn
+abbrev pub judged_turn : List ℕ → Block → Said → OrFault ℤ → Turn
 judged_turn d b s (Ok z) = more_of d (grown_by b s.value) s.next
 judged_turn d b s (Err f) = turn.Not f
 
-abbrev pub judged_room : List ℤ → ℕ → Said → Read ℤ → List ℤ
+abbrev pub judged_room : List ℤ → ℕ → Said → OrFault ℤ → List ℤ
 judged_room room last s (Ok z) = pasted room (line_size * last) (line_cells s)
 judged_room room last s (Err f) = room
 
-abbrev pub judged_marks : List ℕ → ℕ → Read ℤ → List ℕ
+abbrev pub judged_marks : List ℕ → ℕ → OrFault ℤ → List ℕ
 judged_marks marks stamp (Ok z) = set marks (slot_of z) stamp
 judged_marks marks stamp (Err f) = marks
 
 -- where the reader of lines stands: the value of the line that comes, what the block has said, how many lines there are in all, and
 -- the room
 pub record Standing : Type 0 where
-  pub amount : Read Value
+  pub amount : OrFault Value
   pub block : Block
   pub last : ℕ
   pub room : List ℤ
 
-abbrev pub stand_at : Read Value → Block → ℕ → List ℤ → Standing
+abbrev pub stand_at : OrFault Value → Block → ℕ → List ℤ → Standing
 stand_at a b n r = record { amount = a; block = b; last = n; room = r }
 
 -- how the line s is judged there
-abbrev pub judged_at : Bool → ℕ → Standing → Said → Read ℤ
+abbrev pub judged_at : Bool → ℕ → Standing → Said → OrFault ℤ
 judged_at quantity first l s = judge_line (room_at l.room first) (l.last - first) first quantity l.block s.value
 
-abbrev pub read_turn : List ℕ → Bool → ℕ → Standing → Read Said → Turn
+abbrev pub read_turn : List ℕ → Bool → ℕ → Standing → OrFault Said → Turn
 read_turn d quantity first l (Ok s) = judged_turn d l.block s (judged_at quantity first l s)
 read_turn d quantity first l (Err f) = turn.Not f
 
-abbrev pub read_room : Bool → ℕ → Standing → Read Said → List ℤ
+abbrev pub read_room : Bool → ℕ → Standing → OrFault Said → List ℤ
 read_room quantity first l (Ok s) = judged_room l.room l.last s (judged_at quantity first l s)
 read_room quantity first l (Err f) = l.room
 
-abbrev pub read_marks : Bool → ℕ → Standing → List ℕ → ℕ → Read Said → List ℕ
+abbrev pub read_marks : Bool → ℕ → Standing → List ℕ → ℕ → OrFault Said → List ℕ
 read_marks quantity first l marks stamp (Ok s) = judged_marks marks stamp (judged_at quantity first l s)
 read_marks quantity first l marks stamp (Err f) = marks
 

@@ -21,7 +21,7 @@ ghost use Rattle.values.specs.Room.{room_after, marks_after, Spare, Cramped, sho
 ghost use Rattle.values.specs.Block.{empty_block, closed_by, range_then, values_on};
 
 use layout::{Header, Line};
-use tokens::{Choice, Fault, Quoted, Read, Value};
+use tokens::{Choice, Fault, OrFault, Quoted, Value};
 
 // What the values of a variable have said so far: whether there is a range, and its ends; whether a number was read, and then how
 // many decimals all have; and the code of the point, 0 none, 1 one, 2 one that no number has a digit before.
@@ -111,7 +111,7 @@ fn scaled(quantity: bool, v: Value) -> i64
 }
 
 // A range whose values have form and order: 8 at each beyond its limit, or what the range says.
-fn limit_range(quantity: bool, a: Value, b: Value) -> Read<Block>
+fn limit_range(quantity: bool, a: Value, b: Value) -> OrFault<Block>
     ensures { result ≡ limit_range quantity a b }
 {
     if large(quantity, a) {
@@ -141,7 +141,7 @@ fn limit_range(quantity: bool, a: Value, b: Value) -> Read<Block>
 
 // A range, whose second value lies below the first where `below`: 6 at each value of wrong form, and at the second where decimals differ
 // or the range is reversed; then its limits.
-pub fn judge_range(below: bool, quantity: bool, a: Value, b: Value) -> Read<Block>
+pub fn judge_range(below: bool, quantity: bool, a: Value, b: Value) -> OrFault<Block>
     ensures { result ≡ judge_range below quantity a b }
 {
     if !formed(quantity, a) {
@@ -206,9 +206,9 @@ fn join_range(
     classes: &[u8; 256],
     d: &[u8],
     quantity: bool,
-    a: Read<Value>,
-    b: Read<Value>,
-    end: Read<usize>,
+    a: OrFault<Value>,
+    b: OrFault<Value>,
+    end: OrFault<usize>,
     with: bool,
 ) -> Ranged
     requires { Classes classes.now }
@@ -231,8 +231,8 @@ pub fn range_rest(
     classes: &[u8; 256],
     d: &[u8],
     quantity: bool,
-    a: Read<Value>,
-    t: Read<usize>,
+    a: OrFault<Value>,
+    t: OrFault<usize>,
 ) -> Ranged
     requires { Classes classes.now }
     ensures { result ≡ range_rest d.now quantity a t }
@@ -256,7 +256,12 @@ pub struct Said {
 }
 
 // The first 2 or 3 met in a line.
-fn join_line(a: Read<Value>, q: Read<Quoted>, special: usize, end: Read<usize>) -> Read<Said>
+fn join_line(
+    a: OrFault<Value>,
+    q: OrFault<Quoted>,
+    special: usize,
+    end: OrFault<usize>,
+) -> OrFault<Said>
     ensures { result ≡ said_of a q special end }
 {
     let value = a?;
@@ -271,7 +276,7 @@ fn join_line(a: Read<Value>, q: Read<Quoted>, special: usize, end: Read<usize>) 
 }
 
 // A line whose value is a: a string, and SPECIAL or not.
-fn line_rest(classes: &[u8; 256], d: &[u8], a: Read<Value>) -> Read<Said>
+fn line_rest(classes: &[u8; 256], d: &[u8], a: OrFault<Value>) -> OrFault<Said>
     requires { Classes classes.now }
     ensures { result ≡ line_rest d.now a }
 {
@@ -364,7 +369,7 @@ pub fn judge_line(
     quantity: bool,
     b: Block,
     v: Value,
-) -> Read<i64>
+) -> OrFault<i64>
     requires last_in_bounds { (line_size * last ≤ length lines.now) × (first ≤ last) × (last ≤ most_lines) }
     requires marks_len { length marks.now ≡ 16384 }
     requires marked { Marked (room_at lines.now first) (last - first) stamp marks.now }
@@ -413,12 +418,18 @@ fn grown(b: Block, v: Value) -> Block
 // What follows a line: another value, or END VALUES and the place after it.
 #[derive(Clone, Copy)]
 pub enum Turn {
-    More { amount: Read<Value>, block: Block },
-    Over { block: Block, next: usize },
+    More {
+        amount: OrFault<Value>,
+        block: Block,
+    },
+    Over {
+        block: Block,
+        next: usize,
+    },
     Not(Fault),
 }
 
-fn end_values(b: Block, t: Read<usize>) -> Turn
+fn end_values(b: Block, t: OrFault<usize>) -> Turn
     ensures { result ≡ end_of b t }
 {
     match t {
@@ -505,7 +516,7 @@ pub fn stand_line(
     lines: &mut [i64],
     marks: &mut [u16],
     stamp: u16,
-) -> Read<i64>
+) -> OrFault<i64>
     requires spare { Spare (length lines.old) last × (first ≤ last) × (last ≤ most_lines) × (length marks.old ≡ 16384) }
     requires marked { Marked (room_at lines.old first) (last - first) stamp marks.old }
     requires storable { storable s }
@@ -565,7 +576,7 @@ fn one_line(
     d: &[u8],
     quantity: bool,
     first: usize,
-    a: Read<Value>,
+    a: OrFault<Value>,
     b: Block,
     last: usize,
     lines: &mut [i64],
@@ -627,7 +638,7 @@ pub fn read_lines(
     classes: &[u8; 256],
     d: &[u8],
     quantity: bool,
-    a: Read<Value>,
+    a: OrFault<Value>,
     b: Block,
     first: usize,
     lines: &mut [i64],
@@ -683,7 +694,7 @@ pub fn empty_block() -> Block
 }
 
 // A block without lines, behind its END VALUES.
-fn close_block(b: Block, first: usize, t: Read<usize>) -> Listed
+fn close_block(b: Block, first: usize, t: OrFault<usize>) -> Listed
     ensures { result ≡ listed_of first (closed_by b t) }
 {
     match t {
@@ -735,7 +746,7 @@ pub fn values_on(
     classes: &[u8; 256],
     d: &[u8],
     quantity: bool,
-    t: Read<usize>,
+    t: OrFault<usize>,
     first: usize,
     lines: &mut [i64],
     marks: &mut [u16],

@@ -18,7 +18,7 @@ use Rattle.values.specs.Block.{empty_block}
 use Rattle.variables.specs.declared.Rest.{Rest}
 use Rattle.variables.specs.Rest.{Told, Is, Not, join_values, join_size, join_nothing}
 use Rattle.variables.specs.Rest.{rested_of, Stored}
-use Rattle.tokens.specs.rule.Gap.{Read}
+use Rattle.tokens.specs.rule.Gap.{OrFault}
 use Rattle.tokens.specs.declared.Figures.{Figures}
 
 pub never : {A : Type 0} → ◌≡◌ {A = ℕ} 0 1 → A
@@ -70,12 +70,12 @@ module _ (first : ℕ) where
   unfolding rested_of
   rested_none size n = let e : first ≡ first + 0 = omega arith in ap (λ (k : ℕ). Ok (rest empty_block k 0 0 size n)) e
 
-  pub stored_size : (n : Read Figures) (room : List ℤ) → Stored first (join_size n) room room
+  pub stored_size : (n : OrFault Figures) (room : List ℤ) → Stored first (join_size n) room room
   unfolding join_size
   stored_size (Ok x) room = none x.size x.next room
   stored_size (Err f) room = stored_not first f room room
 
-  pub stored_nothing : (t : Read ℕ) (room : List ℤ) → Stored first (join_nothing t) room room
+  pub stored_nothing : (t : OrFault ℕ) (room : List ℤ) → Stored first (join_nothing t) room room
   unfolding join_nothing
   stored_nothing (Ok n) room = none 0 n room
   stored_nothing (Err f) room = stored_not first f room room

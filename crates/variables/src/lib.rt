@@ -15,7 +15,7 @@ ghost use Rattle.variables.specs.Rest.{values_rest, join_size, join_nothing, spr
 ghost use Rattle.variables.specs.Rest.{rested_of, Stored};
 
 use statements::{Position, Typed};
-use tokens::{Choice, Fault, Figures, Quoted, Read};
+use tokens::{Choice, Fault, Figures, OrFault, Quoted};
 use values::{Block, Listed};
 
 // Whether an ident has more than four digits, is 0, or was met before.
@@ -35,7 +35,7 @@ fn wrong_ident(seen: &[u8], x: Figures) -> bool
 }
 
 // 5 comes before 8 at a 513th variable.
-pub fn judge_ident(seen: &[u8], count: usize, n: Read<Figures>) -> Read<Figures>
+pub fn judge_ident(seen: &[u8], count: usize, n: OrFault<Figures>) -> OrFault<Figures>
     requires { length seen.now ≡ 10000 }
     ensures { result ≡ judge_ident (marked seen.now) count n }
 {
@@ -63,10 +63,10 @@ pub fn judge_ident(seen: &[u8], count: usize, n: Read<Figures>) -> Read<Figures>
 pub fn ident_on(
     classes: &[u8; 256],
     d: &[u8],
-    t: Read<usize>,
+    t: OrFault<usize>,
     seen: &[u8],
     count: usize,
-) -> Read<Figures>
+) -> OrFault<Figures>
     requires classes { Classes classes.now }
     requires seen_len { length seen.now ≡ 10000 }
     ensures { result ≡ ident_on d.now t (marked seen.now) count }
@@ -77,7 +77,7 @@ pub fn ident_on(
     judge_ident(seen, count, n)
 }
 
-fn past_type(k: Typed) -> Read<usize>
+fn past_type(k: Typed) -> OrFault<usize>
     ensures { result ≡ past_type k }
 {
     match k {
@@ -108,7 +108,7 @@ pub struct Titles {
 }
 
 // The first refusal met among them.
-fn join_titles(i: Read<Figures>, n: Read<Quoted>, l: Read<Quoted>) -> Read<Titles>
+fn join_titles(i: OrFault<Figures>, n: OrFault<Quoted>, l: OrFault<Quoted>) -> OrFault<Titles>
     ensures { result ≡ join_titles i n l }
 {
     let ident = i?.size;
@@ -117,7 +117,7 @@ fn join_titles(i: Read<Figures>, n: Read<Quoted>, l: Read<Quoted>) -> Read<Title
     Ok(Titles { ident, name, label })
 }
 
-fn join_head(t: Read<Titles>, k: Typed, p: Read<Position>) -> Read<Head>
+fn join_head(t: OrFault<Titles>, k: Typed, p: OrFault<Position>) -> OrFault<Head>
     ensures { result ≡ join_head t k p }
 {
     let x = t?;
@@ -140,7 +140,7 @@ fn join_head(t: Read<Titles>, k: Typed, p: Read<Position>) -> Read<Head>
 }
 
 // NAME and LABEL with their texts. Each knows the word that it compares, as the readers of the other statements do.
-fn name_on(classes: &[u8; 256], d: &[u8], t: Read<usize>) -> Read<Quoted>
+fn name_on(classes: &[u8; 256], d: &[u8], t: OrFault<usize>) -> OrFault<Quoted>
     requires { Classes classes.now }
     ensures { result ≡ text_on d.now t NAME }
 {
@@ -149,7 +149,7 @@ fn name_on(classes: &[u8; 256], d: &[u8], t: Read<usize>) -> Read<Quoted>
     tokens::string_on(classes, d, w)
 }
 
-fn label_on(classes: &[u8; 256], d: &[u8], t: Read<usize>) -> Read<Quoted>
+fn label_on(classes: &[u8; 256], d: &[u8], t: OrFault<usize>) -> OrFault<Quoted>
     requires { Classes classes.now }
     ensures { result ≡ text_on d.now t LABEL }
 {
@@ -159,7 +159,7 @@ fn label_on(classes: &[u8; 256], d: &[u8], t: Read<usize>) -> Read<Quoted>
 }
 
 // NAME, LABEL, TYPE and POSITION behind an ident that stands.
-pub fn head_on(classes: &[u8; 256], d: &[u8], i: Read<Figures>) -> Read<Head>
+pub fn head_on(classes: &[u8; 256], d: &[u8], i: OrFault<Figures>) -> OrFault<Head>
     requires { Classes classes.now }
     ensures { result ≡ head_on d.now i }
 {
@@ -191,14 +191,14 @@ fn values_rest(
     classes: &[u8; 256],
     d: &[u8],
     quantity: bool,
-    t: Read<usize>,
+    t: OrFault<usize>,
     subfields: u64,
     subwidth: u64,
     first: usize,
     lines: &mut [i64],
     marks: &mut [u16],
     stamp: u16,
-) -> Read<Rest>
+) -> OrFault<Rest>
     requires classes { Classes classes.now }
     requires d_len_bound { length d.now ≤ 1048576 }
     requires first_in_bounds { (line_size * first ≤ length lines.old) × (first ≤ most_lines) × (length marks.old ≡ 16384) }
@@ -220,7 +220,7 @@ fn values_rest(
 }
 
 // A variable without values: its size, or 0.
-fn join_size(n: Read<Figures>, first: usize) -> Read<Rest>
+fn join_size(n: OrFault<Figures>, first: usize) -> OrFault<Rest>
     ensures { result ≡ rested_of first (join_size n) }
 {
     let x = n?;
@@ -235,7 +235,7 @@ fn join_size(n: Read<Figures>, first: usize) -> Read<Rest>
     })
 }
 
-fn join_nothing(t: Read<usize>, first: usize) -> Read<Rest>
+fn join_nothing(t: OrFault<usize>, first: usize) -> OrFault<Rest>
     ensures { result ≡ rested_of first (join_nothing t) }
 {
     let next = t?;
@@ -254,13 +254,13 @@ fn join_nothing(t: Read<usize>, first: usize) -> Read<Rest>
 fn spread_then(
     classes: &[u8; 256],
     d: &[u8],
-    t: Read<usize>,
+    t: OrFault<usize>,
     width: u64,
     first: usize,
     lines: &mut [i64],
     marks: &mut [u16],
     stamp: u16,
-) -> Read<Rest>
+) -> OrFault<Rest>
     requires classes { Classes classes.now }
     requires d_len_bound { length d.now ≤ 1048576 }
     requires first_in_bounds { (line_size * first ≤ length lines.old) × (first ≤ most_lines) × (length marks.old ≡ 16384) }
@@ -297,13 +297,13 @@ pub fn rest_on(
     classes: &[u8; 256],
     d: &[u8],
     kind: usize,
-    t: Read<usize>,
+    t: OrFault<usize>,
     width: u64,
     first: usize,
     lines: &mut [i64],
     marks: &mut [u16],
     stamp: u16,
-) -> Read<Rest>
+) -> OrFault<Rest>
     requires classes { Classes classes.now }
     requires d_len_bound { length d.now ≤ 1048576 }
     requires first_in_bounds { (line_size * first ≤ length lines.old) × (first ≤ most_lines) × (length marks.old ≡ 16384) }

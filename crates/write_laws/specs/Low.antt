@@ -7,7 +7,7 @@ use Rattle.std.proofs.Math.ListN.{length}
 use Rattle.std.proofs.Common.{le-ltb}
 use Rattle.tokens.specs.declared.Choice.{Choice}
 use Rattle.tokens.specs.declared.Choice.TheVariants.{Taken, Left}
-use Rattle.tokens.specs.rule.Gap.{fault, Read}
+use Rattle.tokens.specs.rule.Gap.{fault, OrFault}
 use Rattle.tokens.specs.Token.{choice_of, word_on}
 use Rattle.statements.specs.rule.Words.{END, RECORD, SURVEY, SSS}
 use Rattle.statements.specs.Note.{notes_on, statement_on}
@@ -47,7 +47,7 @@ module _ (d : List ℕ) where
       let count = length s.earlier in
       by (entry_of d s.at met count before) (entry_of_lem d s.at met count before h)
     where
-      ends : (l : List Variable) (t : Read ℕ) (c : Choice) → Stands d t → ChoiceStands d c
+      ends : (l : List Variable) (t : OrFault ℕ) (c : Choice) → Stands d t → ChoiceStands d c
           → Onward (λ (c : Course). Stands d c.at) VariablesLow (end_or l t c)
       ends l t (Taken m) k i = i
       ends l t Left k i = k
@@ -60,7 +60,7 @@ module _ (d : List ℕ) where
           ends (s.earlier ++ v ∷ []) t (choice_of d t END) l (choice_of_lem d t END l)
       by (entry.Not g) k = k.to_eight
 
-  variables_from_lem : (t : Read ℕ) → Stands d t → VariablesLow (variables_from d (course t []))
+  variables_from_lem : (t : OrFault ℕ) → Stands d t → VariablesLow (variables_from d (course t []))
   unfolding variables_from
   variables_from_lem t h =
       loop_keeps (λ (f : ℕ) (c : Course). Stands d c.at) VariablesLow (variable_step d) (variables.Not (fault 0 0)) (λ s r. omega arith)
@@ -82,7 +82,7 @@ module _ (d : List ℕ) where
   survey_low : ReadLow (survey_of d)
   unfolding survey_of
   survey_low = by (variables_from d (course (front_on d).next [])) (variables_from_lem (front_on d).next (front_on_lem d)) where
-    ends : (l : List Variable) (t : Read ℕ) → Stands d t → ReadLow (ended (front_on d) l t)
+    ends : (l : List Variable) (t : OrFault ℕ) → Stands d t → ReadLow (ended (front_on d) l t)
     ends l (Ok n) k = tt
     ends l (Err f) k = k.to_eight
 

@@ -51,10 +51,10 @@ use Rattle.sheets.proofs.Few.{few}
 use Rattle.xml_files.proofs.Lists.{highest_low}
 use Rattle.xml_files.proofs.Rans.{moved_rows}
 use Rattle.xml_files.proofs.Settles.{lying_here}
-use Rattle.tokens.specs.rule.Gap.{Read}
+use Rattle.tokens.specs.rule.Gap.{OrFault}
 
 -- ---- the code's answers as the rule's
-passed_is : {r : Read ℕ} (x : Result Unit) → r ≡ reading_of x → passed r ≡ x
+passed_is : {r : OrFault ℕ} (x : Result Unit) → r ≡ reading_of x → passed r ≡ x
 passed_is (Is u n) e = ap passed e
 passed_is (Not f) e = ap passed e
 
@@ -170,7 +170,7 @@ module _ (bad : Bool) (d : List ℕ) (long : length d ≤ 1048576) (m : Manner) 
       unfolding tally_of
       lines_here = ap (λ (z : Tally). z.lines) s.tally
 
-      module _ (latin : Bool) (x : Read ℕ) (shut : x ≡ reading_of (sheet_closed bad d k)) where
+      module _ (latin : Bool) (x : OrFault ℕ) (shut : x ≡ reading_of (sheet_closed bad d k)) where
         pub body_ends : (f : Fault) → x ≡ Err f
             → RoomsRead (λ n. xml_settled latin d n (body_of bad d m at)) rows lines (rooms.Refused f.number f.place)
         unfolding body_of

@@ -20,7 +20,7 @@ use layout::Row;
 use prefaces::{Manner, Prefaced};
 use prologs::Prolog;
 use sheets::Entered;
-use tokens::{Fault, Read};
+use tokens::{Fault, OrFault};
 
 // ---- all variables
 // A variable whose start tag stands there, or another tag.

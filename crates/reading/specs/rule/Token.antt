@@ -13,7 +13,7 @@ use Rattle.marks.specs.declared.Inside.TheVariants.{Plain}
 use Rattle.marks.specs.declared.Skip.{Skip}
 use Rattle.marks.specs.declared.Skip.TheVariants.{Past, Unclosed, Bad}
 use Rattle.marks.specs.rule.Marks.{string_of}
-use Rattle.tokens.specs.rule.Gap.{fault, gap_at, Read}
+use Rattle.tokens.specs.rule.Gap.{fault, gap_at, OrFault}
 use Rattle.survey.specs.rule.Survey.{Figure, Amount, KeptText}
 use Rattle.reading.specs.rule.Result.{Result, Is, Not, Reader, ◌>>=◌, ◌>>◌, give, due}
 
@@ -66,7 +66,7 @@ unfoldable pub letter_in : scan.Text → Result ℕ
 letter_in (stop p) = due p
 letter_in (sign p b t) = cond (eqb (class_of b) 3) (Is b (p + 1)) (due p)
 
-abbrev pub passed : Read ℕ → Result Unit
+abbrev pub passed : OrFault ℕ → Result Unit
 passed (Ok n) = Is tt n
 passed (Err f) = Not f
 

@@ -10,24 +10,24 @@ use Rattle.marks.specs.rule.Marks.{comment_of}
 use Rattle.tokens.specs.declared.Fault.{Fault}
 
 -- what a reader read, as where reading stands, or the refusal that ended it
-abbrev pub Read : Type 0 → Type 0
-Read A = Result A Fault
+abbrev pub OrFault : Type 0 → Type 0
+OrFault A = Result A Fault
 
 abbrev pub fault : ℕ → ℕ → Fault
 fault n p = record { number = n; place = p }
 
 -- a comment that opened at p
-abbrev pub gap_skip : ℕ → Skip → Next ℕ (Read ℕ)
+abbrev pub gap_skip : ℕ → Skip → Next ℕ (OrFault ℕ)
 gap_skip p (Past n) = Again n
 gap_skip p Unclosed = Done (Err (fault 3 p))
 gap_skip p (Bad q) = Done (Err (fault 3 q))
 
-unfoldable pub gap_step : Text → Next ℕ (Read ℕ)
+unfoldable pub gap_step : Text → Next ℕ (OrFault ℕ)
 gap_step (stop p) = Done (Ok p)
 gap_step (sign p b t) =
     let past = gap_skip p (comment_of 1 t) in
     cond (is_space b) (Again (p + 1)) (cond (eqb b 60) past (Done (Ok p)))
 
 -- spaces and comments from `at` on, as long as there are any: the place of the token behind them
-unfoldable pub gap_at : List ℕ → ℕ → Read ℕ
+unfoldable pub gap_at : List ℕ → ℕ → OrFault ℕ
 gap_at d at = loop_of (λ n. gap_step (text d n)) (Ok 0) (suc (length d - at)) at
