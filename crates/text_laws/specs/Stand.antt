@@ -1,6 +1,6 @@
 -- Every text of a definition that was read, as the code's books have it, stands in the definition: from its place on it is a string, whose
 -- closing quote stands just behind its length. Names, labels, and the texts of lines. specs/Decoded brings it to the rule.
-use Rattle.std.specs.Prelude.{◌≡◌, Bool, eqb, ltb, Ok, Err}
+use Rattle.std.specs.Prelude.{◌≡◌, Bool, eqb, ltb, Ok, Err, ℤ}
 use Rattle.std.proofs.Math.Path.{refl, ap}
 use Rattle.std.proofs.Common.{◌∙◌, sym}
 use Rattle.std.proofs.Math.Bool.{true, false, cond}
