@@ -74,9 +74,7 @@ fn lows_of(d: &[u8], i: usize) -> u32
     ensures { result ≡ low_bits d.now i 16 }
 {
     let mut bits: u32 = 0;
-    let mut h: usize = 8;
-    while 0 < h {
-        h -= 1;
+    for h in (0..8).rev() {
         let k = i + 2 * h;
         let low = flag(d[k]);
         let next = flag(d[k + 1]);
@@ -127,10 +125,8 @@ fn low_among_some(d: &[u8], i: usize) -> bool
     ensures { result ≡ false → Clear d.now i (i + 64) }
 {
     let mut low = false;
-    let mut k: usize = 0;
-    while k < 16 {
+    for k in 0..16 {
         low = low | (least_of_four(d, i + k) < 32);
-        k += 1;
     }
     low
 }
@@ -141,10 +137,8 @@ fn low_among_many(d: &[u8], i: usize) -> bool
     ensures { result ≡ false → Clear d.now i (i + 256) }
 {
     let mut low = false;
-    let mut k: usize = 0;
-    while k < 16 {
+    for k in 0..16 {
         low = low | (least_of_many(d, i + k) < 32);
-        k += 1;
     }
     low
 }
@@ -228,14 +222,12 @@ pub fn low_from(d: &[u8], from: usize) -> usize
     requires { from ≤ length d.now }
     ensures { LowFrom d.now from result }
 {
-    let mut i = plain_from(d, from);
-    while i < d.len() {
+    for i in plain_from(d, from)..d.len() {
         if d[i] < 32 {
             return i;
         }
-        i += 1;
     }
-    i
+    d.len()
 }
 
 // The piece from a place on. Only bytes below 32 are looked at: no other is a boundary's.
