@@ -249,34 +249,20 @@ fn lay_few(d: &[u8], from: usize, stop: usize, out: &mut [u8], at: usize)
     ensures { Stored out.old out.new at (map plain_byte (part d.now from stop))
         (at + (stop - from)) }
 {
-    let mut j = from;
-    let mut o = at;
-    while j < stop {
-        let b = plain(d[j]);
-        out[o] = b;
-        j += 1;
-        o += 1;
+    for j in from..stop {
+        let o = at + (j - from);
+        out[o] = plain(d[j]);
     }
 }
 
-// Sixteen of them, by way of a room of their own: the compiler need not ask whether input and output overlap.
-fn lay_sixteen(d: &[u8], from: usize, out: &mut [u8], at: usize)
-    requires { (from + 16 ≤ length d.now) × (at + 16 ≤ length out.old) }
-    ensures { Stored out.old out.new at (map plain_byte (part d.now from (from + 16))) (at + 16) }
+// N of them, by way of a room of their own: the compiler need not ask whether input and output overlap.
+fn lay_some<const N: usize>(d: &[u8], from: usize, out: &mut [u8], at: usize)
+    requires { (from + N ≤ length d.now) × (at + N ≤ length out.old) }
+    ensures { Stored out.old out.new at (map plain_byte (part d.now from (from + N))) (at + N) }
 {
-    let mut room = [0u8; 16];
-    lay_few(d, from, from + 16, &mut room, 0);
-    runs::copy_in(out, at, &room, 16);
-}
-
-// Sixty-four.
-fn lay_many(d: &[u8], from: usize, out: &mut [u8], at: usize)
-    requires { (from + 64 ≤ length d.now) × (at + 64 ≤ length out.old) }
-    ensures { Stored out.old out.new at (map plain_byte (part d.now from (from + 64))) (at + 64) }
-{
-    let mut room = [0u8; 64];
-    lay_few(d, from, from + 64, &mut room, 0);
-    runs::copy_in(out, at, &room, 64);
+    let mut room = [0u8; N];
+    lay_few(d, from, from + N, &mut room, 0);
+    runs::copy_in(out, at, &room, N);
 }
 
 // By sixty-four, as many of n bytes as there are so. Answers how many.
@@ -287,7 +273,7 @@ fn lay_far(d: &[u8], from: usize, n: usize, out: &mut [u8], at: usize) -> usize
 {
     let mut j: usize = 0;
     while n - j >= 64 {
-        lay_many(d, from + j, out, at + j);
+        lay_some::<64>(d, from + j, out, at + j);
         j += 64;
     }
     j
@@ -307,10 +293,10 @@ fn lay_bytes(d: &[u8], from: usize, stop: usize, out: &mut [u8], at: usize)
     let last = n - 16;
     let mut j = lay_far(d, from, n, out, at);
     while j < last {
-        lay_sixteen(d, from + j, out, at + j);
+        lay_some::<16>(d, from + j, out, at + j);
         j += 16;
     }
-    lay_sixteen(d, from + last, out, at + last);
+    lay_some::<16>(d, from + last, out, at + last);
 }
 
 // The file's terminator, at a place of the output.
