@@ -193,10 +193,8 @@ fn mark_members(list: &[i64], n: usize, marks: &mut [u8])
     requires { (n ≤ length list.now) × (length marks.old ≤ 10000) }
     ensures { Besides (λ x. any_below n (λ j. eq_z (cell list.now j) x)) marks.old marks.new }
 {
-    let mut k: usize = 0;
-    while k < n {
+    for k in 0..n {
         sets::marks::mark_one(marks, list[k]);
-        k += 1;
     }
 }
 
@@ -219,10 +217,8 @@ fn mark_among(marks: &[u8], i: usize) -> bool
     ensures { result ≡ mark_among marks.now i 16 }
 {
     let mut any = false;
-    let mut k: usize = 0;
-    while k < 16 {
+    for k in 0..16 {
         any = any | (marks[i + k] == 1);
-        k += 1;
     }
     any
 }
@@ -330,15 +326,12 @@ fn pass_marked(marks: &[u8], from: usize) -> usize
     ensures { Marked marks.now from result }
 {
     let n = marks.len();
-    let mut i = pass_sixteens(marks, from);
-    while i < n {
-        if marks[i] == 1 {
-            i += 1;
-        } else {
+    for i in pass_sixteens(marks, from)..n {
+        if marks[i] != 1 {
             return i;
         }
     }
-    i
+    n
 }
 
 // The entry of category z set to 1, if it is one of those before `past`, which stand there.
@@ -366,10 +359,8 @@ fn put_ones(list: &[i64], n: usize, out: &mut [u8], past: usize, flags: usize, v
     requires { (n ≤ length list.now) × (past ≤ 10000) × Room flags values (length out.old) (past - 1) }
     ensures { OnesMore flags values (past - 1) list.now n out.old out.new }
 {
-    let mut k: usize = 0;
-    while k < n {
+    for k in 0..n {
         put_one(out, list[k], past, flags, values);
-        k += 1;
     }
 }
 
@@ -400,10 +391,8 @@ fn all_before(list: &[i64], n: usize, gap: usize) -> bool
     ensures { result ≡ true → NoneFrom list.now n gap }
 {
     let mut all = true;
-    let mut k: usize = 0;
-    while k < n {
+    for k in 0..n {
         all = all & (cells::count_of(list[k]) < gap);
-        k += 1;
     }
     all
 }
@@ -479,10 +468,8 @@ fn mark_range(row: Row, marks: &mut [u8])
         return;
     }
     let past = end_of(to, marks.len());
-    let mut c = start_of(from, past);
-    while c < past {
+    for c in start_of(from, past)..past {
         marks[c] = 1;
-        c += 1;
     }
 }
 
@@ -592,10 +579,8 @@ fn list_room(room: &[u16], list: &mut [i64])
     requires { length room.now ≤ length list.old }
     ensures { Copied room.now list.new }
 {
-    let mut k: usize = 0;
-    while k < room.len() {
-        list[k] = code_of(room[k]);
-        k += 1;
+    for (k, code) in room.iter().enumerate() {
+        list[k] = code_of(*code);
     }
 }
 
@@ -697,12 +682,9 @@ fn put_bits(
     ensures { BitsPut bytes.now at w w flags values met.old met.new out.old
         out.new }
 {
-    let mut i: usize = 0;
-    while i < w {
-        let k = i;
-        i += 1;
+    for k in 0..w {
         if bytes[at + k] == 49 {
-            met[i] = 1;
+            met[k + 1] = 1;
             matrix::put_entry(out, flags + k, values + 8 * k, Entry::Scaled(1, 1));
         } else {
             matrix::put_entry(out, flags + k, values + 8 * k, Entry::Scaled(0, 1));
@@ -862,11 +844,8 @@ fn count_marked(marks: &[u8]) -> usize
     ensures { result ≡ length (marked_entries true marks.now marks.now) }
 {
     let mut k: usize = 0;
-    let mut c: usize = 1;
-    while c < marks.len() {
-        let b = c;
-        c += 1;
-        if marks[b] == 1 {
+    for c in 1..marks.len() {
+        if marks[c] == 1 {
             k += 1;
         }
     }
@@ -995,10 +974,8 @@ pub fn count_columns(t: &[i64], h: Header, allowed: &mut [u8]) -> usize
     ensures { (result ≡ length (columns_from t.now h.rows 0 h.rows)) × (result ≤ 5119488) }
 {
     let mut k: usize = 0;
-    let mut i: usize = 0;
-    while i < h.rows {
+    for i in 0..h.rows {
         k += count_row(t, h, i, allowed);
-        i += 1;
     }
     k
 }
