@@ -230,6 +230,7 @@ fn pass_unmarked(marks: &[u8], from: usize) -> usize
 {
     let n = marks.len();
     let mut i = from;
+    // no `for`: the place where it stops is the answer
     while n - i >= 16 {
         if mark_among(marks, i) {
             return i;
@@ -311,6 +312,7 @@ fn pass_sixteens(marks: &[u8], from: usize) -> usize
 {
     let n = marks.len();
     let mut i = from;
+    // no `for`: the place where it stops is the answer
     while n - i >= 16 {
         if !matrix::all_are(marks, i, 16, 1) {
             return i;
@@ -668,6 +670,9 @@ fn put_listed(
     Put { there, near: false }
 }
 
+// The byte of a bitstring that says that the set has the category.
+const HAS: u8 = b'1';
+
 // The entries of w categories by the bytes of a bitstring, whose ones are marked besides those of the records before.
 fn put_bits(
     bytes: &[u8],
@@ -683,7 +688,7 @@ fn put_bits(
         out.new }
 {
     for k in 0..w {
-        if bytes[at + k] == 49 {
+        if bytes[at + k] == HAS {
             met[k + 1] = 1;
             matrix::put_entry(out, flags + k, values + 8 * k, Entry::Scaled(1, 1));
         } else {

@@ -6,7 +6,7 @@ use lib.ListN.{length, length-set}
 use Rattle.columns.specs.Marked.{marked_entry, marked_good}
 use Rattle.columns.specs.Whole.{BitsPut, bits_start, bits_one, bits_none}
 use Rattle.columns.proofs.put_bits.Goals as goal
-use Rattle.columns.proofs.put_bits.Goals.{In-loop-k, then-bytes-at-eq49, else-bytes-at-eq49}
+use Rattle.columns.proofs.put_bits.Goals.{In-loop-k, then-bytes-at-eq-HAS, else-bytes-at-eq-HAS}
 
 -- there is room for the entry that is at hand
 fits : (c : In-loop-k) → let a = c.args in let k = c.loop-k.k in
@@ -30,10 +30,10 @@ put_entry-requires c =
       flags_lt_values = (f.0, omega (arith, f.1, c.loop-k.invariant.1));
     }
 
-pub put_entry-requires-else-bytes-at-eq49 : goal.put_entry-requires-else-bytes-at-eq49
+pub put_entry-requires-else-bytes-at-eq-HAS : goal.put_entry-requires-else-bytes-at-eq-HAS
 unfolding marked_entry
-put_entry-requires-else-bytes-at-eq49 c =
-    let f = fits (goal.at.put_entry-requires-else-bytes-at-eq49 c).In-loop-k in record {
+put_entry-requires-else-bytes-at-eq-HAS c =
+    let f = fits (goal.at.put_entry-requires-else-bytes-at-eq-HAS c).In-loop-k in record {
       entry_good = marked_good true 0;
       flags_lt_values = (f.0, omega (arith, f.1, c.loop-k.invariant.1));
     }
@@ -43,18 +43,18 @@ loop-k-preserved c =
     let l = c.loop-k in
     let p = c.requires in
     let low = c.loop-k-test.true in
-    elim c.if-bytes-at-eq49.branch [
-      | then-bytes-at-eq49 w ↦ (
+    elim c.if-bytes-at-eq-HAS.branch [
+      | then-bytes-at-eq-HAS w ↦ (
         rw (w.met-is, length-set) l.invariant.0,
         rw w.out-is (w.put_entry.auto.out ∙ l.invariant.1),
-        rw (w.met-is, w.out-is) (bits_one _ _ _ _ _ _ l.invariant.2 low p.3.behind w.if-bytes-at-eq49.true l.invariant.0
+        rw (w.met-is, w.out-is) (bits_one _ _ _ _ _ _ l.invariant.2 low p.3.behind w.if-bytes-at-eq-HAS.true l.invariant.0
             (omega (arith, p.2)) w.put_entry.ensures),
       )
-      | else-bytes-at-eq49 w ↦ (
+      | else-bytes-at-eq-HAS w ↦ (
         rw w.met-is l.invariant.0,
-        rw w.out-is (w.put_entry-else-bytes-at-eq49.auto.out ∙ l.invariant.1),
-        rw (w.met-is, w.out-is) (bits_none _ _ _ _ _ _ l.invariant.2 low p.3.behind w.if-bytes-at-eq49.false
-            w.put_entry-else-bytes-at-eq49.ensures),
+        rw w.out-is (w.put_entry-else-bytes-at-eq-HAS.auto.out ∙ l.invariant.1),
+        rw (w.met-is, w.out-is) (bits_none _ _ _ _ _ _ l.invariant.2 low p.3.behind w.if-bytes-at-eq-HAS.false
+            w.put_entry-else-bytes-at-eq-HAS.ensures),
       )
     ]
 
@@ -88,25 +88,25 @@ overflow_add-values c = omega (
   (fits (goal.at.overflow_add-values c).In-loop-k).1,
 )
 
-pub overflow_add-flags-else-bytes-at-eq49 : goal.overflow_add-flags-else-bytes-at-eq49
-overflow_add-flags-else-bytes-at-eq49 c = omega (
+pub overflow_add-flags-else-bytes-at-eq-HAS : goal.overflow_add-flags-else-bytes-at-eq-HAS
+overflow_add-flags-else-bytes-at-eq-HAS c = omega (
   arith,
-  (fits (goal.at.overflow_add-flags-else-bytes-at-eq49 c).In-loop-k).0,
-  (fits (goal.at.overflow_add-flags-else-bytes-at-eq49 c).In-loop-k).1,
+  (fits (goal.at.overflow_add-flags-else-bytes-at-eq-HAS c).In-loop-k).0,
+  (fits (goal.at.overflow_add-flags-else-bytes-at-eq-HAS c).In-loop-k).1,
 )
 
-pub overflow_mul-k-else-bytes-at-eq49 : goal.overflow_mul-k-else-bytes-at-eq49
-overflow_mul-k-else-bytes-at-eq49 c = omega (
+pub overflow_mul-k-else-bytes-at-eq-HAS : goal.overflow_mul-k-else-bytes-at-eq-HAS
+overflow_mul-k-else-bytes-at-eq-HAS c = omega (
   arith,
-  (fits (goal.at.overflow_mul-k-else-bytes-at-eq49 c).In-loop-k).0,
-  (fits (goal.at.overflow_mul-k-else-bytes-at-eq49 c).In-loop-k).1,
+  (fits (goal.at.overflow_mul-k-else-bytes-at-eq-HAS c).In-loop-k).0,
+  (fits (goal.at.overflow_mul-k-else-bytes-at-eq-HAS c).In-loop-k).1,
 )
 
-pub overflow_add-values-else-bytes-at-eq49 : goal.overflow_add-values-else-bytes-at-eq49
-overflow_add-values-else-bytes-at-eq49 c = omega (
+pub overflow_add-values-else-bytes-at-eq-HAS : goal.overflow_add-values-else-bytes-at-eq-HAS
+overflow_add-values-else-bytes-at-eq-HAS c = omega (
   arith,
-  (fits (goal.at.overflow_add-values-else-bytes-at-eq49 c).In-loop-k).0,
-  (fits (goal.at.overflow_add-values-else-bytes-at-eq49 c).In-loop-k).1,
+  (fits (goal.at.overflow_add-values-else-bytes-at-eq-HAS c).In-loop-k).0,
+  (fits (goal.at.overflow_add-values-else-bytes-at-eq-HAS c).In-loop-k).1,
 )
 
 pub shape_of-met : goal.shape_of-met
