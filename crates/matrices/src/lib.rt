@@ -128,13 +128,13 @@ fn put_each(
 {
     let first = s.first;
     let step = s.step;
+    let start = p.from;
     let records = p.count;
-    let mut k: usize = 0;
-    let mut from = p.from;
-    let mut n: usize = 0;
     let mut held: u64 = 0;
     let mut near = true;
-    while n < records {
+    for n in 0..records {
+        let k = n * columns;
+        let from = start + n * step;
         let end = from + first;
         let put = columns::put_row(
             powers,
@@ -152,9 +152,6 @@ fn put_each(
         );
         held += one_if(put.there);
         near = near & put.near;
-        k += columns;
-        from += step;
-        n += 1;
     }
     Tally { count: held, near }
 }
@@ -200,10 +197,8 @@ fn put_told(out: &mut [u8], at: usize, n: u64, ones: &[u64; 16])
     requires { at + 384 ≤ length out.old }
     ensures { out.new ≡ put_at out.old at (told_from n ones.now 0 16) }
 {
-    let mut j: usize = 0;
-    while j < 16 {
-        matrix::put_summary(out, at + 24 * j, matrix::told(n, ones[j]));
-        j += 1;
+    for (j, one) in ones.iter().enumerate() {
+        matrix::put_summary(out, at + 24 * j, matrix::told(n, *one));
     }
 }
 
@@ -257,12 +252,10 @@ fn put_met(
 {
     let count = m.count;
     let gap = m.gap;
-    let mut k: usize = 0;
-    while k < count {
+    for k in 0..count {
         let mark = mark_of(met, gap, k + 1);
         let s = met_summary(out, mark, n, records, columns, flags + k, values + 8 * k);
         matrix::put_summary(out, at + 24 * k, s);
-        k += 1;
     }
 }
 
@@ -440,8 +433,7 @@ fn put_rows(
         (columns_from t.now h.rows 0 h.rows)) }
 {
     let mut k: usize = 0;
-    let mut i: usize = 0;
-    while i < h.rows {
+    for i in 0..h.rows {
         k += put_columns(
             powers,
             t,
@@ -460,7 +452,6 @@ fn put_rows(
             flags + k,
             values + 8 * k,
         );
-        i += 1;
     }
 }
 
@@ -472,13 +463,11 @@ fn more_summaries(out: &mut [u8], records: usize, columns: usize, flags: usize, 
     ensures { out.new ≡ put_at out.old 24
         (extended_in out.old columns flags values records 0 columns) }
 {
-    let mut k: usize = 0;
-    while k < columns {
+    for k in 0..columns {
         let at = 24 + 24 * k;
         let begun = matrix::get_summary(out, at);
         let sum = matrix::column_more(out, begun, flags + k, values + 8 * k, columns, records);
         matrix::put_summary(out, at, sum);
-        k += 1;
     }
 }
 

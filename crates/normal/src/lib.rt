@@ -142,10 +142,8 @@ fn settle_rows(powers: &[u64; 16], t: &[i64], rows: usize, list: &mut [i64], byt
     requires table_settles { TableSettles t.now rows (length bytes.old) (length list.old) }
     ensures { bytes.new ≡ settled_row t.now rows rows bytes.old }
 {
-    let mut i: usize = 0;
-    while i < rows {
+    for i in 0..rows {
         settle_at(powers, t, rows, i, list, bytes);
-        i += 1;
     }
 }
 
