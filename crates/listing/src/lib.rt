@@ -110,7 +110,10 @@ pub fn list_rows(
         }
         end = list_row(powers, t, h, n, row, bytes, list, out, end);
     }
-    Listed { row: h.rows, end }
+    Listed {
+        row: i.max(h.rows),
+        end,
+    }
 }
 
 // The ident of row i, 0 where there is no such row.
