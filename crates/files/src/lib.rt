@@ -42,26 +42,14 @@ struct Place {
 pub fn is_sound(j: Judged) -> bool
     ensures { result ≡ is_sound (judged_as j) }
 {
-    match j {
-        Judged::Sound => true,
-        Judged::BadTable => false,
-        Judged::ShortRecord => false,
-        Judged::LowByte(_) => false,
-        Judged::Faulty(_, _) => false,
-    }
+    matches!(j, Judged::Sound)
 }
 
 // Is a file sound so far?
 pub fn goes_on(j: Judgement) -> bool
     ensures { result ≡ sound_so_far (file_said j) }
 {
-    match j {
-        Judgement::Sound(_) => true,
-        Judgement::BadTable => false,
-        Judgement::Unended(_) => false,
-        Judgement::OtherLength(_) => false,
-        Judgement::Fault(_, _) => false,
-    }
+    matches!(j, Judgement::Sound(_))
 }
 
 // The length of the first record, once it is known.
