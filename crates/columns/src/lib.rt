@@ -2,7 +2,8 @@
 // stands the matrix of a file.
 #![tactic(auto)]
 
-ghost use Rattle.std.specs.Prelude.{◌≡◌, true, false, ℕ, ◌+◌, ◌-◌, ◌^◌, ◌≤◌, ◌<◌, List, [], ◌∷◌, pos, length, get_or};
+ghost use Rattle.std.specs.Prelude.{◌≡◌, true, false, ℕ, ◌+◌, ◌-◌, ◌^◌, ◌≤◌, ◌<◌, List, [], ◌∷◌, pos, length, get_or, is_some};
+ghost use Rattle.std.specs.Option.{unwrap_or};
 ghost use Rattle.below.specs.rule.Below.{any_below};
 ghost use Rattle.ascii.specs.rule.Tens.{Tens};
 ghost use Rattle.cells.specs.rule.Cell.{cell, eq_z};
@@ -20,13 +21,12 @@ ghost use Rattle.sets.specs.rule.Sets.{is_illegal};
 ghost use Rattle.sets.specs.Full.{always};
 ghost use Rattle.sets.specs.Marks.{Marks, Besides};
 ghost use Rattle.sets.specs.Sets.{SpreadRoom, bits_field_at};
-ghost use Rattle.record_values.specs.Rows.{members_in};
 ghost use Rattle.files.specs.rule.Tested.{Tested};
 ghost use Rattle.matrix.specs.Put.{put_entries};
 ghost use Rattle.matrix.specs.Entry.{EntryGood};
 ghost use Rattle.columns.specs.rule.Columns.{row_columns, columns_from, number_entry};
 ghost use Rattle.columns.specs.Reach.{shape_of, digits_reach, bits_reach, reach_by, Readable, Covered};
-ghost use Rattle.columns.specs.Marked.{answer_entry, is_set, marked_entry, marked_entries, member_entries};
+ghost use Rattle.columns.specs.Marked.{answer_entry, marked_entry, marked_entries, member_entries};
 ghost use Rattle.columns.specs.Stretch.{Starts, Ends, mark_among, Unmarked, Alike};
 ghost use Rattle.columns.specs.Room.{Room, PutAs};
 ghost use Rattle.columns.specs.Ones.{Marked, RangeTo, marked_left, in_list, stretch_from, OneMore, OnesMore, NoneFrom};
@@ -150,42 +150,6 @@ fn put_truth(b: u8, out: &mut [u8], flags: usize, values: usize)
 {
     let a = readings::truth(b);
     matrix::put_entry(out, flags, values, number_entry(a, 1));
-}
-
-// How many members a row's answer put into the list.
-fn members_in(a: Answer) -> usize
-    ensures { result ≡ members_in a }
-{
-    match a {
-        Answer::Set(n) => n,
-        Answer::Missing => 0,
-        Answer::Number(_) => 0,
-        Answer::Text(_, _) => 0,
-        Answer::Truth(_) => 0,
-        Answer::BadTable => 0,
-        Answer::NoRow => 0,
-        Answer::ShortRecord => 0,
-        Answer::Illegal => 0,
-        Answer::ShortList => 0,
-    }
-}
-
-// Whether a row's answer is a set; the empty one is.
-fn is_set(a: Answer) -> bool
-    ensures { result ≡ is_set a }
-{
-    match a {
-        Answer::Set(_) => true,
-        Answer::Missing => false,
-        Answer::Number(_) => false,
-        Answer::Text(_, _) => false,
-        Answer::Truth(_) => false,
-        Answer::BadTable => false,
-        Answer::NoRow => false,
-        Answer::ShortRecord => false,
-        Answer::Illegal => false,
-        Answer::ShortList => false,
-    }
 }
 
 // The first n numbers of a list marked, besides those that are.
@@ -552,22 +516,15 @@ fn put_far(
     put_members(list, n, m, allowed, present, there, out, flags, values);
 }
 
-// What a list holds of a set: whether there is one, and in how many of its first numbers; zeros among them don't count.
-#[derive(Clone, Copy)]
-pub struct Listed {
-    pub there: bool,
-    pub count: usize,
-}
-
-// The members of any multiple, as they are read.
-fn list_read(t: &[i64], rows: usize, row: Row, bytes: &[u8], list: &mut [i64]) -> Listed
+// The members of any multiple, as they are read: how many the list begins with, where there is a set; the empty one is.
+fn list_read(t: &[i64], rows: usize, row: Row, bytes: &[u8], list: &mut [i64]) -> Option<usize>
     requires { Readable t.now rows row (length bytes.now) × (length list.old ≡ 9999) }
-    ensures { Lists (reading_of t.now rows row bytes.now) list.new result.count result.there }
+    ensures { Lists (reading_of t.now rows row bytes.now) list.new (unwrap_or result 0) (is_some result) }
 {
-    let a = readings::read_row(t, rows, row, bytes, list);
-    let count = members_in(a);
-    let there = is_set(a);
-    Listed { there, count }
+    match readings::read_row(t, rows, row, bytes, list) {
+        Answer::Set(n) => Some(n),
+        _ => None,
+    }
 }
 
 fn code_of(x: u16) -> i64
@@ -605,7 +562,7 @@ fn list_fields(
     list_room(room, list);
 }
 
-// The members of a spread in a record where it is legal, in no order, and some of them twice.
+// The members of a spread in a record where it is legal, in no order, and some of them twice; zeros among them don't count.
 fn list_spread(
     t: &[i64],
     rows: usize,
@@ -614,10 +571,10 @@ fn list_spread(
     b: usize,
     bytes: &[u8],
     list: &mut [i64],
-) -> Listed
+) -> Option<usize>
     requires readable { Readable t.now rows row (length bytes.now) × (length list.old ≡ 9999) × (row.kind ≡ Multiple (Fields n b)) }
     requires bytes_value { is_illegal (reading_of t.now rows row bytes.now) ≡ false }
-    ensures { Lists (reading_of t.now rows row bytes.now) list.new result.count result.there }
+    ensures { Lists (reading_of t.now rows row bytes.now) list.new (unwrap_or result 0) (is_some result) }
 {
     if 64 < n {
         return list_read(t, rows, row, bytes, list);
@@ -625,27 +582,21 @@ fn list_spread(
     let at = row.start - 1;
     let w = row.width;
     if sets::spread::spread_blank(bytes, at, b, w, n) {
-        return Listed {
-            there: false,
-            count: 0,
-        };
+        return None;
     }
     let mut room = [0u16; 64];
     list_fields(bytes, at, b, w, n, &mut room[..n], list);
-    Listed {
-        there: true,
-        count: n,
-    }
+    Some(n)
 }
 
-// The entries of a multiple's categories, by the marks of its row and by the list of its members.
+// The entries of a multiple's categories, by the marks of its row and by the list's first numbers, its members where it holds a set.
 fn put_listed(
     t: &[i64],
     rows: usize,
     row: Row,
     bytes: &[u8],
     m: Marking,
-    l: Listed,
+    l: Option<usize>,
     list: &[i64],
     allowed: &[u8],
     present: &mut [u8],
@@ -653,15 +604,15 @@ fn put_listed(
     flags: usize,
     values: usize,
 ) -> Put
-    requires lists { Lists (reading_of t.now rows row bytes.now) list.now l.count l.there }
+    requires lists { Lists (reading_of t.now rows row bytes.now) list.now (unwrap_or l 0) (is_some l) }
     requires marked_set { MarkedSet t.now rows row allowed.now m.gap m.count × (length present.old ≡ length allowed.now) }
     requires room { Room flags values (length out.old) m.count }
     ensures { RowPut (member_entries (reading_of t.now rows row bytes.now)
         (defined (legal t.now rows row) 1 9999)) m.gap m.count flags values present.old
         present.new out.old out.new result.there result.near }
 {
-    let n = l.count;
-    let there = l.there;
+    let n = l.unwrap_or(0);
+    let there = l.is_some();
     if all_before(list, n, m.gap) {
         put_near(list, n, m, there, present, out, flags, values);
         return Put { there, near: true };
