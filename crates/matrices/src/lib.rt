@@ -2,7 +2,7 @@
 // was written. Nothing in memory grows with records or columns. Above it stands the face.
 #![tactic(auto)]
 
-ghost use Rattle.std.specs.Prelude.{◌≡◌, true, cond, [], ℕ, ◌+◌, ◌*◌, ◌≤◌, ◌<◌, ltb, length, get_or};
+ghost use Rattle.std.specs.Prelude.{◌≡◌, true, cond, [], ℕ, ◌+◌, ◌*◌, ◌≤◌, ◌<◌, ltb, length, get_or, IfSome};
 ghost use Rattle.little.specs.rule.Bytes.{put_at};
 ghost use Rattle.cuts.specs.rule.Records.{records_of, length_of_first};
 ghost use Rattle.files.specs.rule.File.{file_said};
@@ -85,20 +85,14 @@ fn step_of(d: &[u8]) -> Step
     }
 }
 
-// What was put of a row: how many records hold a set, and whether the members of all of them are marked.
-#[derive(Clone, Copy)]
-struct Tally {
-    count: u64,
-    near: bool,
-}
-
 fn one_if(b: bool) -> u64
     ensures { result ≡ cond b 1 0 }
 {
     if b { 1 } else { 0 }
 }
 
-// The entries of a row in some records, whose marks were made: each record's so many columns behind those of the record before.
+// The entries of a row in some records, whose marks were made: each record's so many columns behind those of the record before. Answers how
+// many records hold a set, where the members of all of them are marked.
 fn put_each(
     powers: &[u64; 16],
     t: &[i64],
@@ -115,7 +109,7 @@ fn put_each(
     out: &mut [u8],
     flags: usize,
     values: usize,
-) -> Tally
+) -> Option<u64>
     requires tens { Tens powers.now × (length list.old ≡ 9999) × (length present.old ≡ length allowed.now) }
     requires marked_row { MarkedRow t.now rows row allowed.now m.gap m.count × ((x : ℕ) → x < m.gap → get_or present.old x 0 ≡ 0) }
     requires steps { Steps d.now s.first s.step p.from p.count
@@ -123,7 +117,7 @@ fn put_each(
     requires columns_bound { (p.count * columns ≤ 16777216) × EachRoom flags values (length out.old) columns m.count p.count }
     ensures { (out.new ≡ put_each (λ x. entries_by row.kind t.now rows row x) columns out.old flags
         values (records_in d.now s.first s.step p.from p.count))
-        × (result.near ≡ true → RowMet (λ x. entries_by row.kind t.now rows row x) m.gap m.count result.count
+        × IfSome result (λ held. RowMet (λ x. entries_by row.kind t.now rows row x) m.gap m.count held
         present.new (records_in d.now s.first s.step p.from p.count)) }
 {
     let first = s.first;
@@ -153,7 +147,7 @@ fn put_each(
         held += one_if(put.there);
         near = near & put.near;
     }
-    Tally { count: held, near }
+    if near { Some(held) } else { None }
 }
 
 // The mark of the c-th column of a row: those behind its first gap have none.
@@ -264,7 +258,7 @@ fn put_summaries(
     out: &mut [u8],
     met: &[u8],
     m: Marking,
-    y: Tally,
+    held: Option<u64>,
     records: usize,
     columns: usize,
     at: usize,
@@ -274,13 +268,13 @@ fn put_summaries(
     requires columns_bound { (columns ≤ 16777216) × (m.count ≤ columns) × (at + 24 * m.count ≤ flags) × (flags ≤ values)
         × (at + 24 * m.count ≤ length out.old) × (values ≤ 268435456) }
     requires columns_there { ColumnsThere out.old columns flags values records m.count }
-    requires met_column { y.near ≡ true → (j : ℕ) → j < m.count
-        → MetColumn (column_in out.old columns (flags + j) (values + 8 * j) records) y.count (mark_at m.gap met.now (j + 1)) }
+    requires met_column { IfSome held (λ n. (j : ℕ) → j < m.count
+        → MetColumn (column_in out.old columns (flags + j) (values + 8 * j) records) n (mark_at m.gap met.now (j + 1))) }
     ensures { out.new ≡ put_at out.old at
         (summaries_in out.old columns flags values records m.count) }
 {
-    if y.near {
-        put_met(out, met, m, y.count, records, columns, at, flags, values);
+    if let Some(n) = held {
+        put_met(out, met, m, n, records, columns, at, flags, values);
         return;
     }
     let count = m.count;
@@ -338,11 +332,11 @@ fn put_marked(
 {
     let m = columns::mark_row(t, rows, row, allowed);
     sets::marks::clear(present);
-    let y = put_each(
+    let held = put_each(
         powers, t, rows, row, m, d, s, p, columns, list, allowed, present, out, flags, values,
     );
     if told {
-        put_summaries(out, present, m, y, p.count, columns, at, flags, values);
+        put_summaries(out, present, m, held, p.count, columns, at, flags, values);
     }
     m.count
 }

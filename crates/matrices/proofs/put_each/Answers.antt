@@ -15,9 +15,9 @@ use mathlib.Core.Bool.{Bool, true, false, cond}
 use Rattle.matrices.specs.Entries.{record_at}
 use Rattle.matrices.specs.Parts.{records_in, length_records, record_in}
 use Rattle.matrices.specs.Met.{going_start, going_step, going_over, count_low}
-use Rattle.matrices.specs.Blocks.{cells_below, more_cells, each_step, each_done}
+use Rattle.matrices.specs.Blocks.{put_each, cells_below, more_cells, each_step, each_done}
 use Rattle.matrices.proofs.put_each.Goals as goal
-use Rattle.matrices.proofs.put_each.Goals.{In-loop-n}
+use Rattle.matrices.proofs.put_each.Goals.{In-loop-n, After-loop-n}
 
 one_low : (b : Bool) {k : ℕ} → k ≡ cond b 1 0 → k ≤ 1
 one_low true e = omega arith
@@ -102,19 +102,31 @@ loop-n-preserved c =
           (put.ensures.1 (and_right l.near _ e)) (ap (λ (k : ℕ). l.held + k) c.one_if-held.ensures),
     )
 
-pub returns : goal.returns
-returns c =
+-- the entries of all records are put
+done : (c : After-loop-n) → let a = c.args in
+    c.loop-n.out ≡ put_each (λ r. entries_by a.row.kind a.t.now a.rows a.row r) a.columns a.out.now a.flags a.values
+    (records_in a.d.now a.s.first a.s.step a.p.from a.p.count)
+done c =
+    let l = c.loop-n in
+    let a = c.args in
+    each_done (λ r. entries_by a.row.kind a.t.now a.rows a.row r) a.columns
+    (records_in a.d.now a.s.first a.s.step a.p.from a.p.count) l.n
+    (a.flags + l.n * a.columns) (a.values + 8 * (l.n * a.columns))
+    (omega (arith, c.loop-n-test.false, length_records a.d.now a.s.first a.s.step a.p.from a.p.count)) l.invariant.3
+
+pub returns-then-near : goal.returns-then-near
+returns-then-near c =
     let l = c.loop-n in
     let a = c.args in (
-      each_done (λ r. entries_by a.row.kind a.t.now a.rows a.row r) a.columns
-          (records_in a.d.now a.s.first a.s.step a.p.from a.p.count) l.n
-          (a.flags + l.n * a.columns) (a.values + 8 * (l.n * a.columns))
-          (omega (arith, c.loop-n-test.false, length_records a.d.now a.s.first a.s.step a.p.from a.p.count)) l.invariant.3,
-      λ e. going_over (λ r. entries_by a.row.kind a.t.now a.rows a.row r)
+      done (goal.at.returns-then-near c).After-loop-n,
+      going_over (λ r. entries_by a.row.kind a.t.now a.rows a.row r)
           (records_in a.d.now a.s.first a.s.step a.p.from a.p.count) l.n
           (omega (arith, c.loop-n-test.false, length_records a.d.now a.s.first a.s.step a.p.from a.p.count))
-          (l.invariant.5 e),
+          (l.invariant.5 c.if-near.true),
     )
+
+pub returns-else-near : goal.returns-else-near
+returns-else-near c = (done (goal.at.returns-else-near c).After-loop-n, tt)
 
 pub overflow_add-end : goal.overflow_add-end
 overflow_add-end c = omega (arith, inside c)
@@ -146,12 +158,3 @@ overflow_add-held c = omega (
   c.loop-n-test.true,
   one_low c.put_row-put.result.there c.one_if-held.ensures,
 )
-
-pub shape_of-list : goal.shape_of-list
-shape_of-list c = c.loop-n.invariant.0
-
-pub shape_of-present : goal.shape_of-present
-shape_of-present c = c.loop-n.invariant.1
-
-pub shape_of-out : goal.shape_of-out
-shape_of-out c = c.loop-n.invariant.2
