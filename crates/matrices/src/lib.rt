@@ -85,12 +85,6 @@ fn step_of(d: &[u8]) -> Step
     }
 }
 
-fn one_if(b: bool) -> u64
-    ensures { result ≡ cond b 1 0 }
-{
-    if b { 1 } else { 0 }
-}
-
 // The entries of a row in some records, whose marks were made: each record's so many columns behind those of the record before. Answers how
 // many records hold a set, where the members of all of them are marked.
 fn put_each(
@@ -144,7 +138,7 @@ fn put_each(
             flags + k,
             values + 8 * k,
         );
-        held += one_if(put.there);
+        held += u64::from(put.there);
         near = near & put.near;
     }
     if near { Some(held) } else { None }
@@ -519,16 +513,6 @@ fn put_block(
     more_summaries(out, count, columns, flags + k, values + 8 * k);
 }
 
-// The smaller of two numbers.
-fn least(a: usize, b: usize) -> usize
-    ensures { (result ≤ a) × (result ≤ b) × (1 ≤ a → 1 ≤ b → 1 ≤ result) }
-{
-    if a < b {
-        return a;
-    }
-    b
-}
-
 // How many records are put together: all, or, of a table with many rows of few columns, so many that their places stay near.
 fn block_of(rows: usize, columns: usize, records: usize) -> usize
     requires { 1 ≤ columns }
@@ -543,7 +527,7 @@ fn block_of(rows: usize, columns: usize, records: usize) -> usize
     if rows < 64 {
         return records;
     }
-    least(16 + 16_384 / columns, records)
+    records.min(16 + 16_384 / columns)
 }
 
 // The presence bytes and values of all records, and the summaries: block by block, and row by row of the table within a block.
@@ -583,8 +567,9 @@ fn put_records(
         powers, t, h, d, s, p, columns, list, allowed, present, true, out, flags, values,
     );
     let mut n = size;
+    // no `step_by`: of no record a block has none, and its steps are 1 at least
     while n < records {
-        let count = least(size, records - n);
+        let count = size.min(records - n);
         put_block(
             powers, t, h, d, s, n, count, columns, list, allowed, present, out, flags, values,
         );

@@ -63,20 +63,6 @@ fn same(e: Terminator, b: Terminator) -> bool
     e.second == b.second
 }
 
-// 1 where the record needs another terminator.
-fn other(ended: bool) -> usize
-    ensures { result ≡ cond ended 0 1 }
-{
-    if ended { 0 } else { 1 }
-}
-
-// 1 where the record is shorter.
-fn shorter(long: usize, width: usize) -> usize
-    ensures { result ≡ cond (ltb long width) 1 0 }
-{
-    if long < width { 1 } else { 0 }
-}
-
 // One record more.
 fn tally(z: Sizes, long: usize, lows: usize, ended: bool) -> Sizes
     requires { (z.short ≤ z.kept) × (z.kept < 9223372036854775808) × (z.others + lows < 18446744073709551614) }
@@ -90,7 +76,7 @@ fn tally(z: Sizes, long: usize, lows: usize, ended: bool) -> Sizes
             others: z.others + 1,
         };
     }
-    let others = z.others + lows + other(ended);
+    let others = z.others + lows + usize::from(!ended);
     if z.width < long {
         return Sizes {
             kept: z.kept + 1,
@@ -99,7 +85,7 @@ fn tally(z: Sizes, long: usize, lows: usize, ended: bool) -> Sizes
             others,
         };
     }
-    let short = z.short + shorter(long, z.width);
+    let short = z.short + usize::from(long < z.width);
     Sizes {
         kept: z.kept + 1,
         width: z.width,

@@ -4,6 +4,7 @@ use Prim.Native.Nat.{ℕ, ◌+◌, ◌*◌, ◌≤◌, ◌<◌}
 use native.Mathlib.Nat.{add-zero, zero-mul}
 use native.Mathlib.Omega.{arith}
 use lib.ListN.{length}
+use Rattle.std.specs.Int.{from_bool}
 use Rattle.cuts.specs.Records.{part}
 use Rattle.fields.specs.rule.Row.{reading_of}
 use Rattle.sets.specs.rule.Sets.{is_illegal}
@@ -19,9 +20,10 @@ use Rattle.matrices.specs.Blocks.{put_each, cells_below, more_cells, each_step, 
 use Rattle.matrices.proofs.put_each.Goals as goal
 use Rattle.matrices.proofs.put_each.Goals.{In-loop-n, After-loop-n}
 
-one_low : (b : Bool) {k : ℕ} → k ≡ cond b 1 0 → k ≤ 1
-one_low true e = omega arith
-one_low false e = omega arith
+-- a set more, or none
+one : (b : Bool) → (from_bool b ≡ cond b 1 0) × (from_bool b ≤ 1)
+one true = (refl, omega arith)
+one false = (refl, omega arith)
 
 -- the record that is at hand, and the room for its entries
 low : (c : In-loop-n) → c.loop-n.n
@@ -91,7 +93,7 @@ loop-n-preserved c =
           (records_in a.d.now a.s.first a.s.step a.p.from a.p.count) l.n
           (l.n * a.columns) a.flags a.values l.out (low (goal.at.loop-n-preserved c).In-loop-n) (there (goal.at.loop-n-preserved c).In-loop-n)
           put.ensures.0 l.invariant.3),
-      omega (arith, l.invariant.4, one_low put.result.there c.one_if-held.ensures),
+      omega (arith, l.invariant.4, c.from-held.ensures, (one put.result.there).1),
       λ e. going_step (λ r. entries_by a.row.kind a.t.now a.rows a.row r)
           (records_in a.d.now a.s.first a.s.step a.p.from a.p.count) l.n (low (goal.at.loop-n-preserved c).In-loop-n)
           (there (goal.at.loop-n-preserved c).In-loop-n) (omega (
@@ -99,7 +101,7 @@ loop-n-preserved c =
             c.requires.marked_row.0.many,
             count_low a.t.now a.rows a.row a.row.kind,
           )) (l.invariant.5 (and_left l.near _ e))
-          (put.ensures.1 (and_right l.near _ e)) (ap (λ (k : ℕ). l.held + k) c.one_if-held.ensures),
+          (put.ensures.1 (and_right l.near _ e)) (ap (λ (k : ℕ). l.held + k) (c.from-held.ensures ∙ (one put.result.there).0)),
     )
 
 -- the entries of all records are put
@@ -156,5 +158,6 @@ overflow_add-held c = omega (
   arith,
   c.loop-n.invariant.4,
   c.loop-n-test.true,
-  one_low c.put_row-put.result.there c.one_if-held.ensures,
+  c.from-held.ensures,
+  (one c.put_row-put.result.there).1,
 )
