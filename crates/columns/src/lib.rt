@@ -248,6 +248,7 @@ fn put_rest(
     let mut k: usize = 0;
     let mut c = from;
     let mut wait: usize = 0;
+    // no `for`: categories are passed by sixteens too, and by stretches that are not legal
     while c < allowed.len() {
         let b = c;
         let w = wait;

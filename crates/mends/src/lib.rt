@@ -258,6 +258,7 @@ fn lay_far(d: &[u8], from: usize, n: usize, out: &mut [u8], at: usize) -> usize
     ensures stored { Stored out.old out.new at (map plain_byte (part d.now from (from + result))) (at + result) }
 {
     let mut j: usize = 0;
+    // no `for`: the place where it stops is the answer
     while n - j >= 64 {
         lay_some::<64>(d, from + j, out, at + j);
         j += 64;
@@ -393,6 +394,7 @@ fn copy_all(d: &[u8], out: &mut [u8])
 {
     let n = d.len();
     let mut j: usize = 0;
+    // no `for`: the rest is copied from the place where it stops
     while n - j >= 64 {
         copy_some(d, j, out);
         j += 64;

@@ -64,7 +64,7 @@ pub fn boundary_at(d: &[u8], i: usize) -> Terminator
 fn flag(b: u8) -> u32
     ensures { (result ≡ cond (ltb b 32) 1 0) × (result ≤ 1) }
 {
-    if b < 32 { 1 } else { 0 }
+    u32::from(b < 32)
 }
 
 // The sixteen bytes from i on as bits, the first the lowest: 1 where a byte is below 32. Two in a turn: the compiler then compares all of
@@ -91,21 +91,14 @@ fn first_at(i: usize, bits: u32) -> usize
     i + (u32::trailing_zeros(bits) as usize)
 }
 
-// The lesser of two bytes.
-fn lesser(a: u8, b: u8) -> u8
-    ensures { (result ≤ a) × (result ≤ b) }
-{
-    if b < a { b } else { a }
-}
-
 // The least of four bytes, sixteen apart.
 fn least_of_four(d: &[u8], i: usize) -> u8
     requires { i + 49 ≤ length d.now }
     ensures { Under d.now i 4 result }
 {
-    let a = lesser(d[i], d[i + 16]);
-    let b = lesser(d[i + 32], d[i + 48]);
-    lesser(a, b)
+    let a = d[i].min(d[i + 16]);
+    let b = d[i + 32].min(d[i + 48]);
+    a.min(b)
 }
 
 // The least of sixteen bytes, sixteen apart.
@@ -113,9 +106,9 @@ fn least_of_many(d: &[u8], i: usize) -> u8
     requires { i + 241 ≤ length d.now }
     ensures { Under d.now i 16 result }
 {
-    let a = lesser(least_of_four(d, i), least_of_four(d, i + 64));
-    let b = lesser(least_of_four(d, i + 128), least_of_four(d, i + 192));
-    lesser(a, b)
+    let a = least_of_four(d, i).min(least_of_four(d, i + 64));
+    let b = least_of_four(d, i + 128).min(least_of_four(d, i + 192));
+    a.min(b)
 }
 
 // Is one of the 64 bytes from i on below 32? Only the least of each four, sixteen apart, is compared, and nothing leaves the loop early:
@@ -150,6 +143,7 @@ fn plain_most(d: &[u8], from: usize) -> usize
 {
     let n = d.len();
     let mut i = from;
+    // no `for`: the place where it stops is the answer
     while n - i >= 256 {
         if low_among_many(d, i) {
             return i;
@@ -167,6 +161,7 @@ fn plain_far(d: &[u8], from: usize) -> usize
     let n = d.len();
     let mark = from + 128;
     let mut i = from;
+    // no `for`: the same, and a call inside moves the place
     while n - i >= 64 {
         if low_among_some(d, i) {
             return i;
@@ -185,6 +180,7 @@ fn plain_near(d: &[u8], from: usize, last: usize) -> usize
     ensures { Clear d.now from result }
 {
     let mut i = from;
+    // no `for`: the place where it stops is the answer
     while i <= last {
         let bits = lows_of(d, i);
         if bits != 0 {
