@@ -31,7 +31,7 @@ pub enum Next {
 }
 
 // The terminator that starts with the CR or LF at i: a pair if the other adjoins it.
-fn terminator_at(d: &[u8], i: usize, first: u8, second: u8) -> Terminator
+pub fn terminator_at(d: &[u8], i: usize, first: u8, second: u8) -> Terminator
     requires { i < length d.now }
     ensures { result ≡ terminator_at first second (drop (i + 1) d.now) }
 {

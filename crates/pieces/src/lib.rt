@@ -4,7 +4,6 @@
 ghost use Rattle.std.specs.Prelude.{◌≡◌, false, cond, ◌+◌, ◌≤◌, ◌<◌, ltb, length, drop};
 ghost use Rattle.std.specs.Int.Count.{count_trailing_zeros};
 ghost use Rattle.lows.specs.Lows.{Clear};
-ghost use Rattle.cuts.specs.rule.Cut.{terminator_at};
 ghost use Rattle.pieces.specs.rule.Pieces.{boundary_at};
 ghost use Rattle.pieces.specs.Scan.{Under, low_bits};
 ghost use Rattle.pieces.specs.Pieces.{LowFrom, Spans};
@@ -19,28 +18,6 @@ pub struct Span {
     pub boundary: Terminator,
 }
 
-// The boundary that starts with the CR or LF at i: a pair if the other adjoins it.
-fn boundary_of(d: &[u8], i: usize, first: u8, second: u8) -> Terminator
-    requires { i < length d.now }
-    ensures { result ≡ terminator_at first second (drop (i + 1) d.now) }
-{
-    let j = i + 1;
-    if j < d.len() {
-        if d[j] == second {
-            return Terminator {
-                first,
-                second,
-                size: 2,
-            };
-        }
-    }
-    Terminator {
-        first,
-        second,
-        size: 1,
-    }
-}
-
 // The boundary that stands at i, of no size where none does.
 pub fn boundary_at(d: &[u8], i: usize) -> Terminator
     requires { i < length d.now }
@@ -48,10 +25,10 @@ pub fn boundary_at(d: &[u8], i: usize) -> Terminator
 {
     let b = d[i];
     if b == 13 {
-        return boundary_of(d, i, 13, 10);
+        return cuts::terminator_at(d, i, 13, 10);
     }
     if b == 10 {
-        return boundary_of(d, i, 10, 13);
+        return cuts::terminator_at(d, i, 10, 13);
     }
     Terminator {
         first: 0,

@@ -5,4 +5,4 @@ use Rattle.pieces.proofs.least_of_four.Goals as goal
 
 pub returns : goal.returns
 returns c =
-    under_four _ _ _ (omega (arith, c.min-a.ensures, c.min-b.ensures, c.min.ensures)) (omega (arith, c.min-a.ensures, c.min-b.ensures, c.min.ensures)) (omega (arith, c.min-a.ensures, c.min-b.ensures, c.min.ensures)) (omega (arith, c.min-a.ensures, c.min-b.ensures, c.min.ensures))
+    under_four _ _ _ (omega arith) (omega arith) (omega arith) (omega arith)

@@ -6,7 +6,7 @@ use Rattle.pieces.proofs.least_of_many.Goals as goal
 pub returns : goal.returns
 returns c =
     under_sixteen _ _ _
-    (under_less _ _ _ _ _ (omega (arith, c.min-a.ensures, c.min-b.ensures, c.min.ensures)) c.least_of_four.ensures)
-    (under_less _ _ _ _ _ (omega (arith, c.min-a.ensures, c.min-b.ensures, c.min.ensures)) c.least_of_four-2.ensures)
-    (under_less _ _ _ _ _ (omega (arith, c.min-a.ensures, c.min-b.ensures, c.min.ensures)) c.least_of_four-3.ensures)
-    (under_less _ _ _ _ _ (omega (arith, c.min-a.ensures, c.min-b.ensures, c.min.ensures)) c.least_of_four-4.ensures)
+    (under_less _ _ _ _ _ (omega arith) c.least_of_four.ensures)
+    (under_less _ _ _ _ _ (omega arith) c.least_of_four-2.ensures)
+    (under_less _ _ _ _ _ (omega arith) c.least_of_four-3.ensures)
+    (under_less _ _ _ _ _ (omega arith) c.least_of_four-4.ensures)
