@@ -279,6 +279,7 @@ fn lay_bytes(d: &[u8], from: usize, stop: usize, out: &mut [u8], at: usize)
     }
     let last = n - 16;
     let mut j = lay_far(d, from, n, out, at);
+    // no `step_by`: it looks twice in a turn whether another follows, and so ends at two places
     while j < last {
         lay_some::<16>(d, from + j, out, at + j);
         j += 16;
