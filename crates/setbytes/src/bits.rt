@@ -55,14 +55,11 @@ pub fn put_bits(
         (bit_bytes list.now (defined (legal t.now rows row) 1 w)) }
 {
     let mut j: usize = 0;
-    let mut i: usize = 0;
-    while i < w {
-        let k = i;
-        i += 1;
-        let yes = next_is(list, j, i);
+    for i in 0..w {
+        let yes = next_is(list, j, i + 1);
         j += step_of(yes);
-        if allows(t, rows, row, marks, i) {
-            bytes[at + k] = bit_of(yes);
+        if allows(t, rows, row, marks, i + 1) {
+            bytes[at + i] = bit_of(yes);
         }
     }
 }
@@ -83,11 +80,8 @@ pub fn blank_bits(
     ensures { bytes.new ≡ put bytes.old (bit_places at (defined (legal t.now rows row) 1 w))
         (spaces (length (bit_places at (defined (legal t.now rows row) 1 w)))) }
 {
-    let mut c: usize = 0;
-    while c < w {
-        let k = c;
-        c += 1;
-        if allows(t, rows, row, marks, c) {
+    for k in 0..w {
+        if allows(t, rows, row, marks, k + 1) {
             bytes[at + k] = 32;
         }
     }
@@ -98,10 +92,8 @@ fn clear_each(bytes: &mut [u8], at: usize, w: usize)
     requires { Bitstring at w (length bytes.old) }
     ensures { bytes.new ≡ put bytes.old (bit_places at (defined always 1 w)) (bit_bytes [] (defined always 1 w)) }
 {
-    let mut i: usize = 0;
-    while i < w {
+    for i in 0..w {
         bytes[at + i] = 48;
-        i += 1;
     }
 }
 
@@ -110,11 +102,9 @@ fn set_members(bytes: &mut [u8], at: usize, w: usize, list: &[i64])
     requires { Bitstring at w (length bytes.old) × Rising 1 w list.now }
     ensures { bytes.new ≡ with_members bytes.old at list.now }
 {
-    let mut j: usize = 0;
-    while j < list.len() {
-        let c = cells::count_of(list[j]);
+    for &m in list {
+        let c = cells::count_of(m);
         bytes[at + (c - 1)] = 49;
-        j += 1;
     }
 }
 
