@@ -48,12 +48,10 @@ pub enum Reading {
 pub fn low_byte(bytes: &[u8]) -> Option<usize>
     ensures { result ≡ first_from (low_at bytes.now) 0 (length bytes.now) }
 {
-    let mut i = lows::plain_to(bytes, 0);
-    while i < bytes.len() {
+    for i in lows::plain_to(bytes, 0)..bytes.len() {
         if bytes[i] < 32 {
             return Some(i);
         }
-        i += 1;
     }
     None
 }
@@ -65,12 +63,10 @@ pub fn illegal_row(t: &[i64], rows: usize, bytes: &[u8], scratch: &mut [u8]) -> 
     requires scratch_len_bound { length scratch.old ≤ 10000 }
     ensures { result ≡ first_from (bad_row t.now rows bytes.now) 0 rows }
 {
-    let mut i: usize = 0;
-    while i < rows {
+    for i in 0..rows {
         if readings::row_illegal(t, rows, i, bytes, scratch) {
             return Some(i);
         }
-        i += 1;
     }
     None
 }
@@ -96,12 +92,10 @@ pub fn batch_sound(t: &[i64], rows: usize, d: &[u8], batch: Batch, scratch: &mut
     ensures { result ≡ true → (k : ℕ) → k < batch.count → rows_verdict t.now rows (bytes_of d.now batch k)
         ≡ sound }
 {
-    let mut i: usize = 0;
-    while i < rows {
+    for i in 0..rows {
         if !readings::many::row_legal(t, rows, i, d, batch, scratch) {
             return false;
         }
-        i += 1;
     }
     true
 }
