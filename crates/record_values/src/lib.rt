@@ -39,17 +39,13 @@ pub struct Tally {
 fn cell(n: usize) -> i64
     ensures { result ≡ cell_of n }
 {
-    if n < 9_223_372_036_854_775_807 {
-        n as i64
-    } else {
-        9_223_372_036_854_775_807
-    }
+    i64::try_from(n).unwrap_or(i64::MAX)
 }
 
 fn flag(b: bool) -> i64
     ensures { result ≡ flag_of b }
 {
-    if b { 1 } else { 0 }
+    i64::from(b)
 }
 
 // What comes with a fault: its place in the record, or the number that is not legal.
@@ -112,7 +108,7 @@ fn members_in(a: Answer) -> usize
 fn refusals_in(a: Answer) -> usize
     ensures { result ≡ refusals_in a }
 {
-    if readings::is_illegal(a) { 1 } else { 0 }
+    usize::from(readings::is_illegal(a))
 }
 
 // The rows of a record that is long enough, by a table that was tested, where there is room for all.

@@ -25,16 +25,11 @@ fn next_is(list: &[i64], j: usize, c: usize) -> bool
     }
 }
 
-fn bit_of(b: bool) -> u8
+// A truth as a byte, `1` or `0`.
+pub fn bit_of(b: bool) -> u8
     ensures { result ≡ cond b 49 48 }
 {
     if b { 49 } else { 48 }
-}
-
-fn step_of(b: bool) -> usize
-    ensures { result ≡ cond b 1 0 }
-{
-    if b { 1 } else { 0 }
 }
 
 // `1` for each category that is a member, `0` for each other: categories and members are walked together.
@@ -57,7 +52,7 @@ pub fn put_bits(
     let mut j: usize = 0;
     for i in 0..w {
         let yes = next_is(list, j, i + 1);
-        j += step_of(yes);
+        j += usize::from(yes);
         if allows(t, rows, row, marks, i + 1) {
             bytes[at + i] = bit_of(yes);
         }

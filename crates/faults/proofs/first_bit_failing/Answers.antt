@@ -6,7 +6,6 @@ use mir.Syntax.{w64}
 use Prim.Native.Nat.{◌+◌, ◌-◌}
 use native.Mathlib.Nat.{sub-zero}
 use borrow.Author.Rules.{sfits_of}
-use native.Mathlib.Omega.{arith}
 use Rattle.fields.specs.rule.Legal.{legal}
 use Rattle.faults.proofs.Laws.{bit_here, bit_not, bit_on, bit_none}
 use Rattle.faults.proofs.first_bit_failing.Goals as goal
@@ -51,24 +50,5 @@ returns c =
     sym (bit_none a.x (legal a.t.now a.rows a.row) a.bytes.now (a.row.start - 1) a.row.width c.loop-i.i
     c.loop-i-test.false) ∙ c.loop-i.invariant
 
-pub overflow_sub-at : goal.overflow_sub-at
-overflow_sub-at c = let h = c.requires.from_one in omega arith
-
 pub loop-i-init : goal.loop-i-init
 loop-i-init c = rw sub-zero
-
-pub overflow_add-p : goal.overflow_add-p
-overflow_add-p c = let h = c.requires.inside in omega arith
-
-pub bounds-bytes-p : goal.bounds-bytes-p
-bounds-bytes-p c = let h = c.requires.inside in
-    let g = c.requires.from_one in omega arith
-
-pub overflow_add-i : goal.overflow_add-i
-overflow_add-i c = let h = c.requires.few in omega arith
-
-pub cell_of-requires : goal.cell_of-requires
-cell_of-requires c = let h = c.requires.few in omega arith
-
-pub is_legal-requires : goal.is_legal-requires
-is_legal-requires c = c.requires.lines

@@ -1,6 +1,5 @@
 use mathlib.Core.Path.{◌≡◌, sym, ap, ◌∙◌}
 use Prim.Native.Nat.{suc, ◌+◌, ◌-◌, ◌*◌, ◌≤◌}
-use native.Mathlib.Nat.{sub-zero}
 use native.Mathlib.Omega.{arith}
 use lib.ListN.{length}
 use Rattle.fields.specs.rule.Row.{spread_places}
@@ -58,22 +57,3 @@ loop-preserved c = (
 pub returns : goal.returns
 returns c = sym (form_end c.args.bytes.now c.loop.q c.args.b
     c.args.w (c.args.n - c.loop.counter) (omega arith)) ∙ c.loop.invariant.1
-
-pub loop-init : goal.loop-init
-loop-init c = (rw sub-zero c.requires.inside, rw sub-zero)
-
-pub overflow_sub-b : goal.overflow_sub-b
-overflow_sub-b c = c.requires.holds
-
-pub overflow_add-q : goal.overflow_add-q
-overflow_add-q c = let h = here c in omega arith
-
-pub number_form-x-requires : goal.number_form-x-requires
-number_form-x-requires c = let h = here c in record {
-  decimals_bound = omega arith;
-  w_in_bounds = h;
-}
-
-pub overflow_add-q-in-loop : goal.overflow_add-q-in-loop
-overflow_add-q-in-loop c = let h = here (goal.at.overflow_add-q-in-loop c).In-loop in
-    let g = more (goal.at.overflow_add-q-in-loop c).In-loop in omega arith

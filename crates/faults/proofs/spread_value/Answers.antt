@@ -1,8 +1,7 @@
 use mathlib.Core.Path.{◌≡◌, sym, ap, ◌∙◌}
 use Prim.Native.Nat.{suc, ◌+◌, ◌-◌, ◌*◌, ◌≤◌}
-use native.Mathlib.Nat.{sub-zero}
 use native.Mathlib.Omega.{arith}
-use lib.ListN.{length, length-take}
+use lib.ListN.{length}
 use Rattle.fields.specs.rule.Legal.{legal}
 use Rattle.fields.specs.rule.Number.{code_of}
 use Rattle.fields.specs.rule.Row.{spread_places}
@@ -72,28 +71,3 @@ returns c = sym (value_end c.args.bytes.now c.loop.q c.args.b
     c.args.w (c.args.n - c.loop.counter) (omega arith)
     (legal c.args.t.now c.args.rows c.args.row))
     ∙ c.loop.invariant.1
-
-pub loop-init : goal.loop-init
-loop-init c = (rw sub-zero c.requires.spread_room.inside, rw sub-zero)
-
-pub overflow_sub-a : goal.overflow_sub-a
-overflow_sub-a c = c.requires.spread_room.holds
-
-pub overflow_add-a : goal.overflow_add-a
-overflow_add-a c = let h = here c in omega arith
-
-pub overflow_add-e : goal.overflow_add-e
-overflow_add-e c = let h = here c in omega arith
-
-pub slice_bounds-code-end : goal.slice_bounds-code-end
-slice_bounds-code-end c = here c
-
-pub code-requires : goal.code-requires
-code-requires c = let f = c.requires.spread_room.few in simp length-take (omega arith)
-
-pub numeral_fault-x-requires : goal.numeral_fault-x-requires
-numeral_fault-x-requires c = c.requires.line_facts
-
-pub overflow_add-q : goal.overflow_add-q
-overflow_add-q c = let h = here (goal.at.overflow_add-q c).In-loop in let g = more (goal.at.overflow_add-q c).In-loop in
-    omega arith

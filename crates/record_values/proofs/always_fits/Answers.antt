@@ -1,5 +1,4 @@
 use mathlib.Core.Path.{◌≡◌, ap, ◌∙◌}
-use Prim.Native.Nat.{ℕ}
 use native.Mathlib.Omega.{arith}
 use Rattle.record_values.specs.rule.Record.{row_reading}
 use Rattle.layout.specs.rule.Row.{row_at}
@@ -11,9 +10,6 @@ use Rattle.record_values.proofs.always_fits.Goals as goal
 
 pub loop-i-init : goal.loop-i-init
 loop-i-init c = λ bytes. omega (arith, none_below (row_reading c.args.t.now c.args.rows bytes))
-
-pub returns-then-left-most : goal.returns-then-left-most
-returns-then-left-most c = λ e bytes. let z : ◌≡◌ {A = ℕ} 0 1 = cc in absurd (omega arith)
 
 pub loop-i-preserved : goal.loop-i-preserved
 loop-i-preserved c =
@@ -31,6 +27,3 @@ returns c = λ e bytes.
     let l = c.loop-i in
     let q : l.i ≡ a.rows = omega arith in
     omega (arith, rw q at (l.invariant bytes))
-
-pub read-requires : goal.read-requires
-read-requires c = let p = c.requires in let l = c.loop-i-test.true in (omega arith, omega arith)

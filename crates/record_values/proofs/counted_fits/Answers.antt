@@ -52,11 +52,3 @@ returns c =
     let q : l.i ≡ a.rows = omega arith in
     let w = rw q at l.invariant in
     sym (le-leb (length (members_below (row_reading a.t.now a.rows a.bytes.now) a.rows)) a.room (omega arith))
-
-pub read-requires : goal.read-requires
-read-requires c = let p = c.requires in let f = p.few in let s = p.stand in
-    let l = c.loop-i-test.true in (omega arith, omega arith)
-
-pub count_row-n-requires : goal.count_row-n-requires
-count_row-n-requires c = let p = c.requires in
-    rw c.read.ensures (p.row c.loop-i.i c.loop-i-test.true)

@@ -1,11 +1,10 @@
-use mathlib.Core.Path.{◌≡◌, refl, sym, ap, ◌∙◌}
+use mathlib.Core.Path.{◌≡◌, refl}
 use Prim.Native.Nat.{◌+◌, ◌≤◌}
 use native.Mathlib.Omega.{arith}
 use lib.ListN.{length}
 use Rattle.cells.specs.Cell.{paste_none}
 use Rattle.record_values.specs.rule.Record.{row_reading, members_below, refused_below, cells_below}
 use Rattle.record_values.specs.Rows.{members_in, refusals_in}
-use Rattle.record_values.specs.Room.{length_four}
 use Rattle.record_values.proofs.Laws.{set_room, step_at, step_fits, step_refused, step_list, step_out, refusals_one, rows_read}
 use Rattle.record_values.proofs.read_rows.Goals as goal
 use Rattle.record_values.proofs.read_rows.Goals.{After-read_row-a, In-loop-i}
@@ -56,17 +55,6 @@ loop-i-init c = (
   paste_none c.args.list.now 0,
 )
 
-pub slice_bounds-paste-end : goal.slice_bounds-paste-end
-slice_bounds-paste-end c = sym (ap length c.row_numbers-numbers.ensures ∙ length_four _ _)
-
-pub paste-requires : goal.paste-requires
-paste-requires c =
-    let e = ap length c.row_numbers-numbers.ensures ∙ length_four _ _ in
-    let l = c.loop-i.auto.out in
-    let p = c.requires.rows_in_bounds in
-    let i = c.loop-i-test.true in
-    omega arith
-
 pub overflow_add-at : goal.overflow_add-at
 overflow_add-at c =
     let f = at_fits (goal.at.overflow_add-at c).After-read_row-a in
@@ -108,10 +96,6 @@ returns c =
     rows_read a.t.now a.rows a.bytes.now a.out.now a.list.now l.out l.list l.at l.refused l.i
     (omega arith) l.invariant.0 l.invariant.1 l.invariant.3 l.invariant.4
 
-pub read-row-requires : goal.read-row-requires
-read-row-requires c = let p = c.requires.table_ready in let f = p.few in let s = p.stand in
-    let l = c.loop-i-test.true in (omega arith, omega arith)
-
 pub offset_bounds-list-at : goal.offset_bounds-list-at
 offset_bounds-list-at c = let h = behind (goal.at.offset_bounds-list-at c).In-loop-i in omega arith
 
@@ -120,16 +104,3 @@ slice_bounds-read_row-count c = behind (goal.at.slice_bounds-read_row-count c).I
 
 pub slice_bounds-read_row-start : goal.slice_bounds-read_row-start
 slice_bounds-read_row-start c = behind (goal.at.slice_bounds-read_row-start c).In-loop-i
-
-pub read_row-a-requires : goal.read_row-a-requires
-read_row-a-requires c = let p = c.requires.table_ready in
-    rw c.read-row.ensures (p.row c.loop-i.i c.loop-i-test.true)
-
-pub row_numbers-numbers-requires : goal.row_numbers-numbers-requires
-row_numbers-numbers-requires c = let p = c.requires.table_ready in
-    rw c.read-row.ensures
-    (p.row c.loop-i.i c.loop-i-test.true)
-
-pub overflow_mul-i : goal.overflow_mul-i
-overflow_mul-i c = let p = c.requires.table_ready.few in
-    let l = c.loop-i-test.true in omega arith

@@ -1,20 +1,8 @@
 use mathlib.Core.Path.{sym, ◌∙◌}
-use native.Mathlib.Omega.{arith}
 use native.Mathlib.Nat.{sub-zero}
 use Rattle.records.specs.rule.First.{bad_row}
 use Rattle.records.proofs.Laws.{first_here, first_on, first_none}
 use Rattle.records.proofs.illegal_row.Goals as goal
-
--- row i stands in the table
-pub row_illegal-requires : goal.row_illegal-requires
-row_illegal-requires c =
-    let p = c.requires.table_ready in let f = p.few in let s = p.stand in
-    let l = c.loop-i-test.true in record {
-      i_le_most_rows = (omega arith, omega arith);
-      row_ready = p.row c.loop-i.i l;
-      plain = c.requires.plain;
-      scratch_len_bound = rw c.loop-i.auto.scratch c.requires.scratch_len_bound;
-    }
 
 pub loop-i-init : goal.loop-i-init
 loop-i-init c = rw sub-zero

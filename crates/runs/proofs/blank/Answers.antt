@@ -1,6 +1,6 @@
-use mathlib.Core.Path.{◌≡◌, sym, ◌∙◌}
+use mathlib.Core.Path.{◌≡◌, ◌∙◌}
 use mathlib.Core.List.{List}
-use Prim.Native.Nat.{ℕ, suc, ◌+◌, ◌-◌, ◌≤◌}
+use Prim.Native.Nat.{ℕ, suc, ◌+◌, ◌-◌}
 use native.Mathlib.Numerals.{add-one}
 use native.Mathlib.Omega.{arith}
 use lib.ListN.{set}
@@ -12,20 +12,8 @@ on : (s : List ℕ) (p j i : ℕ) → j ≡ suc i → put (set s p 32) (run (p +
 unfolding spaces
 on s p j i e = rw (e, add-one)
 
-done : (s : List ℕ) (p j : ℕ) → j ≤ 0 → put s (run p j) (spaces j) ≡ s
-done s p j h = let e : j ≡ 0 = omega arith in rw e
-
-pub loop-p-init : goal.loop-p-init
-loop-p-init c = let a = c.args in let e : a.at + a.k - a.at ≡ a.k = omega arith in rw e
-
 pub loop-p-preserved : goal.loop-p-preserved
 loop-p-preserved c =
     let l = c.loop-p in
     let a = c.args in
     on l.out l.p (a.at + a.k - l.p) (a.at + a.k - (l.p + 1)) (omega arith) ∙ l.invariant
-
-pub returns : goal.returns
-returns c =
-    let l = c.loop-p in
-    let a = c.args in
-    sym (done l.out l.p (a.at + a.k - l.p) (omega arith)) ∙ l.invariant

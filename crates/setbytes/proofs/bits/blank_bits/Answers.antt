@@ -1,16 +1,11 @@
 use mathlib.Core.Path.{◌≡◌, sym, ◌∙◌}
 use mathlib.Core.Bool.{true, false}
 use Prim.Native.Nat.{◌+◌}
-use native.Mathlib.Nat.{sub-zero}
-use native.Mathlib.Omega.{arith}
 use lib.IntN.{pos}
 use Rattle.fields.specs.rule.Legal.{legal}
 use Rattle.setbytes.proofs.BitSteps.{blank_taken, blank_passed, done}
 use Rattle.setbytes.proofs.bits.blank_bits.Goals as goal
 use Rattle.setbytes.proofs.bits.blank_bits.Goals.{then-allows, else-allows}
-
-pub loop-k-init : goal.loop-k-init
-loop-k-init c = rw sub-zero
 
 pub loop-k-preserved : goal.loop-k-preserved
 loop-k-preserved c =
@@ -28,10 +23,3 @@ loop-k-preserved c =
 
 pub returns : goal.returns
 returns c = sym (done _ _ _ _ _ _ c.loop-k-test.false) ∙ c.loop-k.invariant
-
-pub allows-requires : goal.allows-requires
-allows-requires c = record {
-  line_facts = c.requires.line_facts;
-  marks = c.requires.marks;
-  c_bound = omega arith;
-}

@@ -43,10 +43,3 @@ loop-i-preserved c =
 pub returns : goal.returns
 returns c = sym (c.loop-i.invariant ∙ good_end _ c.args.list.now _
     c.loop-i-test.false)
-
-pub next_good-requires : goal.next_good-requires
-next_good-requires c = record {
-  line_facts = c.requires.line_facts;
-  marks = c.requires.marks;
-  marks_len_bound = (c.requires.marks_len_bound, omega arith);
-}

@@ -26,12 +26,3 @@ loop-preserved c =
 
 pub returns : goal.returns
 returns c = sym (done _ _ _ _ _ _ (omega arith)) ∙ c.loop.invariant.1
-
-pub overflow_add-at : goal.overflow_add-at
-overflow_add-at c = omega (arith, (room (goal.at.overflow_add-at c).In-loop).0)
-
-pub blank-requires : goal.blank-requires
-blank-requires c = omega (arith, (room (goal.at.blank-requires c).In-loop).0)
-
-pub overflow_add-at-in-loop : goal.overflow_add-at-in-loop
-overflow_add-at-in-loop c = omega (arith, (room (goal.at.overflow_add-at-in-loop c).In-loop).0)

@@ -18,16 +18,6 @@ room c =
     let e : a.n - l.i ≡ suc (a.n - (l.i + 1)) = omega arith in
     inside l.at _ a.w (a.n - l.i) (a.n - (l.i + 1)) e _ l.invariant.0
 
-pub put_code-requires : goal.put_code-requires
-put_code-requires c = record {
-  tens = c.requires.tens;
-  z_bound = (
-    rw (to_z-of_z (sfits_of {w = w64} c.number.type_inv), c.number.ensures) (c.requires.small.at _),
-    c.requires.subfields.few,
-    omega (arith, (room (goal.at.put_code-requires c).In-loop-i).0),
-  );
-}
-
 pub loop-i-preserved : goal.loop-i-preserved
 loop-i-preserved c =
     let l = c.loop-i in
@@ -41,9 +31,3 @@ loop-i-preserved c =
 
 pub returns : goal.returns
 returns c = sym (done _ _ _ _ _ _ (omega arith)) ∙ c.loop-i.invariant.1
-
-pub overflow_add-at : goal.overflow_add-at
-overflow_add-at c = omega (arith, (room (goal.at.overflow_add-at c).In-loop-i).0)
-
-pub overflow_add-at-in-loop-i : goal.overflow_add-at-in-loop-i
-overflow_add-at-in-loop-i c = omega (arith, (room (goal.at.overflow_add-at-in-loop-i c).In-loop-i).0)
