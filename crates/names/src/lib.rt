@@ -33,10 +33,9 @@ fn plain_key(classes: &[u8; 256], d: &[u8], at: usize) -> Key
     requires { Classes classes.now }
     ensures { result.sure ≡ true → result.key ≡ key_of 0 0 (decode_of Inside.Plain 0 (text d.now at)) }
 {
-    let mut n = at;
     let mut count: usize = 0;
     let mut key: u64 = 0;
-    while n < d.len() {
+    for n in at..d.len() {
         let b = d[n];
         if b == 34 {
             return Key { key, sure: true };
@@ -49,7 +48,6 @@ fn plain_key(classes: &[u8; 256], d: &[u8], at: usize) -> Key
         }
         key = key * 256 + wide(ascii::upper(b));
         count += 1;
-        n += 1;
     }
     Key { key, sure: false }
 }
@@ -61,9 +59,8 @@ fn spelled_key(classes: &[u8; 256], d: &[u8], at: usize) -> u64
 {
     let mut n = at;
     let mut s = Inside::Plain;
-    let mut count: usize = 0;
     let mut key: u64 = 0;
-    while count < 9 {
+    for count in 0..9 {
         match marks::next_part(classes, d, n, s) {
             Part::Said { sign, next, inside } => match sign {
                 Sign::Byte(byte) => {
@@ -74,7 +71,6 @@ fn spelled_key(classes: &[u8; 256], d: &[u8], at: usize) -> u64
                         return 0;
                     }
                     key = key * 256 + wide(ascii::upper(byte));
-                    count += 1;
                     n = next;
                     s = inside;
                 }
@@ -122,25 +118,18 @@ pub fn first_fault(keys: &[u64; 512], count: usize) -> usize
     ensures { result ≡ fault_of keys.now count }
 {
     let mut marks = [0u8; 2048];
-    let mut found = count;
-    let mut j: usize = 0;
-    'rows: while j < count {
+    'rows: for j in 0..count {
         let key = keys[j];
         if key == 0 {
-            found = j;
-            break 'rows;
+            return j;
         }
         let place = (key % 2_039) as usize;
-        let mut i = held_from(marks[place], j);
-        while i < j {
+        for i in held_from(marks[place], j)..j {
             if keys[i] == key {
-                found = j;
-                break 'rows;
+                return j;
             }
-            i += 1;
         }
         marks[place] = 1;
-        j += 1;
     }
-    found
+    count
 }
