@@ -225,7 +225,7 @@ fn items_of(classes: &[u8; 256], d: &[u8], start: usize) -> Items
         standard: none,
         next: start,
     };
-    for j in 0..6 {
+    for _ in 0..6usize {
         let i = item_at(classes, d, m.next);
         if i.which == 5 {
             return end_items(m);

@@ -1051,7 +1051,7 @@ pub fn send_variables(
 {
     let mut n = start;
     let mut p = at;
-    for k in 0..512 {
+    for _ in 0..512usize {
         let v = send_variable(classes, powers, d, n, bound, out, p);
         p = v.at;
         n = v.next;
