@@ -51,10 +51,8 @@ fn put(rt: &impl Print, out: &mut [u8], at: usize, b: u8) -> io::Result<usize> {
 
 fn put_all(rt: &impl Print, out: &mut [u8], at: usize, text: &[u8]) -> io::Result<usize> {
     let mut n = at;
-    let mut i = 0;
-    while i < text.len() {
-        n = put(rt, out, n, text[i])?;
-        i += 1;
+    for b in text {
+        n = put(rt, out, n, *b)?;
     }
     Ok(n)
 }
@@ -62,9 +60,7 @@ fn put_all(rt: &impl Print, out: &mut [u8], at: usize, text: &[u8]) -> io::Resul
 fn put_count(rt: &impl Print, out: &mut [u8], at: usize, n: u64) -> io::Result<usize> {
     let mut digits = [0u8; 20];
     let mut left = n;
-    let mut first: usize = 20;
-    while 0 < first {
-        first -= 1;
+    for first in (0..20usize).rev() {
         digits[first] = b'0' + (left % 10) as u8;
         left = left / 10;
         if left == 0 {
@@ -86,11 +82,9 @@ fn put_number(rt: &impl Print, out: &mut [u8], at: usize, z: i64) -> io::Result<
 // The numbers of a table, parted by spaces, and a line end.
 fn put_table(rt: &impl Print, out: &mut [u8], at: usize, table: &[i64]) -> io::Result<usize> {
     let mut n = at;
-    let mut i = 0;
-    while i < table.len() {
-        n = put_number(rt, out, n, table[i])?;
-        i += 1;
-        n = put(rt, out, n, parting(i < table.len()))?;
+    for (i, z) in table.iter().enumerate() {
+        n = put_number(rt, out, n, *z)?;
+        n = put(rt, out, n, parting(i + 1 < table.len()))?;
     }
     Ok(n)
 }
@@ -100,36 +94,9 @@ fn parting(more: bool) -> u8 {
 }
 
 // ---- the table
-fn fill(table: &mut [i64]) {
-    let mut i = 0;
-    while i < table.len() {
-        table[i] = PATTERN;
-        i += 1;
-    }
-}
-
-// Whether every number from a place on holds what it held.
-fn held(table: &[i64], from: usize) -> bool {
-    let mut i = from;
-    while i < table.len() {
-        if table[i] != PATTERN {
-            return false;
-        }
-        i += 1;
-    }
-    true
-}
-
-// The same of the bytes that a definition is written into.
-fn held_bytes(page: &[u8], from: usize) -> bool {
-    let mut i = from;
-    while i < page.len() {
-        if page[i] != BLANK {
-            return false;
-        }
-        i += 1;
-    }
-    true
+// Whether every number of a table, or byte of an output, from a place on is what it held.
+fn held<T: Copy + PartialEq>(s: &[T], from: usize, was: T) -> bool {
+    s.iter().skip(from).all(|x| *x == was)
 }
 
 fn put_held(rt: &impl Print, out: &mut [u8], at: usize, kept: bool) -> io::Result<usize> {
@@ -160,7 +127,7 @@ fn put_read(
     n = put_count(rt, out, n, rows as u64)?;
     n = put(rt, out, n, b' ')?;
     n = put_count(rt, out, n, lines as u64)?;
-    n = put_held(rt, out, n, held(table, used))?;
+    n = put_held(rt, out, n, held(table, used, PATTERN))?;
     put_table(rt, out, n, &table[..used])
 }
 
@@ -188,7 +155,7 @@ fn put_signs(
     let used = bounded(count, list.len());
     let mut n = put_all(rt, out, at, b"text ")?;
     n = put_count(rt, out, n, used as u64)?;
-    n = put_held(rt, out, n, held(list, used))?;
+    n = put_held(rt, out, n, held(list, used, PATTERN))?;
     put_table(rt, out, n, &list[..used])
 }
 
@@ -200,7 +167,7 @@ fn put_no_text(
     number: u64,
 ) -> io::Result<usize> {
     let n = put_count(rt, out, at, number)?;
-    put_held(rt, out, n, held(list, 0))
+    put_held(rt, out, n, held(list, 0, PATTERN))
 }
 
 // A text of the definition decoded, by its place and length.
@@ -212,7 +179,7 @@ fn run_text(
     h: Head,
     list: &mut [i64],
 ) -> io::Result<usize> {
-    fill(list);
+    list.fill(PATTERN);
     match decoding::decode_text(d, h.place, h.long, list) {
         Decoded::Signs(count) => put_signs(rt, out, at, list, count),
         Decoded::NotText => put_no_text(rt, out, at, list, 3),
@@ -230,7 +197,7 @@ fn put_clean(
     let used = bounded(count, page.len());
     let mut n = put_all(rt, out, at, b"clean ")?;
     n = put_count(rt, out, n, used as u64)?;
-    n = put_held(rt, out, n, held_bytes(page, used))?;
+    n = put_held(rt, out, n, held(page, used, BLANK))?;
     put_all(rt, out, n, &page[..used])
 }
 
@@ -253,7 +220,7 @@ fn run_clean(
             at,
             number,
             place,
-            held_bytes(page, 0),
+            held(page, 0, BLANK),
         ),
     }
 }
@@ -266,7 +233,7 @@ fn run_read(
     h: Head,
     table: &mut [i64],
 ) -> io::Result<usize> {
-    fill(table);
+    table.fill(PATTERN);
     let read = kinds::read_definition(d, table);
     if h.clean {
         return run_clean(rt, out, at, d, h, table);
@@ -279,7 +246,7 @@ fn run_read(
             at,
             number,
             place,
-            held(table, 0),
+            held(table, 0, PATTERN),
         ),
     }
 }
@@ -320,16 +287,17 @@ fn with_length(start: usize, count: usize) -> usize {
 
 fn figure_at(text: &[u8], at: usize) -> Figure {
     let mut value: usize = 0;
-    let mut i = at;
-    while i < text.len() {
+    for i in at..text.len() {
         let b = text[i];
-        i += 1;
         if b < b'0' {
-            return Figure { value, next: i };
+            return Figure { value, next: i + 1 };
         }
         value = with_digit(value, b);
     }
-    Figure { value, next: i }
+    Figure {
+        value,
+        next: at.max(text.len()),
+    }
 }
 
 // Where the next case starts, and where output goes on.
