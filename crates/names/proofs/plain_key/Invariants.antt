@@ -10,4 +10,3 @@ use Rattle.names.proofs.plain_key.Given as goal
 abbrev pub invariant-loop-n : goal.invariant-loop-n
 invariant-loop-n l = (key_of 0 0 (decode_of Plain 0 (text l.d l.at)) ≡ key_of l.count l.key (decode_of Plain 0 (text l.d l.n)))
     × (l.count ≤ 8) × (l.key < 256 ^ l.count)
-

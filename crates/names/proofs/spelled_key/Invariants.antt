@@ -14,4 +14,3 @@ invariant-loop-count l = (key_of 0 0 (decode_of Plain 0 (text l.d l.at)) ≡ key
     × (l.count ≤ 8)
     × (l.key < 256 ^ l.count)
     × (idle l.s ≡ true)
-

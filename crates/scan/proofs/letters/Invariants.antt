@@ -6,4 +6,3 @@ use Rattle.scan.proofs.letters.Given as goal
 
 abbrev pub invariant-loop-x : goal.invariant-loop-x
 invariant-loop-x l = word_at l.d l.at l.w ≡ word_of l.n (text l.d l.n) (drop l.x-index l.w)
-
