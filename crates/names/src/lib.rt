@@ -46,7 +46,7 @@ fn plain_key(classes: &[u8; 256], d: &[u8], at: usize) -> Key
         if !may_stand(classes, count, b) {
             return Key { key, sure: false };
         }
-        key = key * 256 + wide(ascii::upper(b));
+        key = key * 256 + u64::from(ascii::upper(b));
         count += 1;
     }
     Key { key, sure: false }
@@ -70,7 +70,7 @@ fn spelled_key(classes: &[u8; 256], d: &[u8], at: usize) -> u64
                     if count == 8 {
                         return 0;
                     }
-                    key = key * 256 + wide(ascii::upper(byte));
+                    key = key * 256 + u64::from(ascii::upper(byte));
                     n = next;
                     s = inside;
                 }
@@ -96,12 +96,6 @@ pub fn name_key(classes: &[u8; 256], d: &[u8], at: usize) -> u64
         return q.key;
     }
     spelled_key(classes, d, at)
-}
-
-fn wide(b: u8) -> u64
-    ensures { (result ≡ b) × (result ≤ 255) }
-{
-    b as u64
 }
 
 // The first row that a row's name is held against: row 0, or none where no earlier name has left a mark at its place.
