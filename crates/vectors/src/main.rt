@@ -19,23 +19,6 @@ const PATTERN: i64 = -7777;
 // What every byte of an output holds before the call.
 const BLANK: u8 = 35;
 
-fn bounded(n: usize, most: usize) -> usize
-    ensures { result ≤ most }
-{
-    if n < most { n } else { most }
-}
-
-// The number, or the nearer end of what it should lie in.
-fn between(low: usize, n: usize, high: usize) -> usize
-    requires { low ≤ high }
-    ensures { (low ≤ result) × (result ≤ high) }
-{
-    if n < low {
-        return low;
-    }
-    if n < high { n } else { high }
-}
-
 // ---- output, gathered in a lent buffer and written where it is full
 fn put(rt: &impl Print, out: &mut [u8], at: usize, b: u8) -> io::Result<usize> {
     if at < out.len() {
@@ -109,8 +92,8 @@ fn put_held(rt: &impl Print, out: &mut [u8], at: usize, kept: bool) -> io::Resul
 // The numbers of a table with so many rows and lines, as far as there can be so many.
 fn table_size(rows: usize, lines: usize) -> usize {
     Header::SIZE
-        + Row::SIZE * bounded(rows, Header::MOST_ROWS)
-        + Line::SIZE * bounded(lines, Header::MOST_LINES)
+        + Row::SIZE * rows.min(Header::MOST_ROWS)
+        + Line::SIZE * lines.min(Header::MOST_LINES)
 }
 
 // ---- the cases
@@ -122,7 +105,7 @@ fn put_read(
     rows: usize,
     lines: usize,
 ) -> io::Result<usize> {
-    let used = bounded(table_size(rows, lines), table.len());
+    let used = table_size(rows, lines).min(table.len());
     let mut n = put_all(rt, out, at, b"read ")?;
     n = put_count(rt, out, n, rows as u64)?;
     n = put(rt, out, n, b' ')?;
@@ -152,7 +135,7 @@ fn put_signs(
     list: &[i64],
     count: usize,
 ) -> io::Result<usize> {
-    let used = bounded(count, list.len());
+    let used = count.min(list.len());
     let mut n = put_all(rt, out, at, b"text ")?;
     n = put_count(rt, out, n, used as u64)?;
     n = put_held(rt, out, n, held(list, used, PATTERN))?;
@@ -194,7 +177,7 @@ fn put_clean(
     page: &[u8],
     count: usize,
 ) -> io::Result<usize> {
-    let used = bounded(count, page.len());
+    let used = count.min(page.len());
     let mut n = put_all(rt, out, at, b"clean ")?;
     n = put_count(rt, out, n, used as u64)?;
     n = put_held(rt, out, n, held(page, used, BLANK))?;
@@ -211,7 +194,7 @@ fn run_clean(
     table: &[i64],
 ) -> io::Result<usize> {
     let mut room = [BLANK; 4096];
-    let page = &mut room[..bounded(h.long, 4096)];
+    let page = &mut room[..h.long.min(4096)];
     match clean::write_definition(d, table, page) {
         Written::Done(count) => put_clean(rt, out, at, page, count),
         Written::Refused { number, place } => put_refused(
@@ -282,7 +265,7 @@ fn with_digit(value: usize, b: u8) -> usize {
 
 // A place so many bytes on; both are far from the limits of a usize.
 fn with_length(start: usize, count: usize) -> usize {
-    bounded(start, 1000000) + bounded(count, 1000000)
+    start.min(1000000) + count.min(1000000)
 }
 
 fn figure_at(text: &[u8], at: usize) -> Figure {
@@ -375,10 +358,10 @@ fn one_case(
     ensures { IfOk result (λ p. at < p.at) }
 {
     let head = head_at(text, at);
-    let start = between(at, head.next, text.len());
-    let end = between(start, with_length(start, head.length), text.len());
+    let start = head.next.clamp(at, text.len());
+    let end = with_length(start, head.length).clamp(start, text.len());
     let next = behind(at, end, text.len());
-    let lent = bounded(head.room, table.len());
+    let lent = head.room.min(table.len());
     let a = put_all(rt, out, n, b"case ")?;
     let b = put_count(rt, out, a, case as u64)?;
     let c = put_all(rt, out, b, b": ")?;
@@ -396,7 +379,7 @@ fn run_all(rt: &impl Print, text: &[u8], table: &mut [i64], out: &mut [u8]) -> i
         at = p.at;
         n = p.out;
     }
-    let last = bounded(n, out.len());
+    let last = n.min(out.len());
     io::writer(rt).write_all(&out[..last])
 }
 
