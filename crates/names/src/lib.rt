@@ -112,7 +112,7 @@ pub fn first_fault(keys: &[u64; 512], count: usize) -> usize
     ensures { result ≡ fault_of keys.now count }
 {
     let mut marks = [0u8; 2048];
-    'rows: for j in 0..count {
+    for j in 0..count {
         let key = keys[j];
         if key == 0 {
             return j;

@@ -13,5 +13,5 @@ use Rattle.names.proofs.first_fault.Given as goal
 abbrev pub invariant-loop-i : goal.invariant-loop-i
 invariant-loop-i l = any_below l.i (λ k. eqb (get_or l.keys k 0) l.key) ≡ false
 
-abbrev pub invariant-rows : goal.invariant-rows
-invariant-rows l = (fault_of l.keys l.count ≡ fault_from l.keys (l.count - l.j) l.j) × (length l.marks ≡ 2048) × Marked l.keys l.j l.marks
+abbrev pub invariant-loop-j : goal.invariant-loop-j
+invariant-loop-j l = (fault_of l.keys l.count ≡ fault_from l.keys (l.count - l.j) l.j) × (length l.marks ≡ 2048) × Marked l.keys l.j l.marks
