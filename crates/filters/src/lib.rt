@@ -97,8 +97,8 @@ fn lead_of(standard: bool, s: &[u8], t: &[u8], p: usize, q: usize) -> Lead
     requires { (p ≤ length s.now) × (q ≤ length t.now) }
     ensures { Leads standard s.now t.now p q result }
 {
-    let mut k: usize = 0;
-    while k < s.len() - p {
+    let most = s.len() - p;
+    for k in 0..most {
         if t.len() - q <= k {
             return Lead::Shared(k);
         }
@@ -110,9 +110,8 @@ fn lead_of(standard: bool, s: &[u8], t: &[u8], p: usize, q: usize) -> Lead
         if !same_byte(standard, b, c) {
             return Lead::Apart;
         }
-        k += 1;
     }
-    Lead::Shared(k)
+    Lead::Shared(most)
 }
 
 // The texts from p to the end of s and from q to the end of t.
@@ -203,16 +202,14 @@ fn lead_sum(d: &[u8], at: usize) -> Summed
     ensures { Adds d.now at result }
 {
     let mut sum: u16 = 0;
-    let mut i = at;
-    while i < d.len() {
+    for i in at..d.len() {
         let b = d[i];
         if !is_plain(b) {
             return Summed { sum, next: i };
         }
         sum = sum_with(sum, wide(ascii::upper(b)));
-        i += 1;
     }
-    Summed { sum, next: i }
+    Summed { sum, next: d.len() }
 }
 
 // That of the signs from a place on, behind those of a sum.
@@ -312,10 +309,8 @@ fn all_apart(sums: &[u16], i: usize, sum: u16) -> bool
     ensures { result ≡ all_apart sums.now sum i 16 }
 {
     let mut apart = true;
-    let mut k: usize = 0;
-    while k < 16 {
+    for k in 0..16 {
         apart = apart & (sums[i + k] != sum);
-        k += 1;
     }
     apart
 }
@@ -330,6 +325,7 @@ fn pass_wide(sums: &[u16], count: usize, from: usize, sum: u16) -> usize
     }
     let last = count - 16;
     let mut i = from;
+    // no `for`: the place where the steps stop is the answer
     while i <= last {
         if !all_apart(sums, i, sum) {
             return i;
@@ -345,14 +341,12 @@ fn pass_apart(sums: &[u16], count: usize, from: usize, sum: u16) -> usize
     requires { (from ≤ count) × (count ≤ length sums.now) }
     ensures { Apart sums.now sum count from result }
 {
-    let mut i = pass_wide(sums, count, from, sum);
-    while i < count {
+    for i in pass_wide(sums, count, from, sum)..count {
         if sums[i] == sum {
             return i;
         }
-        i += 1;
     }
-    i
+    count
 }
 
 // Whether row i has a filter, and the text is that one's name.
@@ -402,12 +396,10 @@ pub fn has_served(
     if pass_apart(sums, count, 0, sum) == count {
         return false;
     }
-    let mut i: usize = 0;
-    while i < count {
+    for i in 0..count {
         if is_served(latin, standard, d, rows, count, i, p, n, sums, sum) {
             return true;
         }
-        i += 1;
     }
     false
 }
@@ -519,12 +511,10 @@ fn use_taken(rows: &[i64], count: usize, usage: usize) -> bool
     requires { (length rows.now ≡ row_size * most_rows) × (count ≤ most_rows) }
     ensures { TakenSaid rows.now count usage result }
 {
-    let mut i: usize = 0;
-    while i < count {
+    for i in 0..count {
         if column(rows, i, Row::USE) == usage {
             return true;
         }
-        i += 1;
     }
     false
 }
@@ -778,9 +768,8 @@ fn name_key(classes: &[u8; 256], latin: bool, d: &[u8], at: usize) -> u64
     ensures { result ≡ key_of 0 0 (signs_from latin d.now (begun at)) }
 {
     let mut c = contents::start_at(at);
-    let mut count: usize = 0;
     let mut key: u64 = 0;
-    while count < 9 {
+    for count in 0..9 {
         match contents::next_sign(latin, d, c) {
             Part::One { sign, cursor } => match sign {
                 Sign::Byte(byte) => {
@@ -791,7 +780,6 @@ fn name_key(classes: &[u8; 256], latin: bool, d: &[u8], at: usize) -> u64
                         return 0;
                     }
                     key = key * 256 + wide(ascii::upper(byte));
-                    count += 1;
                     c = cursor;
                 }
                 Sign::Break => {
@@ -824,10 +812,8 @@ pub fn names_fault(classes: &[u8; 256], latin: bool, d: &[u8], rows: &[i64], cou
     ensures { NamesSaid latin d.now rows.now count result }
 {
     let mut keys = [0u64; Header::MOST_ROWS];
-    let mut i: usize = 0;
-    while i < count {
+    for i in 0..count {
         keys[i] = row_key(classes, latin, d, rows, count, i);
-        i += 1;
     }
     names::first_fault(&keys, count)
 }

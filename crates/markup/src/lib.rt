@@ -65,15 +65,12 @@ pub fn run(kind: usize, d: &[u8], at: usize) -> usize
     requires { at ≤ length d.now }
     ensures { (result ≡ run_of (of_kind kind) at (drop at d.now)) × (result ≤ length d.now) }
 {
-    let mut i = at;
-    while i < d.len() {
-        if of_kind(kind, d[i]) {
-            i += 1;
-        } else {
+    for i in at..d.len() {
+        if !of_kind(kind, d[i]) {
             return i;
         }
     }
-    i
+    d.len()
 }
 
 // Whether the bytes w stand at a place.
@@ -84,12 +81,10 @@ pub fn is_there(d: &[u8], at: usize, w: &[u8]) -> bool
     if d.len() - at < w.len() {
         return false;
     }
-    let mut i: usize = 0;
-    while i < w.len() {
-        if d[at + i] != w[i] {
+    for (i, b) in w.iter().enumerate() {
+        if d[at + i] != *b {
             return false;
         }
-        i += 1;
     }
     true
 }
@@ -157,17 +152,17 @@ pub fn number(hex: bool, d: &[u8], at: usize) -> Figure
 {
     let kind = digit_kind(hex);
     let mut v = 0;
-    let mut i = at;
-    while i < d.len() {
+    for i in at..d.len() {
         let b = d[i];
-        if of_kind(kind, b) {
-            v = hold(push(hex, v, b));
-            i += 1;
-        } else {
+        if !of_kind(kind, b) {
             return Figure { value: v, next: i };
         }
+        v = hold(push(hex, v, b));
     }
-    Figure { value: v, next: i }
+    Figure {
+        value: v,
+        next: d.len(),
+    }
 }
 
 // A character that a reference says, with the place after it; or that it is bad: 50 at its &.
@@ -287,17 +282,15 @@ pub fn comment(bad: bool, d: &[u8], opened: usize, at: usize) -> Skip
     requires { at ≤ length d.now }
     ensures { result ≡ xml_comment bad opened at (drop at d.now) }
 {
-    let mut i = at;
-    while i < d.len() {
+    for i in at..d.len() {
         if two_dashes(d, i) {
             if dashes_close(d, i) {
                 return Skip::Past(i + 3);
             }
             return Skip::Broken(i);
         }
-        i += 1;
     }
-    Skip::Broken(end_fault(bad, i, opened))
+    Skip::Broken(end_fault(bad, d.len(), opened))
 }
 
 fn two_dashes(d: &[u8], at: usize) -> bool
@@ -393,15 +386,12 @@ fn pass_white(d: &[u8], at: usize) -> usize
     if d[at] == 60 {
         return at;
     }
-    let mut i = pass_line(d, at);
-    while i < d.len() {
-        if is_white(d[i]) {
-            i += 1;
-        } else {
+    for i in pass_line(d, at)..d.len() {
+        if !is_white(d[i]) {
             return i;
         }
     }
-    i
+    d.len()
 }
 
 // White space and comments from a place on.
