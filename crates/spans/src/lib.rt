@@ -230,25 +230,21 @@ pub fn is_word(s: &[u8], w: &[u8]) -> bool
     ensures { result ≡ heard_word w.now (heard s.now 0) }
 {
     let mut n: usize = 0;
-    let mut i: usize = 0;
-    loop {
+    for x in w {
         match next_char(s, n) {
             First::One { code, next } => {
-                if w.len() <= i {
+                if wide(*x) != code {
                     return false;
                 }
-                if wide(w[i]) != code {
-                    return false;
-                }
-                i += 1;
                 n = next;
             }
-            First::End => {
-                return w.len() <= i;
-            }
-            First::Not => {
-                return false;
-            }
+            First::End => return false,
+            First::Not => return false,
         }
+    }
+    match next_char(s, n) {
+        First::One { code: _, next: _ } => false,
+        First::End => true,
+        First::Not => false,
     }
 }
