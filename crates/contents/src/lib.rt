@@ -343,10 +343,8 @@ fn all_plain(d: &[u8], i: usize) -> bool
     ensures { result ≡ all_plain d.now i 16 }
 {
     let mut plain = true;
-    let mut k: usize = 0;
-    while k < 16 {
+    for k in 0..16 {
         plain = plain & is_plain(d[i + k]);
-        k += 1;
     }
     plain
 }
@@ -362,6 +360,7 @@ fn pass_wide(d: &[u8], at: usize) -> usize
     }
     let last = n - 16;
     let mut i = at;
+    // no `for`: the place where the steps stop is the answer
     while i <= last {
         if !all_plain(d, i) {
             return i;
@@ -377,15 +376,12 @@ fn pass_plain(d: &[u8], at: usize) -> usize
     requires { at ≤ length d.now }
     ensures { Passes d.now at result }
 {
-    let mut i = pass_wide(d, at);
-    while i < d.len() {
-        if is_plain(d[i]) {
-            i += 1;
-        } else {
+    for i in pass_wide(d, at)..d.len() {
+        if !is_plain(d[i]) {
             return i;
         }
     }
-    i
+    d.len()
 }
 
 // The place after the reference at a place; that place where it is bad.
