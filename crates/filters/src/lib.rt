@@ -86,32 +86,26 @@ fn is_plain(b: u8) -> bool
     (b < 128) & ((b != 60) & ((b != 38) & ((b != 93) & (b != 13))))
 }
 
-// How many bytes that say themselves two texts share at their start; or that they differ there. It answers for most names.
-#[derive(Clone, Copy)]
-pub enum Lead {
-    Shared(usize),
-    Apart,
-}
-
-fn lead_of(standard: bool, s: &[u8], t: &[u8], p: usize, q: usize) -> Lead
+// How many bytes that say themselves two texts share at their start; none where they differ there. It answers for most names.
+fn lead_of(standard: bool, s: &[u8], t: &[u8], p: usize, q: usize) -> Option<usize>
     requires { (p ≤ length s.now) × (q ≤ length t.now) }
     ensures { Leads standard s.now t.now p q result }
 {
     let most = s.len() - p;
     for k in 0..most {
         if t.len() - q <= k {
-            return Lead::Shared(k);
+            return Some(k);
         }
         let b = s[p + k];
         let c = t[q + k];
         if !(is_plain(b) & is_plain(c)) {
-            return Lead::Shared(k);
+            return Some(k);
         }
         if !same_byte(standard, b, c) {
-            return Lead::Apart;
+            return None;
         }
     }
-    Lead::Shared(most)
+    Some(most)
 }
 
 // The texts from p to the end of s and from q to the end of t.
@@ -139,8 +133,8 @@ fn same_from(latin: bool, standard: bool, s: &[u8], t: &[u8], p: usize, q: usize
     ensures { result ≡ alike standard (signs_from latin s.now (begun p)) (signs_from latin t.now (begun q)) }
 {
     match lead_of(standard, s, t, p, q) {
-        Lead::Shared(k) => same_rest(latin, standard, s, t, p + k, q + k),
-        Lead::Apart => false,
+        Some(k) => same_rest(latin, standard, s, t, p + k, q + k),
+        None => false,
     }
 }
 
