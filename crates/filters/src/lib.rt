@@ -557,13 +557,13 @@ fn figure_at(d: &[u8], v: usize, e: usize, next: usize) -> Number
     ensures { result ≡ to_number (Is (figure_of d.now v e) next) }
 {
     match spans::figures_in(&d[v..e]) {
-        spans::Figures::Good { size, count } => Number::Is(Figures {
+        Some((size, count)) => Number::Is(Figures {
             size,
             count,
             place: v,
             next,
         }),
-        spans::Figures::Wrong => Number::Not(Fault {
+        None => Number::Not(Fault {
             number: 2,
             place: v,
         }),

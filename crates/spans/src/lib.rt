@@ -111,13 +111,6 @@ pub fn next_char(s: &[u8], at: usize) -> First
     First::One { code, next: at + 1 }
 }
 
-// The number that digits say, at most 10 ^ 15, and how many they are; or that there is another character, or none.
-#[derive(Clone, Copy)]
-pub enum Figures {
-    Good { size: u64, count: usize },
-    Wrong,
-}
-
 pub fn is_digit(c: u64) -> bool
     ensures { result ≡ is_digit c }
 {
@@ -138,18 +131,19 @@ pub fn push(v: u64, c: u64) -> u64
     }
 }
 
-fn figures_end(size: u64, count: usize) -> Figures
+fn figures_end(size: u64, count: usize) -> Option<(u64, usize)>
     requires { size ≤ 1000000000000000 }
     ensures { result ≡ figures_after size count (All []) }
 {
     if count == 0 {
-        return Figures::Wrong;
+        return None;
     }
-    Figures::Good { size, count }
+    Some((size, count))
 }
 
-// The number of a whole stretch.
-pub fn figures_in(s: &[u8]) -> Figures
+// The number that the digits of a whole stretch say, at most 10 ^ 15, and how many they are; none where there is another character, or
+// none.
+pub fn figures_in(s: &[u8]) -> Option<(u64, usize)>
     ensures { result ≡ figures_of (heard s.now 0) }
 {
     let mut n: usize = 0;
@@ -159,7 +153,7 @@ pub fn figures_in(s: &[u8]) -> Figures
         match next_char(s, n) {
             First::One { code, next } => {
                 if !is_digit(code) {
-                    return Figures::Wrong;
+                    return None;
                 }
                 size = push(size, code);
                 count += 1;
@@ -169,7 +163,7 @@ pub fn figures_in(s: &[u8]) -> Figures
                 return figures_end(size, count);
             }
             First::Not => {
-                return Figures::Wrong;
+                return None;
             }
         }
     }
