@@ -11,7 +11,7 @@ ghost use Rattle.contents.specs.Told.{Hears, Tells, whole_part, first_part, next
 ghost use Rattle.utf.specs.rule.Chars.{encode};
 
 use angles::Angle;
-use markup::{Char, Skip};
+use markup::Skip;
 use pairs::Pair;
 use signs::Sign;
 use tags::Tag;
@@ -116,8 +116,8 @@ fn step_refer(d: &[u8], g: Going) -> Step
 {
     let at = g.next;
     match markup::reference(d, at) {
-        Char::Is { code, next } => go_on(g, next, Said::Code(code)),
-        Char::Bad => broken(at),
+        Some((code, next)) => go_on(g, next, Said::Code(code)),
+        None => broken(at),
     }
 }
 
@@ -390,8 +390,8 @@ fn pass_reference(d: &[u8], at: usize) -> usize
     ensures { Passes d.now at result }
 {
     match markup::reference(d, at) {
-        Char::Is { code: _, next } => next,
-        Char::Bad => at,
+        Some((_, next)) => next,
+        None => at,
     }
 }
 

@@ -165,27 +165,21 @@ pub fn number(hex: bool, d: &[u8], at: usize) -> Figure
     }
 }
 
-// A character that a reference says, with the place after it; or that it is bad: 50 at its &.
-#[derive(Clone, Copy)]
-pub enum Char {
-    Is { code: u64, next: usize },
-    Bad,
-}
-
-fn closed(d: &[u8], n: usize, code: u64) -> Char
+// ---- references: the character that one says, with the place after it; none where it is bad: 50 at its &
+fn closed(d: &[u8], n: usize, code: u64) -> Option<(u64, usize)>
     requires { n ≤ length d.now }
     ensures { result ≡ closed_reference n code (drop n d.now) }
 {
     if d.len() <= n {
-        return Char::Bad;
+        return None;
     }
     if d[n] == 59 {
         if utf::is_legal(code) {
-            return Char::Is { code, next: n + 1 };
+            return Some((code, n + 1));
         }
-        return Char::Bad;
+        return None;
     }
-    Char::Bad
+    None
 }
 
 // The character whose name begins with a, or 0.
@@ -241,7 +235,7 @@ fn name_long(code: u64) -> usize
     if code == 38 { 4 } else { 5 }
 }
 
-fn numbered(hex: bool, d: &[u8], n: usize) -> Char
+fn numbered(hex: bool, d: &[u8], n: usize) -> Option<(u64, usize)>
     requires { n ≤ length d.now }
     ensures { result ≡ numbered_of hex n (drop n d.now) }
 {
@@ -250,7 +244,7 @@ fn numbered(hex: bool, d: &[u8], n: usize) -> Char
 }
 
 // The reference whose & stands at a place.
-pub fn reference(d: &[u8], at: usize) -> Char
+pub fn reference(d: &[u8], at: usize) -> Option<(u64, usize)>
     requires { at < length d.now }
     ensures { result ≡ reference_of at (drop (at + 1) d.now) }
 {
@@ -264,10 +258,10 @@ pub fn reference(d: &[u8], at: usize) -> Char
     // a name that is none of the five says no character, whatever ends it
     let code = named(d, from);
     if code == 0 {
-        return Char::Bad;
+        return None;
     }
     let next = from + name_long(code);
-    Char::Is { code, next }
+    Some((code, next))
 }
 
 // The place after what was skipped; or the place that is faulted with 50.

@@ -10,7 +10,7 @@ ghost use Rattle.spans.specs.rule.Heard.{All};
 ghost use Rattle.spans.specs.Figures.{figures_after, figures_of};
 ghost use Rattle.spans.specs.rule.Says.{is_letter, is_value, of_class, heard_count, heard_word};
 
-use markup::{Char, Skip};
+use markup::Skip;
 
 // The first character of what is left, with the place after it; or nothing is left; or what stands there says nothing.
 #[derive(Clone, Copy)]
@@ -59,10 +59,10 @@ fn part_in(s: &[u8], at: usize) -> Part
     let b = s[at];
     if b == 38 {
         match markup::reference(s, at) {
-            Char::Is { code, next } => {
+            Some((code, next)) => {
                 return Part::Stop(First::One { code, next });
             }
-            Char::Bad => {
+            None => {
                 return Part::Stop(First::Not);
             }
         }
