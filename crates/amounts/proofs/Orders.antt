@@ -73,7 +73,7 @@ less_true x y = less_digits (all_in x) (all_in y)
 -- ---- the next digit
 module _ (s : List ℕ) (digits : List ℕ) {n : ℕ} where
   pub left_digit : {c m : ℕ} → Left s n digits → first_heard s n ≡ first.One c m → is_digit c ≡ true → (cs : List ℕ) → digits ≡ digits_in cs
-      → Found s cs (Some (c , m))
+      → Found s cs (Some (c, m))
   unfolding digits_in
   left_digit {c} {m} l f e cs d =
       let h = heard_first s n f l.left in
@@ -91,7 +91,7 @@ module _ (s : List ℕ) (digits : List ℕ) {n : ℕ} where
   unfolding digits_in
   left_end l f cs d = parts.nothing (sym d ∙ sym l.same ∙ ap digits_in (heard_none s n f l.left))
 
-pub found_one : {s cs : List ℕ} {c n : ℕ} {d : Option (ℕ × ℕ)} → Found s cs d → d ≡ Some (c , n) → (rest : List ℕ) × (heard s n ≡ heard.All rest)
+pub found_one : {s cs : List ℕ} {c n : ℕ} {d : Option (ℕ × ℕ)} → Found s cs d → d ≡ Some (c, n) → (rest : List ℕ) × (heard s n ≡ heard.All rest)
     × (digits_in cs ≡ c ∷ digits_in rest)
 found_one {c = c} {n = n} (parts.one {c = x} {n = m} {rest = r} h e) q =
     let p : ◌≡◌ {A = ℕ × ℕ} (x, m) (c, n) = cc in
@@ -104,7 +104,7 @@ pub found_none : {s cs : List ℕ} {d : Option (ℕ × ℕ)} → Found s cs d �
 found_none (parts.one h e) q = let z : ◌≡◌ {A = ℕ} 0 1 = cc in absurd (omega arith)
 found_none (parts.nothing e) q = e
 
-pub ahead_one : (at top : ℕ) {c n : ℕ} → at < n → n ≤ top → Ahead at top (Some (c , n))
+pub ahead_one : (at top : ℕ) {c n : ℕ} → at < n → n ≤ top → Ahead at top (Some (c, n))
 ahead_one at top {c} {n} h k x m q =
     let p : ◌≡◌ {A = ℕ × ℕ} (c, n) (x, m) = cc in
     let e : n ≡ m = ap (λ (k : ℕ × ℕ). k.1) p in (rw (← e) h, rw (← e) k)
@@ -120,12 +120,12 @@ pub record Zeros (s : List ℕ) (cs : List ℕ) (n : ℕ) : Type 0 where
   pub same : stripped (digits_in cs) ≡ stripped (digits_in rest)
 
 module _ (s cs : List ℕ) {n c m : ℕ} {d : Option (ℕ × ℕ)} (z : Zeros s cs n) (p : Picked s n d) where
-  pub zeros_next : d ≡ Some (c , m) → c ≡ 48 → Zeros s cs m
+  pub zeros_next : d ≡ Some (c, m) → c ≡ 48 → Zeros s cs m
   zeros_next e q =
       let f = found_one (p z.rest z.left) e in
       record { rest = f.0; left = f.1; same = z.same ∙ strip_zero f.2 q }
 
-  pub zeros_over : d ≡ Some (c , m) → (c ≡ 48 → ⊥) → Left s n (stripped (digits_in cs))
+  pub zeros_over : d ≡ Some (c, m) → (c ≡ 48 → ⊥) → Left s n (stripped (digits_in cs))
   zeros_over e q =
       let f = found_one (p z.rest z.left) e in
       record { rest = z.rest; left = z.left; same = sym (z.same ∙ strip_first f.2 q) }
@@ -152,18 +152,18 @@ pairing_start a b x y l k = record {
 }
 
 module _ (a b x y : List ℕ) {i j : ℕ} (o : Order) (p : Pairing a b x y i j o) {d e : Option (ℕ × ℕ)} (f : Picked a i d) (g : Picked b j e) where
-  pub pairing_next : {c m k n : ℕ} {r : Order} → d ≡ Some (c , m) → e ≡ Some (k , n) → r ≡ order_then o c k → Pairing a b x y m n r
+  pub pairing_next : {c m k n : ℕ} {r : Order} → d ≡ Some (c, m) → e ≡ Some (k, n) → r ≡ order_then o c k → Pairing a b x y m n r
   pairing_next u w q =
       let s = found_one (f p.xs p.left_a) u in
       let t = found_one (g p.ys p.left_b) w in
       record { xs = s.0; ys = t.0; left_a = s.1; left_b = t.1; same = p.same ∙ less_both o s.2 t.2 q }
 
-  pub pairing_longer : {c m : ℕ} → d ≡ Some (c , m) → e ≡ None → false ≡ ltb (true_in x) (true_in y)
+  pub pairing_longer : {c m : ℕ} → d ≡ Some (c, m) → e ≡ None → false ≡ ltb (true_in x) (true_in y)
   pairing_longer u w =
       let s = found_one (f p.xs p.left_a) u in
       sym (p.same ∙ less_longer o s.2 (found_none (g p.ys p.left_b) w))
 
-  pub pairing_shorter : {k n : ℕ} → d ≡ None → e ≡ Some (k , n) → true ≡ ltb (true_in x) (true_in y)
+  pub pairing_shorter : {k n : ℕ} → d ≡ None → e ≡ Some (k, n) → true ≡ ltb (true_in x) (true_in y)
   pairing_shorter u w =
       let t = found_one (g p.ys p.left_b) w in
       sym (p.same ∙ less_shorter o (found_none (f p.xs p.left_a) u) t.2)

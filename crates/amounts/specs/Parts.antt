@@ -22,10 +22,10 @@ Ran s at v d =
 
 -- the first digit of all, with the place after it
 abbrev pub Ahead : ℕ → ℕ → Option (ℕ × ℕ) → Type 0
-Ahead at end d = (c n : ℕ) → d ≡ Some (c , n) → (at < n) × (n ≤ end)
+Ahead at end d = (c n : ℕ) → d ≡ Some (c, n) → (at < n) × (n ≤ end)
 
 pub data Found (s : List ℕ) (cs : List ℕ) : Option (ℕ × ℕ) → Type 0 where
-  one : {c n : ℕ} {rest : List ℕ} → heard s n ≡ All rest → digits_in cs ≡ c ∷ digits_in rest → Found s cs (Some (c , n))
+  one : {c n : ℕ} {rest : List ℕ} → heard s n ≡ All rest → digits_in cs ≡ c ∷ digits_in rest → Found s cs (Some (c, n))
   nothing : digits_in cs ≡ [] → Found s cs None
 
 abbrev pub Picked : List ℕ → ℕ → Option (ℕ × ℕ) → Type 0
