@@ -91,7 +91,8 @@ module _ (s : List ℕ) (digits : List ℕ) {n : ℕ} where
   unfolding digits_in
   left_end l f cs d = parts.nothing (sym d ∙ sym l.same ∙ ap digits_in (heard_none s n f l.left))
 
-pub found_one : {s cs : List ℕ} {c n : ℕ} {d : Option (ℕ × ℕ)} → Found s cs d → d ≡ Some (c, n) → (rest : List ℕ) × (heard s n ≡ heard.All rest)
+pub found_one : {s cs : List ℕ} {c n : ℕ} {d : Option (ℕ × ℕ)} → Found s cs d → d ≡ Some (c, n) → (rest : List ℕ)
+    × (heard s n ≡ heard.All rest)
     × (digits_in cs ≡ c ∷ digits_in rest)
 found_one {c = c} {n = n} (parts.one {c = x} {n = m} {rest = r} h e) q =
     let p : ◌≡◌ {A = ℕ × ℕ} (x, m) (c, n) = cc in
@@ -151,22 +152,23 @@ pairing_start a b x y l k = record {
   same = sym (less_true x y) ∙ sym (rw (l.same, k.same));
 }
 
-module _ (a b x y : List ℕ) {i j : ℕ} (o : Order) (p : Pairing a b x y i j o) {d e : Option (ℕ × ℕ)} (f : Picked a i d) (g : Picked b j e) where
-  pub pairing_next : {c m k n : ℕ} {r : Order} → d ≡ Some (c, m) → e ≡ Some (k, n) → r ≡ order_then o c k → Pairing a b x y m n r
-  pairing_next u w q =
-      let s = found_one (f p.xs p.left_a) u in
-      let t = found_one (g p.ys p.left_b) w in
-      record { xs = s.0; ys = t.0; left_a = s.1; left_b = t.1; same = p.same ∙ less_both o s.2 t.2 q }
+module _ (a b x y : List ℕ) {i j : ℕ} (o : Order) (p : Pairing a b x y i j o) {d e : Option (ℕ × ℕ)} (f : Picked a i d) (g : Picked b j e)
+  where
+    pub pairing_next : {c m k n : ℕ} {r : Order} → d ≡ Some (c, m) → e ≡ Some (k, n) → r ≡ order_then o c k → Pairing a b x y m n r
+    pairing_next u w q =
+        let s = found_one (f p.xs p.left_a) u in
+        let t = found_one (g p.ys p.left_b) w in
+        record { xs = s.0; ys = t.0; left_a = s.1; left_b = t.1; same = p.same ∙ less_both o s.2 t.2 q }
 
-  pub pairing_longer : {c m : ℕ} → d ≡ Some (c, m) → e ≡ None → false ≡ ltb (true_in x) (true_in y)
-  pairing_longer u w =
-      let s = found_one (f p.xs p.left_a) u in
-      sym (p.same ∙ less_longer o s.2 (found_none (g p.ys p.left_b) w))
+    pub pairing_longer : {c m : ℕ} → d ≡ Some (c, m) → e ≡ None → false ≡ ltb (true_in x) (true_in y)
+    pairing_longer u w =
+        let s = found_one (f p.xs p.left_a) u in
+        sym (p.same ∙ less_longer o s.2 (found_none (g p.ys p.left_b) w))
 
-  pub pairing_shorter : {k n : ℕ} → d ≡ None → e ≡ Some (k, n) → true ≡ ltb (true_in x) (true_in y)
-  pairing_shorter u w =
-      let t = found_one (g p.ys p.left_b) w in
-      sym (p.same ∙ less_shorter o (found_none (f p.xs p.left_a) u) t.2)
+    pub pairing_shorter : {k n : ℕ} → d ≡ None → e ≡ Some (k, n) → true ≡ ltb (true_in x) (true_in y)
+    pairing_shorter u w =
+        let t = found_one (g p.ys p.left_b) w in
+        sym (p.same ∙ less_shorter o (found_none (f p.xs p.left_a) u) t.2)
 
-  pub pairing_even : d ≡ None → e ≡ None → is_less o ≡ ltb (true_in x) (true_in y)
-  pairing_even u w = sym (p.same ∙ less_even o (found_none (f p.xs p.left_a) u) (found_none (g p.ys p.left_b) w))
+    pub pairing_even : d ≡ None → e ≡ None → is_less o ≡ ltb (true_in x) (true_in y)
+    pairing_even u w = sym (p.same ∙ less_even o (found_none (f p.xs p.left_a) u) (found_none (g p.ys p.left_b) w))

@@ -56,7 +56,8 @@ module _ (bad : Bool) (opened quote : ℕ) (d : List ℕ) where
   unfolding value_move
   value_go p m e = by (leb (length d) p) (eqb (get_or d p 0) quote) (eqb (get_or d p 0) 60) (eqb (get_or d p 0) 38) refl refl refl refl e
     where
-      char : (r : Option (ℕ × ℕ)) → reference_of p (drop (p + 1) d) ≡ r → leb (length d) p ≡ false → eqb (get_or d p 0) 38 ≡ true → on_value_char p r
+      char : (r : Option (ℕ × ℕ)) → reference_of p (drop (p + 1) d) ≡ r → leb (length d) p ≡ false → eqb (get_or d p 0) 38 ≡ true
+          → on_value_char p r
           ≡ Go m
           → Step quote d p m
       char (Some (c, n)) f g h e =

@@ -1,6 +1,7 @@
 -- What the code answers, by the rule of crate `xml_reading`: names sign by sign, and what is asked of the rows of the variables before, for
 -- whatever variables the room holds.
-use Rattle.std.specs.Prelude.{◌≡◌, Bool, false, cond, not, ◌&&◌, List, [], ℕ, ◌+◌, ◌-◌, ◌*◌, ◌≤◌, ◌<◌, eqb, ltb, ℤ, length, take, Option, Some, None}
+use Rattle.std.specs.Prelude.{◌≡◌, Bool, false, cond, not, ◌&&◌, List, [], ℕ, ◌+◌, ◌-◌, ◌*◌, ◌≤◌, ◌<◌, eqb, ltb, ℤ, length, take, Option}
+use Rattle.std.specs.Prelude.{Some, None}
 use Rattle.cells.specs.rule.Cell.{cell, count_of}
 use Rattle.layout.specs.rule.Layout.{row_size, most_rows}
 use Rattle.signs.specs.declared.Sign.{Sign}

@@ -105,11 +105,13 @@ reference_complete p quot t = ap (λ (n : ℕ). Some (34, n)) (omega arith)
 reference_complete p (decimal {c = c} (digits {b} {s} r) q k) t =
     let l = length-append (b ∷ s) (59 ∷ []) in
     let n : p + 2 + length (b ∷ s) + 1 ≡ p + 1 + suc (length ((b ∷ s) ++ 59 ∷ [])) = omega arith in
-    ap (λ (x : List ℕ). reference_of p (35 ∷ x)) (append_assoc (b ∷ s) (59 ∷ []) t) ∙ decimal_complete p t r q k ∙ ap (λ (n : ℕ). Some (c, n)) n
+    ap (λ (x : List ℕ). reference_of p (35 ∷ x)) (append_assoc (b ∷ s) (59 ∷ []) t) ∙ decimal_complete p t r q k
+    ∙ ap (λ (n : ℕ). Some (c, n)) n
 reference_complete p (hex {c = c} (digits {b} {s} r) q k) t =
     let l = length-append (b ∷ s) (59 ∷ []) in
     let n : p + 3 + length (b ∷ s) + 1 ≡ p + 1 + suc (suc (length ((b ∷ s) ++ 59 ∷ []))) = omega arith in
-    ap (λ (x : List ℕ). reference_of p (35 ∷ 120 ∷ x)) (append_assoc (b ∷ s) (59 ∷ []) t) ∙ hex_complete p t r q k ∙ ap (λ (n : ℕ). Some (c, n)) n
+    ap (λ (x : List ℕ). reference_of p (35 ∷ 120 ∷ x)) (append_assoc (b ∷ s) (59 ∷ []) t) ∙ hex_complete p t r q k
+    ∙ ap (λ (n : ℕ). Some (c, n)) n
 
 -- ---- sound
 -- from the & at p on a reference that says c stands before n
@@ -131,7 +133,8 @@ closed_is : (n c c' n' : ℕ) (r : List ℕ) → closed_reference n c r ≡ Some
 unfolding closed_reference
 closed_is n c c' n' [] e = let z : ◌≡◌ {A = ℕ} 0 1 = cc in absurd (omega arith)
 closed_is n c c' n' (b ∷ s) e = by (eqb b 59) (legal_character c) refl refl e where
-  by : (q r : Bool) → eqb b 59 ≡ q → legal_character c ≡ r → cond {A = Option (ℕ × ℕ)} q (cond r (Some (c, n + 1)) None) None ≡ Some (c', n')
+  by : (q r : Bool) → eqb b 59 ≡ q → legal_character c ≡ r → cond {A = Option (ℕ × ℕ)} q (cond r (Some (c, n + 1)) None) None
+      ≡ Some (c', n')
       → Closed c c' n n' (b ∷ s)
   by true true f g e =
       let h = eqb-true b 59 f in

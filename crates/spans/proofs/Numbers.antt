@@ -94,7 +94,8 @@ pub figures_exactly : (s : List ℕ) (size count : ℕ) → (figures_of (heard s
 unfolding figures_after
 figures_exactly s size count = (sound (heard s 0) refl, complete) where
   all : (cs : List ℕ) → heard s 0 ≡ All cs → (p q : Bool) → each_char is_digit cs ≡ p → eqb (0 + length cs) 0 ≡ q
-      → cond {A = Option (ℕ × ℕ)} p (cond q None (Some (capped (decimal_of 0 cs), 0 + length cs))) None ≡ Some (size, count) → Numbered s size count
+      → cond {A = Option (ℕ × ℕ)} p (cond q None (Some (capped (decimal_of 0 cs), 0 + length cs))) None ≡ Some (size, count)
+      → Numbered s size count
   all cs f true true g h e = let z : ◌≡◌ {A = ℕ} 0 1 = cc in absurd (omega arith)
   all cs f true false g h e =
       let p : ◌≡◌ {A = ℕ × ℕ} (capped (decimal_of 0 cs), 0 + length cs) (size, count) = cc in

@@ -106,7 +106,8 @@ module _ (l : Bool) (d : List ℕ) (place long : ℕ) (list : List ℤ) where
     unfolding decode_said stretch_as signs_after decode_fitting stretch_signs
     no_room t r e f = let q = short_is r e f in record { says = rw (is_text_lem t, q); leaves = rw (is_text_lem t, q) }
 
-    pub counted : (r : Option ℕ) (n : ℕ) → r ≡ room_of (length list) (length (signs_from l (cut_off d place long) (begun place))) → r ≡ Some n
+    pub counted : (r : Option ℕ) (n : ℕ) → r ≡ room_of (length list) (length (signs_from l (cut_off d place long) (begun place))) → r
+        ≡ Some n
         → (n ≡ length (signs_from l (cut_off d place long) (begun place))) × (n ≤ length list)
     unfolding stretch_signs
     counted r n e f = let q = fits_is r n e f in let g = ltb-false (length list)

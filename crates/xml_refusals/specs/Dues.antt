@@ -56,7 +56,8 @@ module _ (bad : Bool) (d w : List ℕ) (n : ℕ) where
     text_seen : (get_or d p 0 ≡ 60 → ⊥) → opened bad d w (text_stand d p) ≡ Not f → NoTag f
     unfolding text_stand
     text_seen i e = by (eqb (get_or d p 0) 38) refl e where
-      on : get_or d p 0 ≡ 38 → (c : Option (ℕ × ℕ)) → reference_of p (drop (p + 1) d) ≡ c → opened bad d w (on_text_char p c) ≡ Not f → NoTag f
+      on : get_or d p 0 ≡ 38 → (c : Option (ℕ × ℕ)) → reference_of p (drop (p + 1) d) ≡ c → opened bad d w (on_text_char p c) ≡ Not f
+          → NoTag f
       on j (Some (c, m)) r e = let z : fault 2 p ≡ f = cc in moved z (reference g h j r)
       on j None r e = let z : fault 50 p ≡ f = cc in moved z (bad_reference g h j r)
 
