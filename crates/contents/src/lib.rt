@@ -682,15 +682,9 @@ fn say_byte(latin: bool, byte: u8, g: Going) -> Part
     ensures { (result ≡ byte_part latin byte g) × (part_code result ≤ 255) }
 {
     if latin {
-        return say_first(wide(byte), g);
+        return say_first(byte as u64, g);
     }
     say_whole(Sign::Byte(byte), g)
-}
-
-fn wide(b: u8) -> u64
-    ensures { (result ≡ b) × (result ≤ 255) }
-{
-    b as u64
 }
 
 // The next sign of a text that goes on to the end of d.

@@ -179,7 +179,7 @@ fn folded(sign: Sign) -> u64
     ensures { (result ≡ folded_of sign) × (result ≤ 256) }
 {
     match sign {
-        Sign::Byte(b) => wide(ascii::upper(b)),
+        Sign::Byte(b) => ascii::upper(b) as u64,
         Sign::Break => 256,
     }
 }
@@ -201,7 +201,7 @@ fn lead_sum(d: &[u8], at: usize) -> Summed
         if !is_plain(b) {
             return Summed { sum, next: i };
         }
-        sum = sum_with(sum, wide(ascii::upper(b)));
+        sum = sum_with(sum, ascii::upper(b) as u64);
     }
     Summed { sum, next: d.len() }
 }
@@ -749,12 +749,6 @@ fn may_stand(classes: &[u8; 256], count: usize, b: u8) -> bool
     (class == ascii::LETTER) | ((0 < count) & (class == ascii::DIGIT))
 }
 
-fn wide(b: u8) -> u64
-    ensures { (result ≡ b) × (result ≤ 255) }
-{
-    b as u64
-}
-
 // The number, as crate names has them, of the name from a place to the end of d.
 fn name_key(classes: &[u8; 256], latin: bool, d: &[u8], at: usize) -> u64
     requires classes { Classes classes.now }
@@ -773,7 +767,7 @@ fn name_key(classes: &[u8; 256], latin: bool, d: &[u8], at: usize) -> u64
                     if count == 8 {
                         return 0;
                     }
-                    key = key * 256 + wide(ascii::upper(byte));
+                    key = key * 256 + ascii::upper(byte) as u64;
                     c = cursor;
                 }
                 Sign::Break => {

@@ -44,12 +44,6 @@ fn comment_in(s: &[u8], at: usize) -> Part
     Part::Stop(First::Not)
 }
 
-fn wide(b: u8) -> u64
-    ensures { (result ≡ b) × (result ≤ 255) }
-{
-    b as u64
-}
-
 fn part_in(s: &[u8], at: usize) -> Part
     ensures { result ≡ part_of s.now at }
 {
@@ -70,7 +64,7 @@ fn part_in(s: &[u8], at: usize) -> Part
     if b == 60 {
         return comment_in(s, at);
     }
-    let code = wide(b);
+    let code = b as u64;
     Part::Stop(First::One { code, next: at + 1 })
 }
 
@@ -107,7 +101,7 @@ pub fn next_char(s: &[u8], at: usize) -> First
     if b == 60 {
         return marked_char(s, at);
     }
-    let code = wide(b);
+    let code = b as u64;
     First::One { code, next: at + 1 }
 }
 
@@ -227,7 +221,7 @@ pub fn is_word(s: &[u8], w: &[u8]) -> bool
     for x in w {
         match next_char(s, n) {
             First::One { code, next } => {
-                if wide(*x) != code {
+                if *x as u64 != code {
                     return false;
                 }
                 n = next;

@@ -12,7 +12,7 @@ pub returns-then-not-is_plain : goal.returns-then-not-is_plain
 returns-then-not-is_plain c = record { again = c.loop-i.invariant; within = omega arith }
 
 pub sum_with-sum-requires : goal.sum_with-sum-requires
-sum_with-sum-requires c = omega (arith, c.wide.ensures.1)
+sum_with-sum-requires c = omega arith
 
 pub loop-i-preserved : goal.loop-i-preserved
 loop-i-preserved c =
@@ -20,7 +20,7 @@ loop-i-preserved c =
     let a = c.args in
     let h : l.i < length a.d.now = omega arith in
     let p = sym c.is_plain.ensures ∙ c.if-not-is_plain.false in
-    λ latin. rw (c.sum_with-sum.ensures, c.wide.ensures.0, c.upper.ensures)
+    λ latin. rw (c.sum_with-sum.ensures, c.upper.ensures)
     (l.invariant latin ∙ sum_plain latin a.d.now l.i l.sum h p)
 
 pub returns : goal.returns

@@ -8,19 +8,19 @@ use Rattle.spans.proofs.is_word.Goals as goal
 pub loop-x-init : goal.loop-x-init
 loop-x-init c = (refl, omega arith)
 
-pub returns-then-wide-code : goal.returns-then-wide-code
-returns-then-wide-code c =
+pub returns-then-x-code : goal.returns-then-x-code
+returns-then-x-code c =
     let l = c.loop-x in
     sym (l.invariant.0 ∙ word_off c.args.w.now
     l.x-index _ l.n (sym c.next_char.ensures
-    ∙ c.in-One.is) (omega arith) (λ q. c.if-wide-code.true (c.wide.ensures.0 ∙ q)))
+    ∙ c.in-One.is) (omega arith) c.if-x-code.true)
 
 pub loop-x-preserved : goal.loop-x-preserved
 loop-x-preserved c =
     let args = c.args in
     let l = c.loop-x in
     let e = sym c.next_char.ensures ∙ c.in-One.is in (
-      l.invariant.0 ∙ word_on_lem args.w.now l.x-index _ l.n e (omega arith) (sym c.wide.ensures.0 ∙ c.if-wide-code.false),
+      l.invariant.0 ∙ word_on_lem args.w.now l.x-index _ l.n e (omega arith) c.if-x-code.false,
       (first_on args.s.now l.n _ _ e).1,
     )
 

@@ -47,5 +47,4 @@ returns c =
       lt-leb (length args.s.now) args.at (omega arith),
       ne_eqb _ 38 c.if-b-eq38.false,
       ne_eqb _ 60 c.if-b-eq60.false,
-      c.wide-code.ensures.0,
     )
