@@ -45,7 +45,7 @@ pub overflow_add-key : goal.overflow_add-key
 overflow_add-key c =
     let l = c.loop-count in
     let h : l.count < 8 = omega arith in
-    omega (arith, (key_room l.count l.key _ h l.invariant.2 (omega arith)).1)
+    omega (arith, (key_room l.count l.key c.upper.result h l.invariant.2 (omega arith)).1)
 
 pub loop-count-preserved : goal.loop-count-preserved
 loop-count-preserved c =
@@ -58,7 +58,7 @@ loop-count-preserved c =
           (sym c.may_stand.ensures ∙ c.if-not-may_stand.false) h
           ∙ rw (sym c.upper.ensures),
       omega arith,
-      (key_room l.count l.key _ h l.invariant.2 (omega arith)).0,
+      (key_room l.count l.key c.upper.result h l.invariant.2 (omega arith)).0,
       record { next = s.next; small = s.small },
     )
 
