@@ -152,11 +152,9 @@ fn send_others(
     ensures { Sent bound out.old at (codes_behind (drop 1 (take n list.now))) out.new result }
 {
     let mut end = at;
-    let mut j: usize = 1;
-    while j < n {
+    for j in 1..n {
         end = sink::send_byte(bound, out, end, 59);
         end = send_code(powers, bound, out, end, cells::number(list, j));
-        j += 1;
     }
     end
 }
@@ -358,10 +356,8 @@ fn eight_spaces(s: &[u8], i: usize) -> bool
     ensures { result ≡ true → SpacesFrom s.now i 8 }
 {
     let mut all = true;
-    let mut k: usize = 0;
-    while k < 8 {
+    for k in 0..8 {
         all = all & (s[i + k] == 32);
-        k += 1;
     }
     all
 }
@@ -371,6 +367,7 @@ fn kept_eights(s: &[u8]) -> usize
     ensures { EndsAt s.now result }
 {
     let mut n = s.len();
+    // No `for`: the steps are of eight, and the place where they stop is the answer.
     while 8 <= n {
         let k = n - 8;
         if !eight_spaces(s, k) {
@@ -386,15 +383,12 @@ fn kept_bytes(s: &[u8]) -> usize
     ensures { (result ≤ length s.now) × (unended s.now ≡ take result s.now)
         × (all_spaces s.now ≡ eqb result 0) }
 {
-    let mut n = kept_eights(s);
-    while 0 < n {
-        let k = n - 1;
+    for k in (0..kept_eights(s)).rev() {
         if s[k] != 32 {
-            return n;
+            return k + 1;
         }
-        n = k;
     }
-    n
+    0
 }
 
 // A text that is legal, in the w bytes from the place p on.
@@ -425,14 +419,12 @@ fn first_set(bytes: &[u8], p: usize, w: usize) -> usize
     requires { p + w ≤ length bytes.now }
     ensures { FirstSet w bytes.now p result }
 {
-    let mut i: usize = 0;
-    while i < w {
+    for i in 0..w {
         if bytes[p + i] == 49 {
             return i;
         }
-        i += 1;
     }
-    i
+    w
 }
 
 // From byte c of a bitstring on, all of whose categories are defined, those that are set, each behind a semicolon.
@@ -451,13 +443,10 @@ fn send_set_bits(
     ensures { Sent bound out.old at (codes_behind (bits_from w bytes.now p c)) out.new result }
 {
     let mut end = at;
-    let mut i = c;
-    while i < w {
-        let k = i;
-        i += 1;
-        if bytes[p + k] == 49 {
+    for i in c..w {
+        if bytes[p + i] == 49 {
             end = sink::send_byte(bound, out, end, 59);
-            end = send_count(powers, bound, out, end, i as u64);
+            end = send_count(powers, bound, out, end, (i + 1) as u64);
         }
     }
     end
@@ -511,15 +500,12 @@ fn put_ones(
     ensures { Stretch 18 w bytes.now p 0 9 out.old at out.new result }
 {
     let mut end = at;
-    let mut i: usize = 0;
-    while i < 9 {
+    for i in 0..9 {
         if w <= i {
             return end;
         }
-        let k = i;
-        i += 1;
-        if bytes[p + k] == 49 {
-            put_behind(powers, out, end, 1, i as u64);
+        if bytes[p + i] == 49 {
+            put_behind(powers, out, end, 1, (i + 1) as u64);
             end += 2;
         }
     }
@@ -541,13 +527,11 @@ fn put_ten(
     ensures { Stretch 30 w bytes.now p (10 * t - 1) (10 * t + 9) out.old at out.new result }
 {
     let mut end = at;
-    let mut j: usize = 0;
-    while j < 10 {
+    for j in 0..10 {
         let n = 10 * t + j;
         if w < n {
             return end;
         }
-        j += 1;
         if bytes[p + (n - 1)] == 49 {
             put_behind(powers, out, end, 2, n as u64);
             end += 3;
@@ -570,13 +554,11 @@ fn put_tens(
     ensures { Stretch 270 w bytes.now p 9 99 out.old at out.new result }
 {
     let mut end = at;
-    let mut t: usize = 1;
-    while t < 10 {
+    for t in 1..10 {
         if w < 10 * t {
             return end;
         }
         end = put_ten(powers, out, end, bytes, p, w, t);
-        t += 1;
     }
     end
 }
@@ -693,11 +675,9 @@ pub fn mark_full(t: &[i64], h: Header, full: &mut [u8; 512])
     requires { Tested t.now h }
     ensures { Full t.now h.rows h.rows full.new }
 {
-    let mut i: usize = 0;
-    while i < h.rows {
+    for i in 0..h.rows {
         let row = Row::read(t, i);
         full[i] = bit_of(each_legal(t, h.rows, row));
-        i += 1;
     }
 }
 
