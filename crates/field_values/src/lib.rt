@@ -46,10 +46,8 @@ fn fold_digits(f: &[u8], from: u64) -> u64
     ensures { (result ≡ capped_from from f.now) × (result ≤ small) }
 {
     let mut n = from;
-    let mut i: usize = 0;
-    while i < f.len() {
-        n = step(n, f[i]);
-        i += 1;
+    for b in f {
+        n = step(n, *b);
     }
     n
 }
@@ -59,10 +57,8 @@ fn fold_zeros(from: u64, count: usize) -> u64
     ensures { (result ≡ capped_from from (zeros count)) × (result ≤ small) }
 {
     let mut n = from;
-    let mut k = count;
-    while 0 < k {
+    for _ in 0..count {
         n = step(n, 48);
-        k -= 1;
     }
     n
 }
@@ -71,14 +67,12 @@ fn fold_zeros(from: u64, count: usize) -> u64
 fn point_in(f: &[u8]) -> usize
     ensures { result ≡ point_at f.now }
 {
-    let mut i: usize = 0;
-    while i < f.len() {
-        if f[i] == 46 {
+    for (i, b) in f.iter().enumerate() {
+        if *b == 46 {
             return i;
         }
-        i += 1;
     }
-    i
+    f.len()
 }
 
 // The size of a number with k decimals, of which some at the end may not be written.
@@ -117,14 +111,12 @@ fn semi_to(f: &[u8], at: usize) -> usize
     requires { at ≤ length f.now }
     ensures { SemiTo f.now at result }
 {
-    let mut i = at;
-    while i < f.len() {
+    for i in at..f.len() {
         if f[i] == 59 {
             return i;
         }
-        i += 1;
     }
-    i
+    f.len()
 }
 
 fn code_of(f: &[u8]) -> usize
@@ -158,12 +150,10 @@ fn gather(f: &[u8], list: &mut [i64]) -> usize
 fn all_zeros(s: &[u8]) -> bool
     ensures { result ≡ all_zeros s.now }
 {
-    let mut i: usize = 0;
-    while i < s.len() {
-        if s[i] != 48 {
+    for b in s {
+        if *b != 48 {
             return false;
         }
-        i += 1;
     }
     true
 }
@@ -199,12 +189,10 @@ fn left_of(k: usize, s: &[u8], f: &[u8]) -> bool
     if s.len() < n {
         return false;
     }
-    let mut i: usize = 0;
-    while i < n {
+    for i in 0..n {
         if s[i] != f[i] {
             return false;
         }
-        i += 1;
     }
     tail_good(k, &s[n..])
 }
@@ -284,11 +272,8 @@ fn take_codes(f: &[u8], list: &mut [i64]) -> usize
 {
     let mut count: usize = 0;
     let mut n: usize = 0;
-    let mut i: usize = 0;
-    while i < f.len() {
-        let b = f[i];
-        i += 1;
-        if b == 59 {
+    for b in f {
+        if *b == 59 {
             if n == 0 {
                 return 0;
             }
@@ -299,7 +284,7 @@ fn take_codes(f: &[u8], list: &mut [i64]) -> usize
             count += 1;
             n = 0;
         } else {
-            n = code_step(n, b);
+            n = code_step(n, *b);
             if n == 0 {
                 return 0;
             }

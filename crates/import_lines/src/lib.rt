@@ -418,9 +418,7 @@ pub fn mark_full(t: &[i64], rows: usize, len: usize, full: &mut [u8])
     requires { TableKnown t.now rows len × (length full.old ≡ 512) }
     ensures { FullRows t.now rows full.new }
 {
-    let mut j: usize = 0;
-    while j < rows {
+    for j in 0..rows {
         full[j] = full_row(t, rows, Row::read(t, j));
-        j += 1;
     }
 }
