@@ -5,9 +5,9 @@ use Rattle.std.proofs.Math.Path.{refl, sym, ap}
 use Rattle.std.proofs.Common.{◌∙◌, inl, inr, ⊎_elim, add-one, length-append, length-drop, drop-cons, take-suc-set, take-suc, get_or-drop}
 use Rattle.std.proofs.Common.{get_or-take, length-take-le, take_all}
 use Rattle.std.proofs.Math.Bool.{true, false, cond}
-use mathlib.Core.List.{List, [], ◌∷◌, ◌++◌, append-nil, append_assoc}
+use mathlib.Core.List.{List, [], ◌∷◌, ◌++◌, append_assoc}
 use native.Mathlib.Omega.{arith}
-use borrow.Author.Tests.{eq-eqb, ne_eqb, eqb-true, eqb-false, lt-ltb, le-ltb, ltb-true}
+use borrow.Author.Tests.{eq-eqb, ne_eqb, lt-ltb, le-ltb}
 use Rattle.std.proofs.Math.ListN.{drop, drop_of_length-le}
 use Rattle.std.proofs.Math.Seq.{take-append_seam}
 use Rattle.below.specs.Below.{holds_not, lt_or_le}
@@ -22,7 +22,7 @@ use Rattle.places.specs.rule.Places.{put}
 use Rattle.fields.specs.rule.Legal.{legal}
 use Rattle.fields.specs.rule.Number.{padded}
 use Rattle.fields.specs.rule.Field.{Value, missing, number, members, text, truth, Field, holds, illegal, set_fits}
-use Rattle.fields.specs.rule.Row.{Fit, fits, other_type, not_legal, too_many, legal_fit, fits_by, fit_of, bytes_by, places_by, written_of}
+use Rattle.fields.specs.rule.Row.{Fit, fits, other_type, not_legal, too_many, fits_by, fit_of, bytes_by, places_by, written_of}
 use Rattle.fieldlaws.specs.NumberLaws.{length_padded}
 use Rattle.fieldlaws.specs.BackLaws.{Limits, fit_legal, fit_set}
 use Rattle.lines.specs.rule.Text.{numeral}
@@ -37,7 +37,7 @@ use Rattle.writes.specs.declared.Wrote.{Wrote}
 use Rattle.writes.specs.declared.Wrote.TheVariants.{Done, NotWellFormed, NoRow, TooShort, OtherType, NotLegal, TooMany}
 use Rattle.value_fields.specs.rule.Values.{amount_text, export_number, set_text, export_value}
 use Rattle.widths.specs.rule.Width.{decimals_of}
-use Rattle.field_values.specs.rule.Value.{zeros, Left, whole}
+use Rattle.field_values.specs.rule.Value.{zeros, whole}
 use Rattle.field_values.specs.rule.Read.{capped, capped_from, point_at, size_guess, number_guess, codes_in, set_guess, truth_guess}
 use Rattle.field_values.specs.rule.Read.{some_guess, guess_of}
 use Rattle.field_values.specs.rule.Read.{all_zeros, tail_good, left_of, is_fits, tried_as, value_from}

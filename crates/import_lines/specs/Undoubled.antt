@@ -1,5 +1,5 @@
 -- A field in quotes without its doubled quotes.
-use Rattle.std.specs.Prelude.{◌≡◌, refl, Bool, true, false, cond, List, [], ◌∷◌, ◌++◌, ℕ, zero, suc, ◌+◌, ◌-◌, ◌≤◌, ◌<◌, eqb, length, take}
+use Rattle.std.specs.Prelude.{◌≡◌, refl, Bool, true, false, cond, List, [], ◌∷◌, ◌++◌, ℕ, suc, ◌+◌, ◌≤◌, ◌<◌, eqb, length, take}
 use Rattle.std.specs.Prelude.{drop, get_or, set}
 use Rattle.std.proofs.Common.{sym, ap, ◌∙◌, append-nil, append_assoc, add-one, arith, eqb-true, drop_of_length-le, length-append, drop-cons}
 use Rattle.std.proofs.Common.{drop-drop, take-suc-set, length-take-le}

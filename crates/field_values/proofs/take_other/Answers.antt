@@ -1,7 +1,6 @@
 -- `field_values::take_other` meets its contract.
 use mathlib.Core.Path.{refl, sym, ◌∙◌}
 use native.Mathlib.Omega.{arith}
-use mathlib.Core.Bool.{true, false}
 use lib.Seq.{length-take-le}
 use Rattle.writes.specs.rule.Write.{lent_value}
 use Rattle.field_values.specs.Steps.{none_taken, long_none, many_none, set_sendable, set_stands, set_other, set_left_is, set_is}

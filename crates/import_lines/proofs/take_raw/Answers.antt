@@ -1,7 +1,6 @@
 -- `import_lines::take_raw` meets its contract.
 use mathlib.Core.Path.{sym}
 use native.Mathlib.Omega.{arith}
-use mathlib.Core.Bool.{true, false}
 use lib.Seq.{length-take-le}
 use Rattle.field_values.specs.Steps.{none_taken, ready_limits}
 use Rattle.import_lines.specs.Short.{long_none}
