@@ -1,14 +1,14 @@
 // A field of a text as a value of its row, written to a record if the row's write accepts it. Above it stands the import of a text.
 #![tactic(auto)]
 
-ghost use Rattle.std.specs.Prelude.{◌≡◌, true, cond, ◌+◌, ◌-◌, ◌*◌, ◌≤◌, min, length};
+ghost use Rattle.std.specs.Prelude.{◌≡◌, true, cond, ◌+◌, ◌-◌, ◌*◌, ◌≤◌, ◌<◌, min, length, take, MatchOption};
 ghost use Rattle.ascii.specs.rule.Tens.{Tens};
 ghost use Rattle.layout.specs.declared.Kind.TheVariants as kind;
 ghost use Rattle.writes.specs.Write.{Ready, takes_numbers};
 ghost use Rattle.widths.specs.rule.Width.{decimals_of};
 ghost use Rattle.field_values.specs.rule.Value.{zeros};
-ghost use Rattle.field_values.specs.rule.Read.{capped, capped_from, point_at, size_guess, number_guess, all_zeros, tail_good, left_of};
-ghost use Rattle.field_values.specs.Steps.{small, SemiTo, Gathered, Members, TakesSets, Took, is_done};
+ghost use Rattle.field_values.specs.rule.Read.{capped, capped_from, size_guess, number_guess, codes_in, set_guess, all_zeros, tail_good, left_of};
+ghost use Rattle.field_values.specs.Steps.{small, ByteTo, TakesSets, Took, is_done};
 ghost use Rattle.field_values.specs.Coded.{Stepped, Coded};
 
 use layout::{Kind, Row};
@@ -63,12 +63,13 @@ fn fold_zeros(from: u64, count: usize) -> u64
     n
 }
 
-// Where the point stands, or the length.
-fn point_in(f: &[u8]) -> usize
-    ensures { result ≡ point_at f.now }
+// The first byte b from a place on, or the end.
+fn byte_to(f: &[u8], at: usize, b: u8) -> usize
+    requires { at ≤ length f.now }
+    ensures { ByteTo b f.now at result }
 {
-    for (i, b) in f.iter().enumerate() {
-        if *b == 46 {
+    for i in at..f.len() {
+        if f[i] == b {
             return i;
         }
     }
@@ -79,7 +80,7 @@ fn point_in(f: &[u8]) -> usize
 fn guess_size(f: &[u8], k: usize) -> u64
     ensures { (result ≡ size_guess k f.now) × (result ≤ small) }
 {
-    let p = point_in(f);
+    let p = byte_to(f, 0, 46);
     let n = fold_digits(&f[..p], 0);
     let q = p + 1;
     if f.len() <= q {
@@ -106,19 +107,6 @@ fn guess_number(f: &[u8], k: usize) -> i64
     cells::number_of(false, guess_size(f, k))
 }
 
-// The first semicolon from a place on, or the end.
-fn semi_to(f: &[u8], at: usize) -> usize
-    requires { at ≤ length f.now }
-    ensures { SemiTo f.now at result }
-{
-    for i in at..f.len() {
-        if f[i] == 59 {
-            return i;
-        }
-    }
-    f.len()
-}
-
 fn code_of(f: &[u8]) -> usize
     ensures { result ≡ min (capped_from 0 f.now) 9999 }
 {
@@ -126,22 +114,22 @@ fn code_of(f: &[u8]) -> usize
     if n <= 9999 { n as usize } else { 9999 }
 }
 
-// The codes between semicolons, at the start of the list; 10,000 where there are too many.
-fn gather(f: &[u8], list: &mut [i64]) -> usize
+// The codes between semicolons, at the start of the list, and how many; none where there are too many.
+fn gather(f: &[u8], list: &mut [i64]) -> Option<usize>
     requires { length list.old ≡ 9999 }
-    ensures { Gathered f.now list.new result }
+    ensures { MatchOption result (9999 < length (codes_in 0 f.now)) (λ n. (n ≤ 9999) × (take n list.new ≡ codes_in 0 f.now)) }
 {
     let mut count: usize = 0;
     let mut at: usize = 0;
     loop {
-        let to = semi_to(f, at);
+        let to = byte_to(f, at, 59);
         if 9999 <= count {
-            return 10000;
+            return None;
         }
         list[count] = cells::cell_of(code_of(&f[at..to]));
         count += 1;
         if f.len() <= to {
-            return count;
+            return Some(count);
         }
         at = to + 1;
     }
@@ -235,14 +223,14 @@ fn take_number(
     is_done(writes::plain::write_number(powers, t, rows, row, z, bytes))
 }
 
-// The members that a field may have, at the start of the list, and how many; 10,000 where there are too many.
-fn guess_set(f: &[u8], list: &mut [i64]) -> usize
+// The members that a field may have, at the start of the list, and how many; none where there are too many.
+fn guess_set(f: &[u8], list: &mut [i64]) -> Option<usize>
     requires list_len { length list.old ≡ 9999 }
     requires fact { length f.now ≡ 0 → ⊥ }
-    ensures { Members f.now list.new result }
+    ensures { MatchOption result (9999 < length (set_guess f.now)) (λ n. (n ≤ 9999) × (take n list.new ≡ set_guess f.now)) }
 {
     if f[0] == 110 {
-        return 0;
+        return Some(0);
     }
     gather(f, list)
 }
@@ -317,10 +305,9 @@ fn take_other(
     if 50000 < f.len() {
         return false;
     }
-    let n = guess_set(f, list);
-    if 9999 < n {
+    let Some(n) = guess_set(f, list) else {
         return false;
-    }
+    };
     let end = value_fields::send_set(powers, 50001, room, 0, list, n);
     if end != f.len() {
         return false;
