@@ -3,9 +3,9 @@
 // stands the export of a file.
 #![tactic(auto)]
 
-ghost use Rattle.std.specs.Prelude.{◌≡◌, Bool, true, false, cond, [], ◌∷◌, ◌+◌, ◌-◌, ◌*◌, ◌^◌, ◌≤◌, ◌<◌, eqb, ℤ, length, take, drop};
+ghost use Rattle.std.specs.Prelude.{◌≡◌, Bool, true, false, cond, [], ◌∷◌, ℕ, ◌+◌, ◌-◌, ◌*◌, ◌^◌, ◌≤◌, ◌<◌, eqb, ℤ, length, take, drop};
 ghost use Rattle.std.proofs.lemmas.List.Edits.{sets};
-ghost use Rattle.ascii.specs.rule.Tens.{Tens};
+ghost use Rattle.ascii.specs.rule.Tens.{Tens, digits_of};
 ghost use Rattle.cells.specs.rule.Cell.{signed_of};
 ghost use Rattle.places.specs.rule.Places.{pick, run};
 ghost use Rattle.layout.specs.declared.Kind.TheVariants.{Multiple};
@@ -485,62 +485,37 @@ fn put_behind(powers: &[u64; 16], out: &mut [u8], at: usize, d: usize, n: u64)
     digits::put_digits(powers, out, at + 1, d, n);
 }
 
-// Of the categories from 1 to 9 those that are set, each behind a semicolon. The compiler writes the nine turns out, so that what is
-// stored are constants; the same goes for the ten turns below.
-fn put_ones(
+// Of the N categories from `first` on, each of D digits, those that are set, each behind a semicolon. The compiler writes the N turns out,
+// so that what is stored are constants.
+fn put_run<const N: usize, const D: usize>(
     powers: &[u64; 16],
     out: &mut [u8],
     at: usize,
     bytes: &[u8],
     p: usize,
     w: usize,
+    first: usize,
 ) -> usize
     requires tens { Tens powers.now }
-    requires w_in_bounds { (p + w ≤ length bytes.now) × (at + 18 ≤ length out.old) }
-    ensures { Stretch 18 w bytes.now p 0 9 out.old at out.new result }
+    requires digits { (1 ≤ first) × (first + N ≤ 100) × ((n : ℕ) → first ≤ n → n < first + N → digits_of n ≡ D) }
+    requires w_in_bounds { (D ≤ 2) × (p + w ≤ length bytes.now) × (at + N * (D + 1) ≤ length out.old) }
+    ensures { Stretch (N * (D + 1)) w bytes.now p (first - 1) (first + N - 1) out.old at out.new result }
 {
     let mut end = at;
-    for i in 0..9 {
-        if w <= i {
-            return end;
-        }
-        if bytes[p + i] == 49 {
-            put_behind(powers, out, end, 1, (i + 1) as u64);
-            end += 2;
-        }
-    }
-    end
-}
-
-// The same of the ten categories from 10 * t on.
-fn put_ten(
-    powers: &[u64; 16],
-    out: &mut [u8],
-    at: usize,
-    bytes: &[u8],
-    p: usize,
-    w: usize,
-    t: usize,
-) -> usize
-    requires tens { Tens powers.now }
-    requires w_in_bounds { (p + w ≤ length bytes.now) × (at + 30 ≤ length out.old) × (1 ≤ t) × (t ≤ 9) }
-    ensures { Stretch 30 w bytes.now p (10 * t - 1) (10 * t + 9) out.old at out.new result }
-{
-    let mut end = at;
-    for j in 0..10 {
-        let n = 10 * t + j;
+    for j in 0..N {
+        let n = first + j;
         if w < n {
             return end;
         }
         if bytes[p + (n - 1)] == 49 {
-            put_behind(powers, out, end, 2, n as u64);
-            end += 3;
+            put_behind(powers, out, end, D, n as u64);
+            end += D + 1;
         }
     }
     end
 }
 
-// The same of the categories from 10 to 99.
+// The same of the categories from 10 to 99, ten by ten.
 fn put_tens(
     powers: &[u64; 16],
     out: &mut [u8],
@@ -558,7 +533,7 @@ fn put_tens(
         if w < 10 * t {
             return end;
         }
-        end = put_ten(powers, out, end, bytes, p, w, t);
+        end = put_run::<10, 2>(powers, out, end, bytes, p, w, 10 * t);
     }
     end
 }
@@ -601,7 +576,7 @@ fn send_roomy(
 {
     let before = at - 1;
     let was = out[before];
-    let nine = put_ones(powers, out, before, bytes, p, w);
+    let nine = put_run::<9, 1>(powers, out, before, bytes, p, w, 1);
     let many = put_tens(powers, out, nine, bytes, p, w);
     let end = send_hundreds(powers, bound, out, many, bytes, p, w);
     if end == before {

@@ -1,5 +1,6 @@
 use mathlib.Core.Path.{◌≡◌}
 use native.Mathlib.Omega.{arith}
+use Rattle.value_fields.specs.Numeral.{digits_two}
 use Rattle.value_fields.specs.Stretch.{stretch_none}
 use Rattle.value_fields.proofs.Stretch.{stretch_over, stretch_then}
 use Rattle.value_fields.proofs.put_tens.Goals as goal
@@ -7,14 +8,18 @@ use Rattle.value_fields.proofs.put_tens.Goals as goal
 pub returns-then-w-t : goal.returns-then-w-t
 returns-then-w-t c = stretch_over c.loop-t.invariant (omega arith) (omega arith) (omega arith)
 
-pub put_ten-end-requires : goal.put_ten-end-requires
-put_ten-end-requires c =
+pub put_run-end-requires : goal.put_run-end-requires
+put_run-end-requires c =
     let s = c.loop-t.invariant in
     let f = c.requires.w_in_bounds in
-    record { tens = c.requires.tens; w_in_bounds = (f.0, omega (arith, s.few, s.room, f), omega arith, omega arith) }
+    record {
+      tens = c.requires.tens;
+      digits = (omega arith, omega arith, λ n l h. digits_two n (omega arith) (omega arith));
+      w_in_bounds = (omega arith, f.0, omega (arith, s.few, s.room, f));
+    }
 
 pub loop-t-preserved : goal.loop-t-preserved
-loop-t-preserved c = stretch_then c.loop-t.invariant c.put_ten-end.ensures (omega arith) (omega arith)
+loop-t-preserved c = stretch_then c.loop-t.invariant c.put_run-end.ensures (omega arith) (omega arith)
 
 pub returns : goal.returns
 returns c =
