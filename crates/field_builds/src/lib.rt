@@ -107,7 +107,10 @@ fn codes_in(d: &[u8], at: usize, low: usize, high: usize, most: usize, list: &mu
         }
         list[k] = cells::cell_of(n);
         if d[p] != 59 {
-            return Codes { count: k + 1, at: p };
+            return Codes {
+                count: k + 1,
+                at: p,
+            };
         }
         least = n + 1;
         i = p + 1;

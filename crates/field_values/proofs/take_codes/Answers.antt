@@ -24,15 +24,15 @@ loop-b-preserved c =
     let i = c.loop-b.invariant in
     elim c.if-b-eq59.branch [
       | then-b-eq59+else-n-eq0+else-count-ge9998 w ↦
-        rw (w.list-is, w.count-is, w.n-is) (
-          coding_code i.0 w.if-n-eq0.false (omega arith)
-              (to_z-of_z {w = w64} (sfits_of w.cell_of.type_inv) ∙ w.cell_of.ensures) c.loop-b-test.true
-              w.if-b-eq59.true,
-          omega arith,
-        )
+          rw (w.list-is, w.count-is, w.n-is) (
+            coding_code i.0 w.if-n-eq0.false (omega arith)
+                (to_z-of_z {w = w64} (sfits_of w.cell_of.type_inv) ∙ w.cell_of.ensures) c.loop-b-test.true
+                w.if-b-eq59.true,
+            omega arith,
+          )
       | else-b-eq59+else-n-eq0-2 w ↦
-        rw (w.list-is, w.count-is, w.n-is)
-        (coding_digit i.0 c.loop-b-test.true w.code_step-n.ensures w.if-n-eq0-2.false, i.1)
+          rw (w.list-is, w.count-is, w.n-is)
+          (coding_digit i.0 c.loop-b-test.true w.code_step-n.ensures w.if-n-eq0-2.false, i.1)
     ]
 
 pub code_step-n-requires : goal.code_step-n-requires

@@ -49,12 +49,12 @@ loop-j-preserved g c =
     let e = more l.j (g.row.D + 1) in
     elim c.if-bytes-p-eq49.branch [
       | then-bytes-p-eq49 w ↦
-        rw (w.out-is, w.end-is)
-        (stretch_set l.invariant (omega (arith, f.0)) (byte ∙ w.if-bytes-p-eq49.true) (omega (arith, f.0))
-        (f.2 (a.first + l.j) (omega arith) (omega arith)) w.put_behind.ensures (omega arith) (omega (arith, e)))
+          rw (w.out-is, w.end-is)
+          (stretch_set l.invariant (omega (arith, f.0)) (byte ∙ w.if-bytes-p-eq49.true) (omega (arith, f.0))
+          (f.2 (a.first + l.j) (omega arith) (omega arith)) w.put_behind.ensures (omega arith) (omega (arith, e)))
       | else-bytes-p-eq49 w ↦
-        rw (w.out-is, w.end-is)
-        (stretch_clear l.invariant (omega (arith, f.0)) (λ e. w.if-bytes-p-eq49.false (sym byte ∙ e)) (omega arith) (omega (arith, e)))
+          rw (w.out-is, w.end-is)
+          (stretch_clear l.invariant (omega (arith, f.0)) (λ e. w.if-bytes-p-eq49.false (sym byte ∙ e)) (omega arith) (omega (arith, e)))
     ]
 
 pub returns : goal.returns

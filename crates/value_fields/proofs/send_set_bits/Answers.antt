@@ -19,12 +19,12 @@ loop-i-preserved c =
     let a = c.args in
     elim c.if-bytes-p-eq49.branch [
       | then-bytes-p-eq49 w ↦
-        rw (w.out-is, w.end-is)
-        (less_owed (less_owed l.invariant (codes_set a.w l.i c.loop-i-test.true a.bytes.now a.p w.if-bytes-p-eq49.true)
-        w.send_byte-end.ensures) refl (sent_as w.send_count-end.ensures (count_code _)))
+          rw (w.out-is, w.end-is)
+          (less_owed (less_owed l.invariant (codes_set a.w l.i c.loop-i-test.true a.bytes.now a.p w.if-bytes-p-eq49.true)
+          w.send_byte-end.ensures) refl (sent_as w.send_count-end.ensures (count_code _)))
       | else-bytes-p-eq49 w ↦
-        rw (w.out-is, w.end-is)
-        (owed_as l.invariant (ap codes_behind (bit_clear a.w l.i c.loop-i-test.true a.bytes.now a.p w.if-bytes-p-eq49.false)))
+          rw (w.out-is, w.end-is)
+          (owed_as l.invariant (ap codes_behind (bit_clear a.w l.i c.loop-i-test.true a.bytes.now a.p w.if-bytes-p-eq49.false)))
     ]
 
 pub returns : goal.returns
