@@ -95,15 +95,6 @@ pub capped_small : (n : ℕ) → capped n ≤ small
 unfolding capped
 capped_small n = omega arith
 
-pub point_few : (f : List ℕ) → point_at f ≤ length f
-unfolding point_at
-point_few [] = omega arith
-point_few (b ∷ f) = let h = point_few f in go (eqb b 46) h
-  where
-    go : (q : Bool) → point_at f ≤ length f → cond q 0 (suc (point_at f)) ≤ suc (length f)
-    go true h = omega arith
-    go false h = omega arith
-
 -- ---- the size of a number
 module _ (k : ℕ) (f : List ℕ) {p : ℕ} (e : p ≡ point_at f) {n : ℕ} (a : n ≡ capped_from 0 (take p f)) where
   pub size_short : length f ≤ p + 1 → capped_from n (zeros k) ≡ size_guess k f
