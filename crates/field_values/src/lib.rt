@@ -1,7 +1,7 @@
 // A field of a text as a value of its row, written to a record if the row's write accepts it. Above it stands the import of a text.
 #![tactic(auto)]
 
-ghost use Rattle.std.specs.Prelude.{◌≡◌, true, cond, ◌+◌, ◌-◌, ◌*◌, ◌≤◌, ◌<◌, min, length, take, MatchOption};
+ghost use Rattle.std.specs.Prelude.{◌≡◌, true, ◌+◌, ◌-◌, ◌*◌, ◌≤◌, ◌<◌, min, length, take, MatchOption};
 ghost use Rattle.ascii.specs.rule.Tens.{Tens};
 ghost use Rattle.layout.specs.declared.Kind.TheVariants as kind;
 ghost use Rattle.writes.specs.Write.{Ready, takes_numbers};
@@ -357,7 +357,7 @@ fn take_truth(
     ensures { Took t.now rows row f.now bytes.old bytes.new result }
 {
     let one = f[0] == 49;
-    let text = [bit_of(one)];
+    let text = [value_fields::bit_of(one)];
     if !left_of(0, &text, f) {
         return false;
     }
@@ -413,10 +413,4 @@ pub fn take_field(
         return true;
     }
     take_guessed(powers, t, rows, row, f, list, room, bytes)
-}
-
-fn bit_of(b: bool) -> u8
-    ensures { result ≡ cond b 49 48 }
-{
-    if b { 49 } else { 48 }
 }

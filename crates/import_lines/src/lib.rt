@@ -407,11 +407,7 @@ fn full_row(t: &[i64], rows: usize, row: Row) -> u8
     if 9999 < w {
         return 0;
     }
-    if sets::alike::lines_count(t, rows, row, w) {
-        1
-    } else {
-        0
-    }
+    u8::from(sets::alike::lines_count(t, rows, row, w))
 }
 
 // A 1 for each row whose lines are its categories, so that no field asks it again.

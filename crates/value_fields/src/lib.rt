@@ -179,7 +179,8 @@ pub fn send_set(
     send_others(powers, bound, out, end, list, n)
 }
 
-fn bit_of(b: bool) -> u8
+// The digit of a truth or a mark.
+pub fn bit_of(b: bool) -> u8
     ensures { result ≡ cond b 49 48 }
 {
     if b { b'1' } else { b'0' }
