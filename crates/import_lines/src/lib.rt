@@ -37,8 +37,8 @@ pub fn stride_of(b: u8) -> usize
     if b == 34 { 2 } else { 1 }
 }
 
-// How many bytes a field that stood in quotes has without the doubled ones, and they in the room; none where there are more than any value
-// has.
+// The bytes of a field that stood in quotes, without the doubled ones, at the start of the room, and how many; none where there are more
+// than any value has.
 fn undouble(raw: &[u8], room: &mut [u8]) -> Option<usize>
     requires { length room.old ≡ 50000 }
     ensures { MatchOption result (50000 < length (undoubled false raw.now))
