@@ -1,15 +1,9 @@
 use mathlib.Core.Path.{◌≡◌, sym, ◌∙◌}
-use Prim.Native.Nat.{ℕ, ◌+◌, ◌-◌}
+use Prim.Native.Nat.{◌+◌, ◌-◌}
 use native.Mathlib.Omega.{arith}
 use borrow.Author.Tests.{not-true}
-use Rattle.lows.specs.Lows.{clear_none, clear_more, clear_last}
+use Rattle.lows.specs.Lows.{clear_more, clear_last}
 use Rattle.lows.proofs.plain_short.Goals as goal
-
-pub loop-i-init : goal.loop-i-init
-loop-i-init c = (omega arith, clear_none _ _ (omega arith))
-
-pub returns-then-low_among : goal.returns-then-low_among
-returns-then-low_among c e = let z : ◌≡◌ {A = ℕ} 0 1 = cc in absurd (omega arith)
 
 pub loop-i-preserved : goal.loop-i-preserved
 loop-i-preserved c = (
