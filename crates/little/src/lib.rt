@@ -23,7 +23,7 @@ pub fn put_u32(out: &mut [u8], at: usize, n: u32)
     requires { at + 4 ≤ length out.old }
     ensures { out.new ≡ put_at out.old at (little_bytes 4 n) }
 {
-    put_number(out, at, n as u64, 4);
+    put_number(out, at, u64::from(n), 4);
 }
 
 pub fn put_u64(out: &mut [u8], at: usize, n: u64)
