@@ -30,14 +30,14 @@ loop-k-preserved c =
     let some = c.loop-k-test.true in
     let rest = there_next _ _ _ _ _ _ some l.invariant.1 in
     elim c.if-s-flags-eq1.branch [
-      then-s-flags-eq1 w ↦
-        rw (w.sum-is, w.extend-sum.ensures, w.get_f64.ensures) (
-          rw count_on (omega (arith, l.invariant.0)),
-          rest,
-          rw (column_with _ _ _ _ _ _ some w.if-s-flags-eq1.true) at l.invariant.2,
-        )
-    | else-s-flags-eq1 w ↦
-        rw w.sum-is (omega (arith, l.invariant.0), rest, rw (column_without _ _ _ _ _ _ some w.if-s-flags-eq1.false) at l.invariant.2)
+      | then-s-flags-eq1 w ↦
+          rw (w.sum-is, w.extend-sum.ensures, w.get_f64.ensures) (
+            rw count_on (omega (arith, l.invariant.0)),
+            rest,
+            rw (column_with _ _ _ _ _ _ some w.if-s-flags-eq1.true) at l.invariant.2,
+          )
+      | else-s-flags-eq1 w ↦
+          rw w.sum-is (omega (arith, l.invariant.0), rest, rw (column_without _ _ _ _ _ _ some w.if-s-flags-eq1.false) at l.invariant.2)
     ]
 
 pub returns : goal.returns

@@ -45,13 +45,13 @@ loop-k-preserved c =
     let some = c.loop-k-test.true in
     let h = c.loop-k.invariant in
     elim c.if-all_are.branch [
-      then-all_are+else-not-count_record w ↦
-        rw (w.n-is, w.ones-is) (
-          omega (arith, h.0),
-          from_on some h.1 (sym c.all_are.ensures ∙ w.if-all_are.true) w.count_record.ensures w.if-not-count_record.false,
-        )
-    | else-all_are+else-not-all_are w ↦
-        rw (w.n-is, w.ones-is) (omega (arith, h.0), from_off some h.1 (sym w.all_are-else-all_are.ensures ∙ w.if-not-all_are.false))
+      | then-all_are+else-not-count_record w ↦
+          rw (w.n-is, w.ones-is) (
+            omega (arith, h.0),
+            from_on some h.1 (sym c.all_are.ensures ∙ w.if-all_are.true) w.count_record.ensures w.if-not-count_record.false,
+          )
+      | else-all_are+else-not-all_are w ↦
+          rw (w.n-is, w.ones-is) (omega (arith, h.0), from_off some h.1 (sym w.all_are-else-all_are.ensures ∙ w.if-not-all_are.false))
     ]
 
 pub returns : goal.returns
