@@ -101,10 +101,5 @@ pub fn paste(t: &mut [i64], at: usize, src: &[i64])
     requires { at + length src.now ≤ length t.old }
     ensures { t.new ≡ pasted t.old at src.now }
 {
-    let mut j: usize = 0;
-    while j < src.len() {
-        let x = src[j];
-        t[at + j] = x;
-        j += 1;
-    }
+    t[at..at + src.len()].copy_from_slice(src);
 }
