@@ -17,9 +17,6 @@ pub record Partly (s : List ℕ) (value : ℕ) (before after : List ℕ) (j : �
   pub done : (i : ℕ) → i < j → Counted (number_at 8 (value + 8 * i) s) (get_or before i 0) (get_or after i 0)
   pub rest : (i : ℕ) → j ≤ i → get_or after i 0 ≡ get_or before i 0
 
-pub partly_none : (s : List ℕ) (value : ℕ) (before : List ℕ) → Partly s value before before 0
-partly_none s value before = record { long = refl; done = λ i l. absurd (omega arith); rest = λ i l. refl }
-
 last_or : {i j : ℕ} → i < j + 1 → (i < j) ⊎ (i ≡ j)
 last_or {i} {j} h = ⊎_elim (λ l. inl l) (λ l. inr (omega arith)) (lt_or_le i j)
 
@@ -44,10 +41,6 @@ module _ {s : List ℕ} {value : ℕ} {before after : List ℕ} {j : ℕ} (p : P
 
   pub partly_all : 16 ≤ j → AllCounted s value before after true
   partly_all h = record { long = p.long; at = λ e i l. p.done i (omega arith) }
-
-pub none_counted : {s : List ℕ} {value : ℕ} {before after : List ℕ} {j : ℕ} → Partly s value before after j
-    → AllCounted s value before after false
-none_counted p = record { long = p.long; at = λ e. holds_not e refl }
 
 pub all_zeros_lem : (s : List ℕ) (value : ℕ) (ones : List ℕ) → all_are s value 128 0 ≡ true → AllCounted s value ones ones true
 all_zeros_lem s value ones e = record { long = refl; at = λ q j h. zeros_counted s value j (get_or ones j 0) h e }
