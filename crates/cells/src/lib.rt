@@ -84,5 +84,8 @@ pub fn paste(t: &mut [i64], at: usize, src: &[i64])
     requires { at + length src.now ≤ length t.old }
     ensures { t.new ≡ pasted t.old at src.now }
 {
-    t[at..at + src.len()].copy_from_slice(src);
+    // A copy_from_slice asks whether the two overlap, so that four numbers are first laid out in memory.
+    for (j, &x) in src.iter().enumerate() {
+        t[at + j] = x;
+    }
 }
