@@ -242,7 +242,7 @@ fn block_of(t: &[i64], v: usize, b: usize, n: usize) -> Block
 pub fn larger(a: usize, b: usize) -> usize
     ensures { result ≡ max a b }
 {
-    if a <= b { b } else { a }
+    a.max(b)
 }
 
 // The bytes that the wider of two numbers takes.

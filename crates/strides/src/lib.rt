@@ -169,14 +169,14 @@ fn differ_pairwise(t: &[i64], at: usize, step: usize, n: usize) -> bool
 pub fn lesser(a: i64, b: i64) -> i64
     ensures { result ≡ cond (le_z a b) a b }
 {
-    if a <= b { a } else { b }
+    a.min(b)
 }
 
 // The second number where the first is at most it, else the first.
 pub fn greater(a: i64, b: i64) -> i64
     ensures { result ≡ cond (le_z a b) b a }
 {
-    if a <= b { b } else { a }
+    a.max(b)
 }
 
 // The hull with one number more.
