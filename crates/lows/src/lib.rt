@@ -81,7 +81,7 @@ pub fn plain_short(s: &[u8], from: usize, n: usize) -> bool
 {
     let last = from + (n - 16);
     let mut i = from;
-    // No `for`: a step_by was tried, and takes twelve instructions a turn for nine, as it asks twice whether it is at the end.
+    // No `for`: a step_by was tried, and takes thirteen instructions a turn for ten, as it asks twice whether it is at the end.
     while i < last {
         if low_among::<16>(s, i) {
             return false;
