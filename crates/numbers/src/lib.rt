@@ -19,12 +19,6 @@ pub enum Numeral {
     Wrong,
 }
 
-fn wide(b: u8) -> u64
-    ensures { result ≡ b }
-{
-    b as u64
-}
-
 // How many spaces stand in front.
 fn leading_spaces(s: &[u8]) -> usize
     ensures { (result ≤ length s.now) × (unspaced s.now ≡ drop result s.now) }
@@ -50,7 +44,7 @@ fn digits_after(n: u64, s: &[u8]) -> Option<u64>
         if 57 < b {
             return None;
         }
-        value = value * 10 + wide(b) - 48;
+        value = value * 10 + u64::from(b - 48);
     }
     Some(value)
 }

@@ -47,7 +47,6 @@ overflow_mul-value c = omega (arith, room_small c.loop-b.value (length c.args.s.
 pub overflow_add-value : goal.overflow_add-value
 overflow_add-value c = omega (
   arith,
-  c.wide.ensures,
   room_small c.loop-b.value (length c.args.s.now - c.loop-b.b-index) (10 ^ 18)
       c.loop-b.invariant.0,
 )
@@ -58,14 +57,12 @@ loop-b-preserved c =
     let b = get_or s c.loop-b.b-index 0 in
     let e : length s - c.loop-b.b-index ≡ suc (length s - (c.loop-b.b-index + 1)) = omega arith in
     let r : (c.loop-b.value + 1) * 10 ^ suc (length s - (c.loop-b.b-index + 1)) ≤ 10 ^ 18 = rw e at c.loop-b.invariant.0 in
-    let v : c.loop-b.value * 10 + c.wide.result - 48 ≡ c.loop-b.value * 10 + (b - 48) = omega (arith, c.wide.ensures) in (
-      rw v (step_room _ _ _ _ (omega arith) r),
-      rw v (sym (digit _ _ _ c.loop-b-test.true
-          (rw (le-leb _ _ c.if-b-lt48.false, le-leb _ _ c.if-b-gt57.false))) ∙ c.loop-b.invariant.1),
+    rw c.from.ensures (
+      step_room _ _ _ _ (omega arith) r,
+      sym (digit _ _ _ c.loop-b-test.true
+          (rw (le-leb _ _ c.if-b-lt48.false, le-leb _ _ c.if-b-gt57.false))) ∙ c.loop-b.invariant.1,
     )
 
 pub returns : goal.returns
 returns c = sym (none _ _ _ c.loop-b-test.false) ∙ c.loop-b.invariant.1
 
-pub overflow_sub-value : goal.overflow_sub-value
-overflow_sub-value c = omega (arith, c.wide.ensures)
