@@ -28,7 +28,7 @@ high : (c : After-count_at-c) → c.count_at-c.result ≤ c.args.row.width
 high c = omega (arith, counted c, c.requires.high _ (allowed c))
 
 pub loop-k-init : goal.loop-k-init
-loop-k-init c = (omega arith, refl, λ s' r d. rw sub-zero at d)
+loop-k-init c = (refl, λ s' r d. rw sub-zero at d)
 
 pub overflow_sub-c : goal.overflow_sub-c
 overflow_sub-c c = low (goal.at.overflow_sub-c c).After-count_at-c
@@ -42,17 +42,17 @@ claim_one-requires c =
     let l = low (goal.at.claim_one-requires c).After-count_at-c in let h = high (goal.at.claim_one-requires c).After-count_at-c in
     let i = c.requires.inside in
     let o = c.requires.from_one in
-    let n = c.loop-k.invariant.1 in omega arith
+    let n = c.loop-k.invariant.0 in omega arith
 
 pub shape_of-stamps-then-not-claim_one : goal.shape_of-stamps-then-not-claim_one
 shape_of-stamps-then-not-claim_one c = c.claim_one.auto.stamps
-    ∙ c.loop-k.invariant.1
+    ∙ c.loop-k.invariant.0
 
 pub returns-then-not-claim_one : goal.returns-then-not-claim_one
 returns-then-not-claim_one c =
     let l = c.loop-k in
     let a = c.args in
-    on_stop l.invariant.2 _ _ (lines_next (a.row.start - 1) a.t.now a.rows a.row.before a.row.lines l.k
+    on_stop l.invariant.1 _ _ (lines_next (a.row.start - 1) a.t.now a.rows a.row.before a.row.lines l.k
     c.loop-k-test.true) (rw (counted (goal.at.returns-then-not-claim_one c).After-count_at-c) at c.claim_one.ensures)
     c.if-not-claim_one.true
 
@@ -60,9 +60,8 @@ pub loop-k-preserved : goal.loop-k-preserved
 loop-k-preserved c =
     let l = c.loop-k in
     let a = c.args in (
-      omega arith,
-      c.claim_one.auto.stamps ∙ l.invariant.1,
-      on_step l.invariant.2 _ _ (lines_next (a.row.start - 1) a.t.now a.rows a.row.before a.row.lines l.k
+      c.claim_one.auto.stamps ∙ l.invariant.0,
+      on_step l.invariant.1 _ _ (lines_next (a.row.start - 1) a.t.now a.rows a.row.before a.row.lines l.k
           c.loop-k-test.true) (rw (counted (goal.at.loop-k-preserved c).After-count_at-c) at c.claim_one.ensures)
           c.if-not-claim_one.false,
     )
@@ -70,7 +69,7 @@ loop-k-preserved c =
 pub returns : goal.returns
 returns c =
     let a = c.args in
-    on_end c.loop-k.invariant.2 (lines_end (a.row.start - 1) a.t.now a.rows a.row.before a.row.lines
+    on_end c.loop-k.invariant.1 (lines_end (a.row.start - 1) a.t.now a.rows a.row.before a.row.lines
     c.loop-k.k c.loop-k-test.false)
 
 pub overflow_sub-at : goal.overflow_sub-at
@@ -89,4 +88,4 @@ pub count_at-c-requires : goal.count_at-c-requires
 count_at-c-requires c = let f = c.requires.lines.stand in rw c.base-base.ensures (omega arith)
 
 pub shape_of-stamps : goal.shape_of-stamps
-shape_of-stamps c = c.loop-k.invariant.1
+shape_of-stamps c = c.loop-k.invariant.0

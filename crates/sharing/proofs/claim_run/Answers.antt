@@ -1,34 +1,34 @@
-use mathlib.Core.Path.{refl, ◌∙◌}
+use mathlib.Core.Path.{◌≡◌, refl, ◌∙◌}
+use Prim.Native.Nat.{◌+◌, ◌-◌}
 use native.Mathlib.Omega.{arith}
 use Rattle.sharing.proofs.Steps.{on_step, on_stop, on_end, run_next, run_end}
 use Rattle.sharing.proofs.claim_run.Goals as goal
 
-pub loop-left-init : goal.loop-left-init
-loop-left-init c = (c.requires, refl, λ s' r d. d)
+pub loop-p-init : goal.loop-p-init
+loop-p-init c = let e : c.args.at + c.args.n - c.args.at ≡ c.args.n = omega arith in (refl, λ s' r d. rw e at d)
 
 pub claim_one-requires : goal.claim_one-requires
-claim_one-requires c = let l = c.loop-left.invariant in let a = l.0 in let b = l.1 in omega arith
+claim_one-requires c = let n = c.loop-p.invariant.0 in omega arith
 
 pub shape_of-stamps-then-not-claim_one : goal.shape_of-stamps-then-not-claim_one
-shape_of-stamps-then-not-claim_one c = c.claim_one.auto.stamps ∙ c.loop-left.invariant.1
+shape_of-stamps-then-not-claim_one c = c.claim_one.auto.stamps ∙ c.loop-p.invariant.0
 
 pub returns-then-not-claim_one : goal.returns-then-not-claim_one
 returns-then-not-claim_one c =
-    let l = c.loop-left in
-    on_stop l.invariant.2 _ _ (run_next l.p l.left c.loop-left-test.true)
+    let l = c.loop-p in
+    on_stop l.invariant.1 _ _ (run_next l.p (c.args.at + c.args.n) c.loop-p-test.true)
     c.claim_one.ensures c.if-not-claim_one.true
 
-pub loop-left-preserved : goal.loop-left-preserved
-loop-left-preserved c =
-    let l = c.loop-left in (
-      omega arith,
-      c.claim_one.auto.stamps ∙ l.invariant.1,
-      on_step l.invariant.2 _ _ (run_next l.p l.left c.loop-left-test.true)
+pub loop-p-preserved : goal.loop-p-preserved
+loop-p-preserved c =
+    let l = c.loop-p in (
+      c.claim_one.auto.stamps ∙ l.invariant.0,
+      on_step l.invariant.1 _ _ (run_next l.p (c.args.at + c.args.n) c.loop-p-test.true)
           c.claim_one.ensures c.if-not-claim_one.false,
     )
 
 pub returns : goal.returns
-returns c = on_end c.loop-left.invariant.2 (run_end c.loop-left.p c.loop-left.left c.loop-left-test.false)
+returns c = on_end c.loop-p.invariant.1 (run_end c.loop-p.p (c.args.at + c.args.n) c.loop-p-test.false)
 
 pub shape_of-stamps : goal.shape_of-stamps
-shape_of-stamps c = c.loop-left.invariant.1
+shape_of-stamps c = c.loop-p.invariant.0
