@@ -3,7 +3,6 @@ use mathlib.Core.Path.{sym, ◌∙◌}
 use Prim.Native.Nat.{◌-◌}
 use native.Mathlib.Omega.{arith}
 use lib.ListN.{length}
-use Rattle.fields.specs.rule.Field.{holds}
 use Rattle.sets.specs.Sets.{SpreadRoom}
 use Rattle.sets.proofs.SetLaws.{read_missing, read_illegal, as_read, spread_missing, spread_wrong}
 use Rattle.sets.proofs.FewLaws.{gathered_small, gathered_set}

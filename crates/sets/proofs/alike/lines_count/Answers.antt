@@ -1,5 +1,4 @@
 use mathlib.Core.Path.{◌≡◌, sym, ◌∙◌}
-use mathlib.Core.Bool.{false}
 use Prim.Native.Nat.{ℕ, ◌+◌}
 use native.Mathlib.Omega.{arith}
 use borrow.Author.Count.{below_more}
@@ -25,23 +24,20 @@ here c = rw (
 )
 
 pub loop-k-preserved : goal.loop-k-preserved
-loop-k-preserved c = (
-  omega arith,
-  below_more _ _ c.loop-k.invariant.1
-      (sym (here (goal.at.loop-k-preserved c).After-same) ∙ c.if-not-same.false),
-)
+loop-k-preserved c = below_more _ _ c.loop-k.invariant
+    (sym (here (goal.at.loop-k-preserved c).After-same) ∙ c.if-not-same.false)
 
 pub returns : goal.returns
 returns c = λ e.
     let a = c.args in
     let l = c.loop-k in
-    lines_legal a.t.now a.rows a.row a.w (omega arith) (λ j h. l.invariant.1 j (omega arith))
+    lines_legal a.t.now a.rows a.row a.w (omega arith) (λ j h. l.invariant j (omega arith))
 
 pub returns-then-row-w : goal.returns-then-row-w
 returns-then-row-w c e = let z : ◌≡◌ {A = ℕ} 0 1 = cc in absurd (omega arith)
 
 pub loop-k-init : goal.loop-k-init
-loop-k-init c = (omega arith, λ j h. absurd (omega arith))
+loop-k-init c = λ j h. absurd (omega arith)
 
 pub bounds-t-place : goal.bounds-t-place
 bounds-t-place c = rw c.base-place.ensures (omega arith)
