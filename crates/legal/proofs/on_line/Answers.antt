@@ -1,5 +1,4 @@
 use mathlib.Core.Path.{◌≡◌, sym, ◌∙◌}
-use mathlib.Core.Bool.{false}
 use Prim.Native.Nat.{◌+◌}
 use native.Mathlib.Omega.{arith}
 use borrow.Author.Rules.{sfits_of}
@@ -21,9 +20,6 @@ here c = rw (c.same.ensures, to_z-of_z (sfits_of c.same-arg-1.given), c.base-at.
 
 pub loop-k-init : goal.loop-k-init
 loop-k-init c = any_none _
-
-pub bounds-t-at : goal.bounds-t-at
-bounds-t-at c = rw c.base-at.ensures (omega arith)
 
 pub returns-then-same : goal.returns-then-same
 unfolding on_line

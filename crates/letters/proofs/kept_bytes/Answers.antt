@@ -4,12 +4,8 @@ use native.Mathlib.Omega.{arith}
 use borrow.Author.Tests.{ne_eqb}
 use Rattle.fields.specs.rule.Number.{all_spaces}
 use Rattle.fields.specs.rule.Field.{unended}
-use lib.Seq.{take-length}
 use Rattle.letters.proofs.Ends.{space_unended, space_all, other_unended, other_all}
 use Rattle.letters.proofs.kept_bytes.Goals as goal
-
-pub loop-k-init : goal.loop-k-init
-loop-k-init c = (rw take-length, rw take-length)
 
 pub returns-then-s-k-ne32 : goal.returns-then-s-k-ne32
 returns-then-s-k-ne32 c =

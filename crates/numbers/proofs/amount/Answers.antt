@@ -2,10 +2,9 @@
 use mathlib.Core.Path.{◌≡◌, sym, ap, ◌∙◌}
 use Prim.Native.Nat.{◌+◌, ◌-◌, ◌≤◌, ◌<◌}
 use native.Mathlib.Omega.{arith}
-use borrow.Author.Rules.{rules, sfits_of}
+use borrow.Author.Rules.{sfits_of}
 use borrow.Author.Tests.{ltb-true, ltb-false}
 use lib.ListN.{length, take, length-take}
-use lib.Seq.{length-take-le}
 use mir.Facts.{to_z-of_z}
 use Rattle.widths.specs.rule.Width.{tail_of, least_whole}
 use Rattle.widths.specs.Width.{tail_point, tail_few}
@@ -48,12 +47,6 @@ returns-then-too_short c = sym (amount_short _ _ _ (ltb-true _ _ (sym c.too_shor
 pub too_short-requires : goal.too_short-requires
 too_short-requires c = (c.tail-tail.ensures, rw c.tail-tail.ensures (tail_few _ c.requires.format_facts.few))
 
-pub overflow_sub-k : goal.overflow_sub-k
-overflow_sub-k c = omega (arith, c.tail-tail.ensures, room c)
-
-pub slice_bounds-digits_after-end : goal.slice_bounds-digits_after-end
-slice_bounds-digits_after-end c = sym (length-take-le _ _ (omega arith))
-
 pub digits_after-requires : goal.digits_after-requires
 digits_after-requires c =
     let l = short (goal.at.digits_after-requires c).Else-too_short in few_digits (take
@@ -81,12 +74,6 @@ returns-then-s-k-ne46 c =
 
 pub bounds-s-k : goal.bounds-s-k
 bounds-s-k c = inner (goal.at.bounds-s-k c).Else-f-eq0
-
-pub slice_bounds-decimals_after-count : goal.slice_bounds-decimals_after-count
-slice_bounds-decimals_after-count c = let h = inner (goal.at.slice_bounds-decimals_after-count c).Else-f-eq0 in omega arith
-
-pub slice_bounds-decimals_after-start : goal.slice_bounds-decimals_after-start
-slice_bounds-decimals_after-start c = let h = inner (goal.at.slice_bounds-decimals_after-start c).Else-f-eq0 in search rules
 
 pub decimals_after-requires : goal.decimals_after-requires
 decimals_after-requires c =

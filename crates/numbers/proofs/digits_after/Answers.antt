@@ -1,8 +1,7 @@
-use mathlib.Core.Path.{◌≡◌, refl, sym, ◌∙◌}
+use mathlib.Core.Path.{◌≡◌, sym, ◌∙◌}
 use mathlib.Core.Bool.{true, false, and-false}
 use mathlib.Core.List.{List}
 use Prim.Native.Nat.{ℕ, suc, ◌+◌, ◌-◌, ◌*◌, ◌^◌, ◌≤◌, ◌<◌}
-use native.Mathlib.Nat.{sub-zero}
 use native.Mathlib.Numerals.{add-one}
 use borrow.Author.Tests.{le-leb, lt-leb}
 use lib.Dec.{leb}
@@ -31,9 +30,6 @@ none n s i h = rw (drop_of_length-le _ h)
 
 above : (b : ℕ) → 57 < b → within 48 57 b ≡ false
 above b h = rw (lt-leb b 57 h) (and-false (leb 48 b))
-
-pub loop-b-init : goal.loop-b-init
-loop-b-init c = (rw sub-zero c.requires, refl)
 
 pub returns-then-b-lt48 : goal.returns-then-b-lt48
 returns-then-b-lt48 c = sym (not_digit _ _ _ c.loop-b-test.true (rw (lt-leb _ _ c.if-b-lt48.true))) ∙ c.loop-b.invariant.1
@@ -65,4 +61,3 @@ loop-b-preserved c =
 
 pub returns : goal.returns
 returns c = sym (none _ _ _ c.loop-b-test.false) ∙ c.loop-b.invariant.1
-

@@ -1,4 +1,4 @@
-use mathlib.Core.Path.{◌≡◌, refl, sym, ◌∙◌}
+use mathlib.Core.Path.{◌≡◌, sym, ◌∙◌}
 use mathlib.Core.List.{List}
 use Prim.Native.Nat.{ℕ, ◌+◌, ◌≤◌, ◌<◌}
 use native.Mathlib.Numerals.{add-one}
@@ -21,9 +21,6 @@ ends s p h e = rw (drop-cons s p 0, ne_eqb _ _ e)
 none : (s : List ℕ) (p : ℕ) → length s ≤ p → unspaced (drop p s) ≡ drop p s
 unfolding unspaced
 none s p h = rw (drop_of_length-le _ h)
-
-pub loop-p-init : goal.loop-p-init
-loop-p-init c = refl
 
 pub returns-then-b-ne32 : goal.returns-then-b-ne32
 returns-then-b-ne32 c = (omega arith, sym c.loop-p.invariant ∙ ends _ _ c.loop-p-test.true c.if-b-ne32.true)

@@ -1,17 +1,7 @@
-use mathlib.Core.Path.{◌≡◌, refl, ◌∙◌}
-use Prim.Native.Nat.{◌+◌, ◌-◌}
-use native.Mathlib.Omega.{arith}
+use mathlib.Core.Path.{◌∙◌}
+use Prim.Native.Nat.{◌+◌}
 use Rattle.sharing.proofs.Steps.{on_step, on_stop, on_end, run_next, run_end}
 use Rattle.sharing.proofs.claim_run.Goals as goal
-
-pub loop-p-init : goal.loop-p-init
-loop-p-init c = let e : c.args.at + c.args.n - c.args.at ≡ c.args.n = omega arith in (refl, λ s' r d. rw e at d)
-
-pub claim_one-requires : goal.claim_one-requires
-claim_one-requires c = let n = c.loop-p.invariant.0 in omega arith
-
-pub shape_of-stamps-then-not-claim_one : goal.shape_of-stamps-then-not-claim_one
-shape_of-stamps-then-not-claim_one c = c.claim_one.auto.stamps ∙ c.loop-p.invariant.0
 
 pub returns-then-not-claim_one : goal.returns-then-not-claim_one
 returns-then-not-claim_one c =
@@ -29,6 +19,3 @@ loop-p-preserved c =
 
 pub returns : goal.returns
 returns c = on_end c.loop-p.invariant.1 (run_end c.loop-p.p (c.args.at + c.args.n) c.loop-p-test.false)
-
-pub shape_of-stamps : goal.shape_of-stamps
-shape_of-stamps c = c.loop-p.invariant.0

@@ -1,7 +1,5 @@
-use mathlib.Core.Path.{refl, ◌∙◌}
+use mathlib.Core.Path.{◌∙◌}
 use Prim.Native.Nat.{◌+◌, ◌-◌, ◌*◌, ◌≤◌}
-use native.Mathlib.Nat.{sub-zero}
-use native.Mathlib.Omega.{arith}
 use lib.ListN.{length}
 use Rattle.sharing.proofs.Steps.{on_step, on_stop, on_end, spread_next, spread_end, spread_left}
 use Rattle.sharing.proofs.claim_spread.Goals as goal
@@ -12,16 +10,6 @@ more : (c : In-loop) → c.loop.q + c.args.b
     + (c.args.n - (c.loop.counter + 1)) * c.args.b ≤ length c.args.stamps.now
 more c = spread_left c.loop.q c.args.b c.loop.counter c.args.n
     (length c.args.stamps.now) c.loop-test.true c.loop.invariant.0
-
-pub loop-init : goal.loop-init
-loop-init c = (rw sub-zero c.requires.1, refl, λ s' r d. rw sub-zero at d)
-
-pub claim_run-requires : goal.claim_run-requires
-claim_run-requires c =
-    let m = more (goal.at.claim_run-requires c).In-loop in let h = c.requires.0 in let n = c.loop.invariant.1 in omega arith
-
-pub shape_of-stamps-then-not-claim_run : goal.shape_of-stamps-then-not-claim_run
-shape_of-stamps-then-not-claim_run c = c.claim_run.auto.stamps ∙ c.loop.invariant.1
 
 pub returns-then-not-claim_run : goal.returns-then-not-claim_run
 returns-then-not-claim_run c =
@@ -43,15 +31,3 @@ loop-preserved c =
 pub returns : goal.returns
 returns c = let a = c.args in
     on_end c.loop.invariant.2 (spread_end c.loop.q a.b a.w c.loop.counter a.n c.loop-test.false)
-
-pub overflow_sub-gap : goal.overflow_sub-gap
-overflow_sub-gap c = c.requires.0
-
-pub overflow_add-q : goal.overflow_add-q
-overflow_add-q c = let m = more (goal.at.overflow_add-q c).In-loop in let h = c.requires.0 in omega arith
-
-pub overflow_add-q-in-loop : goal.overflow_add-q-in-loop
-overflow_add-q-in-loop c = let m = more (goal.at.overflow_add-q-in-loop c).In-loop in omega arith
-
-pub shape_of-stamps : goal.shape_of-stamps
-shape_of-stamps c = c.loop.invariant.1

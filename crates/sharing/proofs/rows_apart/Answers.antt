@@ -1,5 +1,4 @@
 use mathlib.Core.Path.{refl, ◌∙◌}
-use native.Mathlib.Omega.{arith}
 use Rattle.below.specs.Below.{all_none, all_more}
 use Rattle.sharing.specs.rule.Sharing.{places_at}
 use Rattle.sharing.specs.Pairs.{apart_before, stamps_none, stamps_more, shares_whole, shares_some}
@@ -37,24 +36,3 @@ pub returns : goal.returns
 returns c =
     let l = c.loop-i in let a = c.args in
     shares_whole a.t.now a.rows l.i c.loop-i-test.false l.auto.i-end l.invariant.2
-
-pub overflow_cast-own : goal.overflow_cast-own
-overflow_cast-own c = let f = c.requires.table_known.few in omega arith
-
-pub read-requires : goal.read-requires
-read-requires c = let f = c.requires.table_known.few in
-    let s = c.requires.table_known.stand in (omega arith, omega arith)
-
-pub claim_row-requires : goal.claim_row-requires
-claim_row-requires c = record {
-  row_facts = rw c.read.ensures (c.requires.table_known.row c.loop-i.i
-      c.loop-i-test.true);
-  len_in_bounds = rw c.loop-i.invariant.0 c.requires.len_in_bounds;
-}
-
-pub shape_of-stamps-then-not-claim_row : goal.shape_of-stamps-then-not-claim_row
-shape_of-stamps-then-not-claim_row c = c.claim_row.auto.stamps
-    ∙ c.loop-i.invariant.0
-
-pub shape_of-stamps : goal.shape_of-stamps
-shape_of-stamps c = c.loop-i.invariant.0

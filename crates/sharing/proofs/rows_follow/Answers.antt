@@ -1,17 +1,9 @@
-use mathlib.Core.Path.{refl, sym}
+use mathlib.Core.Path.{sym}
 use Prim.Native.Nat.{◌<◌}
 use native.Mathlib.Omega.{arith}
-use Rattle.below.specs.Below.{holds_not}
 use Rattle.sharing.specs.Pairs.{shares_whole}
 use Rattle.sharing.specs.Follow.{passed_none, passed_more}
 use Rattle.sharing.proofs.rows_follow.Goals as goal
-
-pub read-row-requires : goal.read-row-requires
-read-row-requires c =
-    let p = c.requires in
-    let f = p.few in
-    let s = p.stand in
-    (omega arith, omega arith)
 
 pub loop-i-preserved : goal.loop-i-preserved
 loop-i-preserved c =
@@ -28,6 +20,3 @@ returns c = λ y.
 
 pub loop-i-init : goal.loop-i-init
 loop-i-init c = passed_none _ _ _
-
-pub returns-then-row-last : goal.returns-then-row-last
-returns-then-row-last c y = holds_not y refl
