@@ -50,6 +50,3 @@ returns c =
 
 pub loop-k-init : goal.loop-k-init
 loop-k-init c = all_none _
-
-pub bounds-t-place : goal.bounds-t-place
-bounds-t-place c = rw c.base-place.ensures (omega arith)

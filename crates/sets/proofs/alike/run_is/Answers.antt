@@ -15,7 +15,3 @@ loop-k-init c = sym (all_more _ 0 (all_none _) (rw add-zero (sym c.is_one.ensure
 
 pub loop-k-preserved : goal.loop-k-preserved
 loop-k-preserved c = rw (c.is_one-good.ensures, c.loop-k.invariant) (sym (all_next _ c.loop-k.k))
-
-pub returns : goal.returns
-returns c = let e : c.loop-k.k ≡ c.args.n = omega arith in
-    rw e at c.loop-k.invariant

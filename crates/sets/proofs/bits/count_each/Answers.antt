@@ -1,7 +1,7 @@
 use mathlib.Core.Path.{refl, ap}
 use Prim.Native.Nat.{◌+◌}
 use native.Mathlib.Omega.{arith}
-use native.Mathlib.Nat.{sub-zero, zero-add}
+use native.Mathlib.Nat.{sub-zero}
 use lib.ListN.{length, get_or}
 use Rattle.sets.specs.Full.{always}
 use Rattle.sets.proofs.BitLaws.{few_bit, count_more, count_whole, set_end}
@@ -19,10 +19,3 @@ returns c =
     let a = c.args in
     let e = ap length (set_end always a.w a.bytes.now a.at c.loop-i.i c.loop-i-test.false) in
     rw (sub-zero a.w) at (count_whole _ _ _ c.loop-i.invariant.1 e)
-
-pub loop-i-init : goal.loop-i-init
-loop-i-init c = (omega arith, zero-add _)
-
-pub overflow_add-n : goal.overflow_add-n
-overflow_add-n c = let m = few_bit c.bit_of-n.result (get_or c.args.bytes.now
-    (c.args.at + c.loop-i.i) 0) c.bit_of-n.ensures in omega arith

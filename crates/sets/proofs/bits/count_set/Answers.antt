@@ -1,7 +1,7 @@
 use mathlib.Core.Path.{sym, ap, ◌∙◌}
 use Prim.Native.Nat.{◌+◌}
 use native.Mathlib.Omega.{arith}
-use native.Mathlib.Nat.{sub-zero, zero-add}
+use native.Mathlib.Nat.{sub-zero}
 use lib.ListN.{length, get_or}
 use Rattle.fields.specs.rule.Legal.{legal}
 use Rattle.sets.proofs.BitLaws.{few_bit, count_more, count_whole, no_set, set_end}
@@ -29,19 +29,3 @@ returns c =
     let e = ap length (set_end (legal a.t.now a.rows a.row) a.w a.bytes.now a.at c.loop-i.i
     c.loop-i-test.false) in
     rw (sub-zero a.w) at (count_whole _ _ _ c.loop-i.invariant.1 e)
-
-pub loop-i-init : goal.loop-i-init
-loop-i-init c = (omega arith, zero-add _)
-
-pub allows-requires : goal.allows-requires
-allows-requires c = record {
-  line_facts = c.requires.line_facts;
-  marks = c.requires.marks;
-  c_bound = omega arith;
-}
-
-pub overflow_add-n : goal.overflow_add-n
-overflow_add-n c = let args = c.args in
-    let m = few_bit c.bit_of-n.result (get_or args.bytes.now
-    (args.at + c.loop-i.i) 0)
-    c.bit_of-n.ensures in omega arith

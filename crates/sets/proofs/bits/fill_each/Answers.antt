@@ -7,7 +7,7 @@ use borrow.Author.Rules.{sfits_of}
 use lib.IntN.{pos}
 use lib.ListN.{length}
 use mir.Facts.{to_z-of_z}
-use native.Mathlib.Nat.{sub-zero, zero-add}
+use native.Mathlib.Nat.{sub-zero}
 use Rattle.sets.specs.Full.{always}
 use Rattle.sets.proofs.BitLaws.{rest_set, member, no_member, set_end}
 use Rattle.sets.proofs.FillLaws.{filled}
@@ -44,14 +44,5 @@ returns c =
     (rw (set_end always a.w a.bytes.now a.at c.loop-i.i c.loop-i-test.false) at c.loop-i.invariant.1)
     ∙ (rw (sub-zero a.w) (filled _ _ c.requires.bytes_in_bounds))
 
-pub loop-i-init : goal.loop-i-init
-loop-i-init c = (rw (zero-add, sub-zero) c.requires.bytes_in_bounds, refl)
-
-pub offset_bounds-list-n : goal.offset_bounds-list-n
-offset_bounds-list-n c = let e = ap length (here (goal.at.offset_bounds-list-n c).Then-bytes-at-eq49) in omega arith
-
 pub bounds-list-n : goal.bounds-list-n
 bounds-list-n c = let e = ap length (here (goal.at.bounds-list-n c).Then-bytes-at-eq49) in omega arith
-
-pub overflow_add-n : goal.overflow_add-n
-overflow_add-n c = let e = ap length (here (goal.at.overflow_add-n c).Then-bytes-at-eq49) in omega arith
