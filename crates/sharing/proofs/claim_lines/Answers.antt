@@ -37,29 +37,26 @@ pub claim_one-requires : goal.claim_one-requires
 claim_one-requires c =
     let l = low (goal.at.claim_one-requires c).After-count_at-c in let h = high (goal.at.claim_one-requires c).After-count_at-c in
     let i = c.requires.inside in
-    let o = c.requires.from_one in
-    let n = c.loop-k.invariant.0 in omega arith
+    let o = c.requires.from_one in omega arith
 
 pub returns-then-not-claim_one : goal.returns-then-not-claim_one
 returns-then-not-claim_one c =
     let l = c.loop-k in
     let a = c.args in
-    on_stop l.invariant.1 _ _ (lines_next (a.row.start - 1) a.t.now a.rows a.row.before a.row.lines l.k
+    on_stop l.invariant _ _ (lines_next (a.row.start - 1) a.t.now a.rows a.row.before a.row.lines l.k
     c.loop-k-test.true) (rw (counted (goal.at.returns-then-not-claim_one c).After-count_at-c) at c.claim_one.ensures)
     c.if-not-claim_one.true
 
 pub loop-k-preserved : goal.loop-k-preserved
 loop-k-preserved c =
     let l = c.loop-k in
-    let a = c.args in (
-      c.claim_one.auto.stamps ∙ l.invariant.0,
-      on_step l.invariant.1 _ _ (lines_next (a.row.start - 1) a.t.now a.rows a.row.before a.row.lines l.k
-          c.loop-k-test.true) (rw (counted (goal.at.loop-k-preserved c).After-count_at-c) at c.claim_one.ensures)
-          c.if-not-claim_one.false,
-    )
+    let a = c.args in
+    on_step l.invariant _ _ (lines_next (a.row.start - 1) a.t.now a.rows a.row.before a.row.lines l.k
+    c.loop-k-test.true) (rw (counted (goal.at.loop-k-preserved c).After-count_at-c) at c.claim_one.ensures)
+    c.if-not-claim_one.false
 
 pub returns : goal.returns
 returns c =
     let a = c.args in
-    on_end c.loop-k.invariant.1 (lines_end (a.row.start - 1) a.t.now a.rows a.row.before a.row.lines
+    on_end c.loop-k.invariant (lines_end (a.row.start - 1) a.t.now a.rows a.row.before a.row.lines
     c.loop-k.k c.loop-k-test.false)

@@ -1,4 +1,3 @@
-use mathlib.Core.Path.{◌∙◌}
 use Prim.Native.Nat.{◌+◌}
 use Rattle.sharing.proofs.Steps.{on_step, on_stop, on_end, run_next, run_end}
 use Rattle.sharing.proofs.claim_run.Goals as goal
@@ -6,16 +5,14 @@ use Rattle.sharing.proofs.claim_run.Goals as goal
 pub returns-then-not-claim_one : goal.returns-then-not-claim_one
 returns-then-not-claim_one c =
     let l = c.loop-p in
-    on_stop l.invariant.1 _ _ (run_next l.p (c.args.at + c.args.n) c.loop-p-test.true)
+    on_stop l.invariant _ _ (run_next l.p (c.args.at + c.args.n) c.loop-p-test.true)
     c.claim_one.ensures c.if-not-claim_one.true
 
 pub loop-p-preserved : goal.loop-p-preserved
 loop-p-preserved c =
-    let l = c.loop-p in (
-      c.claim_one.auto.stamps ∙ l.invariant.0,
-      on_step l.invariant.1 _ _ (run_next l.p (c.args.at + c.args.n) c.loop-p-test.true)
-          c.claim_one.ensures c.if-not-claim_one.false,
-    )
+    let l = c.loop-p in
+    on_step l.invariant _ _ (run_next l.p (c.args.at + c.args.n) c.loop-p-test.true)
+    c.claim_one.ensures c.if-not-claim_one.false
 
 pub returns : goal.returns
-returns c = on_end c.loop-p.invariant.1 (run_end c.loop-p.p (c.args.at + c.args.n) c.loop-p-test.false)
+returns c = on_end c.loop-p.invariant (run_end c.loop-p.p (c.args.at + c.args.n) c.loop-p-test.false)

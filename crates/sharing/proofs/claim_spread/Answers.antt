@@ -1,4 +1,3 @@
-use mathlib.Core.Path.{◌∙◌}
 use Prim.Native.Nat.{◌+◌, ◌-◌, ◌*◌, ◌≤◌}
 use lib.ListN.{length}
 use Rattle.sharing.proofs.Steps.{on_step, on_stop, on_end, spread_next, spread_end, spread_left}
@@ -15,7 +14,7 @@ pub returns-then-not-claim_run : goal.returns-then-not-claim_run
 returns-then-not-claim_run c =
     let l = c.loop in
     let a = c.args in
-    on_stop l.invariant.2 _ _ (spread_next l.q a.b a.w l.counter a.n c.loop-test.true)
+    on_stop l.invariant.1 _ _ (spread_next l.q a.b a.w l.counter a.n c.loop-test.true)
     c.claim_run.ensures c.if-not-claim_run.true
 
 pub loop-preserved : goal.loop-preserved
@@ -23,11 +22,10 @@ loop-preserved c =
     let l = c.loop in
     let a = c.args in (
       more (goal.at.loop-preserved c).In-loop,
-      c.claim_run.auto.stamps ∙ l.invariant.1,
-      on_step l.invariant.2 _ _ (spread_next l.q a.b a.w l.counter a.n c.loop-test.true)
+      on_step l.invariant.1 _ _ (spread_next l.q a.b a.w l.counter a.n c.loop-test.true)
           c.claim_run.ensures c.if-not-claim_run.false,
     )
 
 pub returns : goal.returns
 returns c = let a = c.args in
-    on_end c.loop.invariant.2 (spread_end c.loop.q a.b a.w c.loop.counter a.n c.loop-test.false)
+    on_end c.loop.invariant.1 (spread_end c.loop.q a.b a.w c.loop.counter a.n c.loop-test.false)
