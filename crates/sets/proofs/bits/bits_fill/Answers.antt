@@ -39,11 +39,15 @@ loop-i-preserved c =
             rw (to_z-of_z (sfits_of w.cell_of.type_inv), w.cell_of.ensures, add-one l.n) (rw m at l.invariant.1),
           )
       | then-allows+else-bytes-at-eq49 w ↦
-          rw (w.list-is, w.n-is, ← no_member ok a.w l.i c.loop-i-test.true a.bytes.now a.at (sym c.allows.ensures ∙ w.if-allows.true)
-              w.if-bytes-at-eq49.false) l.invariant
+          rw (
+            w.list-is,
+            w.n-is,
+            ← no_member ok a.w l.i c.loop-i-test.true a.bytes.now a.at (sym c.allows.ensures ∙ w.if-allows.true)
+                w.if-bytes-at-eq49.false,
+          ) l.invariant
       | else-allows w ↦
           rw (w.list-is, w.n-is, ← no_set ok a.w l.i c.loop-i-test.true a.bytes.now a.at (sym c.allows.ensures ∙ w.if-allows.false))
-              l.invariant
+          l.invariant
     ]
 
 pub returns : goal.returns
