@@ -58,9 +58,6 @@ pub record Passed (t : List ℤ) (v : ℕ) (r : Row) (d : List ℕ) (b : Batch) 
   pub legal : LegalTo t v r d b k
 
 module _ {t : List ℤ} {v : ℕ} {r : Row} {d : List ℕ} {b : Batch} where
-  pub none_passed : Passed t v r d b b.from 0
-  none_passed = record { stands = begin_none b; legal = λ k l. absurd (omega arith) }
-
   module _ {at k : ℕ} (p : Passed t v r d b at k) where
     -- the next lies in the data
     pub next_inside : Standing d b → k < b.count → at + b.size < length d
