@@ -44,7 +44,7 @@ fn digits_after(n: u64, s: &[u8]) -> Option<u64>
         if 57 < b {
             return None;
         }
-        value = value * 10 + u64::from(b - 48);
+        value = value * 10 + u64::from(b) - 48;
     }
     Some(value)
 }

@@ -53,10 +53,10 @@ loop-b-preserved c =
     let b = get_or s c.loop-b.b-index 0 in
     let e : length s - c.loop-b.b-index ≡ suc (length s - (c.loop-b.b-index + 1)) = omega arith in
     let r : (c.loop-b.value + 1) * 10 ^ suc (length s - (c.loop-b.b-index + 1)) ≤ 10 ^ 18 = rw e at c.loop-b.invariant.0 in
-    rw c.from.ensures (
-      step_room _ _ _ _ (omega arith) r,
-      sym (digit _ _ _ c.loop-b-test.true
-          (rw (le-leb _ _ c.if-b-lt48.false, le-leb _ _ c.if-b-gt57.false))) ∙ c.loop-b.invariant.1,
+    let v : c.loop-b.value * 10 + c.from.result - 48 ≡ c.loop-b.value * 10 + (b - 48) = omega (arith, c.from.ensures) in (
+      rw v (step_room _ _ _ _ (omega arith) r),
+      rw v (sym (digit _ _ _ c.loop-b-test.true
+          (rw (le-leb _ _ c.if-b-lt48.false, le-leb _ _ c.if-b-gt57.false))) ∙ c.loop-b.invariant.1),
     )
 
 pub returns : goal.returns
