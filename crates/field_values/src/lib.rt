@@ -7,7 +7,8 @@ ghost use Rattle.layout.specs.declared.Kind.TheVariants as kind;
 ghost use Rattle.writes.specs.Write.{Ready, takes_numbers};
 ghost use Rattle.widths.specs.rule.Width.{decimals_of};
 ghost use Rattle.field_values.specs.rule.Value.{zeros};
-ghost use Rattle.field_values.specs.rule.Read.{capped, capped_from, size_guess, number_guess, codes_in, set_guess, all_zeros, tail_good, left_of};
+ghost use Rattle.field_values.specs.rule.Read.{capped, capped_from, size_guess, number_guess, codes_in, set_guess, all_zeros, tail_good};
+ghost use Rattle.field_values.specs.rule.Read.{left_of};
 ghost use Rattle.field_values.specs.Steps.{small, ByteTo, TakesSets, Took, is_done};
 ghost use Rattle.field_values.specs.Coded.{Stepped, Coded};
 

@@ -41,7 +41,8 @@ returns-then-all_before c =
     let none = c.all_before.ensures
     c.if-all_before.true in (
       put.ensures.0
-          ∙ ap (λ (es : List Entry). put_entries a.out.now a.flags a.values es) (sym (near_made m (held (goal.at.returns-then-all_before c).After-is_some-there) none)),
+          ∙ ap (λ (es : List Entry). put_entries a.out.now a.flags a.values es)
+          (sym (near_made m (held (goal.at.returns-then-all_before c).After-is_some-there) none)),
       λ e. near_put m (held (goal.at.returns-then-all_before c).After-is_some-there) none p.marked_set.1 put.ensures.1,
     )
 

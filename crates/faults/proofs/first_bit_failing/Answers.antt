@@ -37,7 +37,8 @@ loop-i-preserved c =
     elim c.if-not-byte_passes.branch [
       | then-not-byte_passes+else-is_legal w ↦
           let no : ok (pos (i + 1)) ≡ false =
-          ap ok (sym (to_z-of_z {w = w64} (sfits_of w.cell_of.type_inv) ∙ w.cell_of.ensures)) ∙ sym w.is_legal.ensures ∙ w.if-is_legal.false in
+          ap ok (sym (to_z-of_z {w = w64} (sfits_of w.cell_of.type_inv) ∙ w.cell_of.ensures)) ∙ sym w.is_legal.ensures
+          ∙ w.if-is_legal.false in
           sym (bit_not a.x ok a.bytes.now at a.row.width i c.loop-i-test.true no) ∙ c.loop-i.invariant
       | else-not-byte_passes w ↦
           sym (bit_on a.x ok a.bytes.now at a.row.width i c.loop-i-test.true

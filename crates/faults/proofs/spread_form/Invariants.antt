@@ -8,4 +8,5 @@ use Rattle.faults.proofs.spread_form.Given as goal
 
 abbrev pub invariant-loop : goal.invariant-loop
 invariant-loop l = (l.q + (l.n - l.counter) * l.b ≤ length l.bytes)
-    × (spread_form l.w l.bytes (l.n - l.counter) (spread_places l.q l.b l.w (l.n - l.counter)) ≡ spread_form l.w l.bytes l.n (spread_places l.at l.b l.w l.n))
+    × (spread_form l.w l.bytes (l.n - l.counter) (spread_places l.q l.b l.w (l.n - l.counter))
+    ≡ spread_form l.w l.bytes l.n (spread_places l.at l.b l.w l.n))

@@ -53,7 +53,8 @@ step c =
     ap (λ (x : Fault). or_else x (spread_value (legal args.t.now args.rows args.row) args.w args.bytes.now
     (c.args.n - (c.loop.counter + 1)) (spread_places (c.loop.q + args.b) args.b args.w (c.args.n - (c.loop.counter + 1))))) (said c)
     ∙ sym (value_step args.bytes.now c.loop.q args.b args.w
-    (c.args.n - c.loop.counter) (c.args.n - (c.loop.counter + 1)) (one (goal.at.After-numeral_fault-x c).In-loop) (legal args.t.now args.rows args.row))
+    (c.args.n - c.loop.counter) (c.args.n - (c.loop.counter + 1)) (one (goal.at.After-numeral_fault-x c).In-loop)
+    (legal args.t.now args.rows args.row))
     ∙ c.loop.invariant.1
 
 pub returns-then-is_fault : goal.returns-then-is_fault

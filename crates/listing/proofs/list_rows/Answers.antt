@@ -62,7 +62,13 @@ returns c =
     let a = c.args in
     let e = tested_rows c.requires.ready.tested in
     let q : c.max.result ≡ c.loop-row.row = omega (arith, c.max.ensures, l.0, c.loop-row-test.false) in
-    record { stands = rw q l.4; from = omega (arith, q); within = omega (arith, q, l.0, e); some = λ h. omega (arith, h, q, c.loop-row-test.false, e) }
+    record {
+      stands = rw q l.4;
+      from = omega (arith, q);
+      within = omega (arith, q, l.0, e);
+      some = λ h. omega
+          (arith, h, q, c.loop-row-test.false, e);
+    }
 
 pub shape_of-list-then-out-end-lt-LINE_ROOM : goal.shape_of-list-then-out-end-lt-LINE_ROOM
 shape_of-list-then-out-end-lt-LINE_ROOM c = c.loop-row.invariant.1

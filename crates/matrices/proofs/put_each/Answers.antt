@@ -91,7 +91,8 @@ loop-n-preserved c =
       put.auto.out ∙ l.invariant.2,
       rw m (each_step (λ r. entries_by a.row.kind a.t.now a.rows a.row r) a.columns
           (records_in a.d.now a.s.first a.s.step a.p.from a.p.count) l.n
-          (l.n * a.columns) a.flags a.values l.out (low (goal.at.loop-n-preserved c).In-loop-n) (there (goal.at.loop-n-preserved c).In-loop-n)
+          (l.n * a.columns) a.flags a.values l.out (low (goal.at.loop-n-preserved c).In-loop-n)
+          (there (goal.at.loop-n-preserved c).In-loop-n)
           put.ensures.0 l.invariant.3),
       omega (arith, l.invariant.4, c.from-held.ensures, (one put.result.there).1),
       λ e. going_step (λ r. entries_by a.row.kind a.t.now a.rows a.row r)

@@ -38,7 +38,8 @@ loop-k-preserved c =
       elim c.else-s-flags-eq1.branch [
         | else-s-flags-eq1-via-then-s-flags-eq1+else-get_f64 w ↦
             let e = column_with _ _ _ _ _ _ some w.if-s-flags-eq1.true in
-            sym (ap any_less e ∙ later_less _ _ (ap (λ (x : Float). lt x unit) (sym w.get_f64.ensures) ∙ w.if-get_f64.false)) ∙ l.invariant.1
+            sym (ap any_less e ∙ later_less _ _ (ap (λ (x : Float). lt x unit) (sym w.get_f64.ensures) ∙ w.if-get_f64.false))
+            ∙ l.invariant.1
         | else-s-flags-eq1-via-else-s-flags-eq1 w ↦
             let e = column_without _ _ _ _ _ _ some w.if-s-flags-eq1.false in
             sym (ap any_less e) ∙ l.invariant.1

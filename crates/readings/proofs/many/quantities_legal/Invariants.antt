@@ -1,4 +1,5 @@
--- `readings::many::quantities_legal` meets its contract. The invariant: the row is legal in the records up to here, which the counter counts.
+-- `readings::many::quantities_legal` meets its contract. The invariant: the row is legal in the records up to here, which the counter
+-- counts.
 use Rattle.readings.specs.Many.{Passed}
 use Rattle.readings.proofs.many.quantities_legal.Given as goal
 

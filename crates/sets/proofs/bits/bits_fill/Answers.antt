@@ -12,7 +12,8 @@ use Rattle.fields.specs.rule.Legal.{legal}
 use Rattle.sets.proofs.BitLaws.{rest_set, member, no_member, no_set, set_end}
 use Rattle.sets.proofs.FillLaws.{filled}
 use Rattle.sets.proofs.bits.bits_fill.Goals as goal
-use Rattle.sets.proofs.bits.bits_fill.Goals.{Then-bytes-at-eq49, then-allows+then-bytes-at-eq49, then-allows+else-bytes-at-eq49, else-allows}
+use Rattle.sets.proofs.bits.bits_fill.Goals.{Then-bytes-at-eq49, then-allows+then-bytes-at-eq49, then-allows+else-bytes-at-eq49}
+use Rattle.sets.proofs.bits.bits_fill.Goals.{else-allows}
 
 -- a category that is set: the members that are left
 here : (c : Then-bytes-at-eq49) → let a = c.args in
