@@ -8,6 +8,7 @@ use lib.Dec.{ltb}
 use lib.ListN.{length, drop}
 use lib.Seq.{drop_at}
 use borrow.Author.Tests.{le-leb, lt-leb}
+use Rattle.std.proofs.Common.{Option, Some, None}
 use Rattle.scan.specs.rule.Text.{kept, text}
 use Rattle.scan.specs.rule.Number.{decimal_of}
 use Rattle.scan.specs.rule.Number as scan
@@ -23,8 +24,6 @@ use Rattle.spans.specs.declared.First.TheVariants as first
 use Rattle.amounts.specs.rule.Said.{digits_in, true_in}
 use Rattle.amounts.specs.Parts.{Ahead, Found, Picked, Left, Stripped}
 use Rattle.amounts.specs.Parts as parts
-use Rattle.amounts.specs.declared.Digit.{Digit}
-use Rattle.amounts.specs.declared.Digit.TheVariants.{One, Nothing}
 use Rattle.amounts.proofs.Hears.{class_two, digit_yes, digit_no, heard_first, heard_none}
 
 -- ---- digits that stand in a file one behind the other are read back
@@ -74,7 +73,7 @@ less_true x y = less_digits (all_in x) (all_in y)
 -- ---- the next digit
 module _ (s : List ℕ) (digits : List ℕ) {n : ℕ} where
   pub left_digit : {c m : ℕ} → Left s n digits → first_heard s n ≡ first.One c m → is_digit c ≡ true → (cs : List ℕ) → digits ≡ digits_in cs
-      → Found s cs (One c m)
+      → Found s cs (Some (c, m))
   unfolding digits_in
   left_digit {c} {m} l f e cs d =
       let h = heard_first s n f l.left in
@@ -88,24 +87,30 @@ module _ (s : List ℕ) (digits : List ℕ) {n : ℕ} where
       let q : digits_in l.rest ≡ digits_in h.rest = ap digits_in h.split ∙ rw (digit_no c e) in
       record { rest = h.rest; left = h.left; same = sym q ∙ l.same }
 
-  pub left_end : Left s n digits → first_heard s n ≡ first.End → (cs : List ℕ) → digits ≡ digits_in cs → Found s cs Nothing
+  pub left_end : Left s n digits → first_heard s n ≡ first.End → (cs : List ℕ) → digits ≡ digits_in cs → Found s cs None
   unfolding digits_in
   left_end l f cs d = parts.nothing (sym d ∙ sym l.same ∙ ap digits_in (heard_none s n f l.left))
 
-pub found_one : {s cs : List ℕ} {c n : ℕ} {d : Digit} → Found s cs d → d ≡ One c n → (rest : List ℕ) × (heard s n ≡ heard.All rest)
+pub found_one : {s cs : List ℕ} {c n : ℕ} {d : Option (ℕ × ℕ)} → Found s cs d → d ≡ Some (c, n) → (rest : List ℕ)
+    × (heard s n ≡ heard.All rest)
     × (digits_in cs ≡ c ∷ digits_in rest)
-found_one {c = c} {n = n} (parts.one {c = x} {n = m} {rest = r} h e) q = let a : x ≡ c = cc in
-    let b : m ≡ n = cc in (r, rw (← b) h, rw (← a) e)
+found_one {c = c} {n = n} (parts.one {c = x} {n = m} {rest = r} h e) q =
+    let p : ◌≡◌ {A = ℕ × ℕ} (x, m) (c, n) = cc in
+    let a : x ≡ c = ap (λ (k : ℕ × ℕ). k.0) p in
+    let b : m ≡ n = ap (λ (k : ℕ × ℕ). k.1) p in
+    (r, rw (← b) h, rw (← a) e)
 found_one (parts.nothing e) q = let z : ◌≡◌ {A = ℕ} 0 1 = cc in absurd (omega arith)
 
-pub found_none : {s cs : List ℕ} {d : Digit} → Found s cs d → d ≡ Nothing → digits_in cs ≡ []
+pub found_none : {s cs : List ℕ} {d : Option (ℕ × ℕ)} → Found s cs d → d ≡ None → digits_in cs ≡ []
 found_none (parts.one h e) q = let z : ◌≡◌ {A = ℕ} 0 1 = cc in absurd (omega arith)
 found_none (parts.nothing e) q = e
 
-pub ahead_one : (at top : ℕ) {c n : ℕ} → at < n → n ≤ top → Ahead at top (One c n)
-ahead_one at top {c} {n} h k x m q = let e : n ≡ m = cc in (rw (← e) h, rw (← e) k)
+pub ahead_one : (at top : ℕ) {c n : ℕ} → at < n → n ≤ top → Ahead at top (Some (c, n))
+ahead_one at top {c} {n} h k x m q =
+    let p : ◌≡◌ {A = ℕ × ℕ} (c, n) (x, m) = cc in
+    let e : n ≡ m = ap (λ (k : ℕ × ℕ). k.1) p in (rw (← e) h, rw (← e) k)
 
-pub ahead_none : (at top : ℕ) → Ahead at top Nothing
+pub ahead_none : (at top : ℕ) → Ahead at top None
 ahead_none at top x m q = let z : ◌≡◌ {A = ℕ} 0 1 = cc in absurd (omega arith)
 
 -- ---- zeros in front
@@ -115,18 +120,18 @@ pub record Zeros (s : List ℕ) (cs : List ℕ) (n : ℕ) : Type 0 where
   pub left : heard s n ≡ heard.All rest
   pub same : stripped (digits_in cs) ≡ stripped (digits_in rest)
 
-module _ (s cs : List ℕ) {n c m : ℕ} {d : Digit} (z : Zeros s cs n) (p : Picked s n d) where
-  pub zeros_next : d ≡ One c m → c ≡ 48 → Zeros s cs m
+module _ (s cs : List ℕ) {n c m : ℕ} {d : Option (ℕ × ℕ)} (z : Zeros s cs n) (p : Picked s n d) where
+  pub zeros_next : d ≡ Some (c, m) → c ≡ 48 → Zeros s cs m
   zeros_next e q =
       let f = found_one (p z.rest z.left) e in
       record { rest = f.0; left = f.1; same = z.same ∙ strip_zero f.2 q }
 
-  pub zeros_over : d ≡ One c m → (c ≡ 48 → ⊥) → Left s n (stripped (digits_in cs))
+  pub zeros_over : d ≡ Some (c, m) → (c ≡ 48 → ⊥) → Left s n (stripped (digits_in cs))
   zeros_over e q =
       let f = found_one (p z.rest z.left) e in
       record { rest = z.rest; left = z.left; same = sym (z.same ∙ strip_first f.2 q) }
 
-pub zeros_end : (s cs : List ℕ) {n : ℕ} {d : Digit} → Zeros s cs n → Picked s n d → d ≡ Nothing → Left s n (stripped (digits_in cs))
+pub zeros_end : (s cs : List ℕ) {n : ℕ} {d : Option (ℕ × ℕ)} → Zeros s cs n → Picked s n d → d ≡ None → Left s n (stripped (digits_in cs))
 zeros_end s cs z p e = record { rest = z.rest; left = z.left; same = sym (z.same ∙ strip_none (found_none (p z.rest z.left) e)) }
 
 -- ---- both numbers, digit by digit
@@ -147,22 +152,23 @@ pairing_start a b x y l k = record {
   same = sym (less_true x y) ∙ sym (rw (l.same, k.same));
 }
 
-module _ (a b x y : List ℕ) {i j : ℕ} (o : Order) (p : Pairing a b x y i j o) {d e : Digit} (f : Picked a i d) (g : Picked b j e) where
-  pub pairing_next : {c m k n : ℕ} {r : Order} → d ≡ One c m → e ≡ One k n → r ≡ order_then o c k → Pairing a b x y m n r
-  pairing_next u w q =
-      let s = found_one (f p.xs p.left_a) u in
-      let t = found_one (g p.ys p.left_b) w in
-      record { xs = s.0; ys = t.0; left_a = s.1; left_b = t.1; same = p.same ∙ less_both o s.2 t.2 q }
+module _ (a b x y : List ℕ) {i j : ℕ} (o : Order) (p : Pairing a b x y i j o) {d e : Option (ℕ × ℕ)} (f : Picked a i d) (g : Picked b j e)
+  where
+    pub pairing_next : {c m k n : ℕ} {r : Order} → d ≡ Some (c, m) → e ≡ Some (k, n) → r ≡ order_then o c k → Pairing a b x y m n r
+    pairing_next u w q =
+        let s = found_one (f p.xs p.left_a) u in
+        let t = found_one (g p.ys p.left_b) w in
+        record { xs = s.0; ys = t.0; left_a = s.1; left_b = t.1; same = p.same ∙ less_both o s.2 t.2 q }
 
-  pub pairing_longer : {c m : ℕ} → d ≡ One c m → e ≡ Nothing → false ≡ ltb (true_in x) (true_in y)
-  pairing_longer u w =
-      let s = found_one (f p.xs p.left_a) u in
-      sym (p.same ∙ less_longer o s.2 (found_none (g p.ys p.left_b) w))
+    pub pairing_longer : {c m : ℕ} → d ≡ Some (c, m) → e ≡ None → false ≡ ltb (true_in x) (true_in y)
+    pairing_longer u w =
+        let s = found_one (f p.xs p.left_a) u in
+        sym (p.same ∙ less_longer o s.2 (found_none (g p.ys p.left_b) w))
 
-  pub pairing_shorter : {k n : ℕ} → d ≡ Nothing → e ≡ One k n → true ≡ ltb (true_in x) (true_in y)
-  pairing_shorter u w =
-      let t = found_one (g p.ys p.left_b) w in
-      sym (p.same ∙ less_shorter o (found_none (f p.xs p.left_a) u) t.2)
+    pub pairing_shorter : {k n : ℕ} → d ≡ None → e ≡ Some (k, n) → true ≡ ltb (true_in x) (true_in y)
+    pairing_shorter u w =
+        let t = found_one (g p.ys p.left_b) w in
+        sym (p.same ∙ less_shorter o (found_none (f p.xs p.left_a) u) t.2)
 
-  pub pairing_even : d ≡ Nothing → e ≡ Nothing → is_less o ≡ ltb (true_in x) (true_in y)
-  pairing_even u w = sym (p.same ∙ less_even o (found_none (f p.xs p.left_a) u) (found_none (g p.ys p.left_b) w))
+    pub pairing_even : d ≡ None → e ≡ None → is_less o ≡ ltb (true_in x) (true_in y)
+    pairing_even u w = sym (p.same ∙ less_even o (found_none (f p.xs p.left_a) u) (found_none (g p.ys p.left_b) w))

@@ -1,5 +1,5 @@
 -- THE CODE'S BOOKS: what each reader makes of the characters that are left, if they are all that is left.
-use Rattle.std.specs.Prelude.{◌≡◌, List, [], ◌∷◌, ℕ, ◌≤◌, ◌<◌, length}
+use Rattle.std.specs.Prelude.{◌≡◌, List, [], ◌∷◌, ℕ, ◌≤◌, ◌<◌, length, Option, Some, None}
 use Rattle.scan.specs.rule.Number.{decimal_of}
 use Rattle.scan.specs.Number.{capped}
 use Rattle.scan.specs.Order.{stripped}
@@ -8,8 +8,6 @@ use Rattle.spans.specs.rule.Heard.{heard, All}
 use Rattle.tokens.specs.declared.Mark.{Mark}
 use Rattle.reading.specs.rule.Token.{leading, after_point, begins, without}
 use Rattle.amounts.specs.rule.Said.{digits_in}
-use Rattle.amounts.specs.declared.Digit.{Digit}
-use Rattle.amounts.specs.declared.Digit.TheVariants.{One, Nothing}
 
 -- a character that may stand first
 abbrev pub Marked : List ℕ → ℕ → ℕ → Mark → Type 0
@@ -23,14 +21,14 @@ Ran s at v d =
     → (d.size ≡ capped (decimal_of v (leading cs))) × (d.count ≡ length (leading cs)) × (heard s d.next ≡ All (after_point cs))
 
 -- the first digit of all, with the place after it
-abbrev pub Ahead : ℕ → ℕ → Digit → Type 0
-Ahead at end d = (c n : ℕ) → d ≡ One c n → (at < n) × (n ≤ end)
+abbrev pub Ahead : ℕ → ℕ → Option (ℕ × ℕ) → Type 0
+Ahead at end d = (c n : ℕ) → d ≡ Some (c, n) → (at < n) × (n ≤ end)
 
-pub data Found (s : List ℕ) (cs : List ℕ) : Digit → Type 0 where
-  one : {c n : ℕ} {rest : List ℕ} → heard s n ≡ All rest → digits_in cs ≡ c ∷ digits_in rest → Found s cs (One c n)
-  nothing : digits_in cs ≡ [] → Found s cs Nothing
+pub data Found (s : List ℕ) (cs : List ℕ) : Option (ℕ × ℕ) → Type 0 where
+  one : {c n : ℕ} {rest : List ℕ} → heard s n ≡ All rest → digits_in cs ≡ c ∷ digits_in rest → Found s cs (Some (c, n))
+  nothing : digits_in cs ≡ [] → Found s cs None
 
-abbrev pub Picked : List ℕ → ℕ → Digit → Type 0
+abbrev pub Picked : List ℕ → ℕ → Option (ℕ × ℕ) → Type 0
 Picked s at d = (cs : List ℕ) → heard s at ≡ All cs → Found s cs d
 
 -- all digits but the zeros in front

@@ -118,13 +118,7 @@ pub fn value_in(s: &[u8], place: usize, next: usize) -> Value
 }
 
 // The next digit from a place on, whatever else stands before it, and the place after it.
-#[derive(Clone, Copy)]
-pub enum Digit {
-    One { code: u64, next: usize },
-    Nothing,
-}
-
-fn next_digit(s: &[u8], at: usize) -> Digit
+fn next_digit(s: &[u8], at: usize) -> Option<(u64, usize)>
     requires { at ≤ length s.now }
     ensures { Ahead at (length s.now) result × Picked s.now at result }
 {
@@ -133,15 +127,15 @@ fn next_digit(s: &[u8], at: usize) -> Digit
         match spans::next_char(s, n) {
             First::One { code, next } => {
                 if spans::is_digit(code) {
-                    return Digit::One { code, next };
+                    return Some((code, next));
                 }
                 n = next;
             }
             First::End => {
-                return Digit::Nothing;
+                return None;
             }
             First::Not => {
-                return Digit::Nothing;
+                return None;
             }
         }
     }
@@ -152,19 +146,13 @@ fn significant(s: &[u8]) -> usize
     ensures { (result ≤ length s.now) × Stripped s.now result }
 {
     let mut n: usize = 0;
-    loop {
-        match next_digit(s, n) {
-            Digit::One { code, next } => {
-                if code != 48 {
-                    return n;
-                }
-                n = next;
-            }
-            Digit::Nothing => {
-                return n;
-            }
+    while let Some((code, next)) = next_digit(s, n) {
+        if code != 48 {
+            return n;
         }
+        n = next;
     }
+    n
 }
 
 fn then_order(o: Order, x: u64, y: u64) -> Order
@@ -201,21 +189,21 @@ pub fn less_in(a: &[u8], b: &[u8]) -> bool
     let mut o = Order::Same;
     loop {
         match next_digit(a, i) {
-            Digit::One { code: x, next: m } => match next_digit(b, j) {
-                Digit::One { code: y, next: n } => {
+            Some((x, m)) => match next_digit(b, j) {
+                Some((y, n)) => {
                     o = then_order(o, x, y);
                     i = m;
                     j = n;
                 }
-                Digit::Nothing => {
+                None => {
                     return false;
                 }
             },
-            Digit::Nothing => match next_digit(b, j) {
-                Digit::One { code: _, next: _ } => {
+            None => match next_digit(b, j) {
+                Some(_) => {
                     return true;
                 }
-                Digit::Nothing => {
+                None => {
                     return is_less(o);
                 }
             },

@@ -97,12 +97,10 @@ pub fn digit_count(powers: &[u64; 16], n: u64) -> usize
     requires { Tens powers.now }
     ensures { result ≡ digits_of n }
 {
-    let mut k: usize = 1;
-    while k < 16 {
+    for k in 1..16 {
         if n < power(powers, k) {
             return k;
         }
-        k += 1;
     }
-    k
+    16
 }

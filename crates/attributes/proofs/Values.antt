@@ -8,14 +8,13 @@ use native.Mathlib.Omega.{arith}
 use lib.Dec.{leb, eqb}
 use lib.ListN.{length, drop, get_or, length-append, length-drop}
 use borrow.Author.Tests.{eq-eqb, ne_eqb, eqb-true, eqb-false, lt-leb, leb-false}
+use Rattle.std.proofs.Common.{Option, Some, None}
 use Rattle.scan.specs.rule.Loop.{Next, Again}
 use Rattle.scan.proofs.Loops.{loop_again, loop_done}
 use Rattle.utf.proofs.Strides.{drop_1}
 use Rattle.markup.specs.rule.Bytes.{end_fault}
 use Rattle.markup.specs.rule.Reference.{reference_of}
 use Rattle.markup.specs.rule.Gap.{next_move}
-use Rattle.markup.specs.declared.Char.{Char}
-use Rattle.markup.specs.declared.Char.TheVariants.{Is, Bad}
 use Rattle.markup.specs.declared.Skip.{Skip}
 use Rattle.markup.specs.declared.Skip.TheVariants.{Past, Broken}
 use Rattle.markup.specs.declared.Move.{Move}
@@ -57,13 +56,14 @@ module _ (bad : Bool) (opened quote : ℕ) (d : List ℕ) where
   unfolding value_move
   value_go p m e = by (leb (length d) p) (eqb (get_or d p 0) quote) (eqb (get_or d p 0) 60) (eqb (get_or d p 0) 38) refl refl refl refl e
     where
-      char : (r : Char) → reference_of p (drop (p + 1) d) ≡ r → leb (length d) p ≡ false → eqb (get_or d p 0) 38 ≡ true → on_value_char p r
+      char : (r : Option (ℕ × ℕ)) → reference_of p (drop (p + 1) d) ≡ r → leb (length d) p ≡ false → eqb (get_or d p 0) 38 ≡ true
+          → on_value_char p r
           ≡ Go m
           → Step quote d p m
-      char (Is c n) f g h e =
+      char (Some (c, n)) f g h e =
           let k : n ≡ m = cc in
           with_ref p c m (leb-false (length d) p g) (eqb-true (get_or d p 0) 38 h) (rw (← k) (reference_sound p c n (drop (p + 1) d) f))
-      char Bad f g h e = let z : ◌≡◌ {A = ℕ} 0 1 = cc in absurd (omega arith)
+      char None f g h e = let z : ◌≡◌ {A = ℕ} 0 1 = cc in absurd (omega arith)
 
       by : (a b c r : Bool) → leb (length d) p ≡ a → eqb (get_or d p 0) quote ≡ b → eqb (get_or d p 0) 60 ≡ c → eqb (get_or d p 0) 38 ≡ r
           → cond a (Stop (Broken (end_fault bad p opened)))
@@ -107,9 +107,9 @@ module _ (bad : Bool) (opened quote : ℕ) (d : List ℕ) where
   value_past : (p k : ℕ) → value_move bad opened quote d p ≡ Stop (Past k) → (k ≡ p) × (p < length d) × (get_or d p 0 ≡ quote)
   unfolding value_move
   value_past p k e = by (leb (length d) p) (eqb (get_or d p 0) quote) (eqb (get_or d p 0) 60) (eqb (get_or d p 0) 38) refl refl e where
-    char : (r : Char) → on_value_char p r ≡ Stop (Past k) → (k ≡ p) × (p < length d) × (get_or d p 0 ≡ quote)
-    char (Is c n) e = let z : ◌≡◌ {A = ℕ} 0 1 = cc in absurd (omega arith)
-    char Bad e = let z : ◌≡◌ {A = ℕ} 0 1 = cc in absurd (omega arith)
+    char : (r : Option (ℕ × ℕ)) → on_value_char p r ≡ Stop (Past k) → (k ≡ p) × (p < length d) × (get_or d p 0 ≡ quote)
+    char (Some (c, n)) e = let z : ◌≡◌ {A = ℕ} 0 1 = cc in absurd (omega arith)
+    char None e = let z : ◌≡◌ {A = ℕ} 0 1 = cc in absurd (omega arith)
 
     by : (a b c r : Bool) → leb (length d) p ≡ a → eqb (get_or d p 0) quote ≡ b
         → cond a (Stop (Broken (end_fault bad p opened)))
@@ -194,7 +194,7 @@ module _ (bad : Bool) (opened quote : ℕ) (d : List ℕ) (apart : quote ≡ 38 
         let h = r.0 in
         let g = r.1 in
         let o : drop (p + 1) d ≡ u ++ (s ++ drop k d) = onward d p 1 (38 ∷ []) (u ++ (s ++ drop k d)) a refl in
-        let i : reference_of p (drop (p + 1) d) ≡ Is c (p + 1 + length u) = rw o (reference_complete p w (s ++ drop k d)) in
+        let i : reference_of p (drop (p + 1) d) ≡ Some (c, p + 1 + length u) = rw o (reference_complete p w (s ++ drop k d)) in
         let n : k ≡ p + 1 + length u + length s = omega (arith, length-append u s) in
         value_next bad opened quote d p (p + 1 + length u) (rw (g, lt-leb (length d) p h, ne_eqb 38 quote (λ q. apart (sym q)), i))
         ∙ complete v (p + 1 + length u) (onward d (p + 1) (length u) u (s ++ drop k d) o refl) n

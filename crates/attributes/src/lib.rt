@@ -4,7 +4,7 @@
 ghost use Rattle.std.specs.Prelude.{◌≡◌, ◌+◌, ◌-◌, ◌≤◌, ◌<◌, length, drop};
 ghost use Rattle.attributes.specs.rule.Attribute.{value_move, quoted_of, valued_of, equals_of, named_of, slash_of, behind_of, attribute_of};
 
-use markup::{Char, Move, Skip};
+use markup::{Move, Skip};
 
 // An attribute: its name from `name` to `nameend`, its value from `value` to `valueend`; or the tag's end; or the place that is
 // faulted with 50.
@@ -41,10 +41,10 @@ fn move_value(bad: bool, opened: usize, quote: u8, d: &[u8], at: usize) -> Move
     }
     if b == 38 {
         match markup::reference(d, at) {
-            Char::Is { code: _, next } => {
+            Some((_, next)) => {
                 return Move::Go(next);
             }
-            Char::Bad => {
+            None => {
                 return Move::Stop(Skip::Broken(at));
             }
         }

@@ -1,17 +1,14 @@
 -- A number's bytes are its digits: without the zeros in front they are what is written for it.
-use Rattle.std.specs.Prelude.{◌≡◌, refl, Bool, true, false, cond, ◌&&◌, List, [], ◌∷◌, ◌++◌, ℕ, zero, suc, ◌+◌, ◌-◌, ◌*◌, ◌/◌, ◌%◌, ◌^◌}
-use Rattle.std.specs.Prelude.{◌≤◌, ◌<◌, eqb, leb, ℤ, pos, take, drop, get_or}
-use Rattle.std.proofs.Common.{sym, ap, ◌∙◌, append-nil, mul-one, mul_assoc, mul-le-mul_right, lt_of_le_of_lt, div-le_self, eq-or-lt_of_le}
-use Rattle.std.proofs.Common.{eqb-true, eq-eqb, ne_eqb, leb-true, length-drop, length-take, take-append-drop, drop_of_length-le, drop-cons}
-use Rattle.std.proofs.Common.{length-take-le}
+use Rattle.std.specs.Prelude.{◌≡◌, refl, Bool, true, false, cond, List, [], ◌∷◌, ℕ, suc, ◌+◌, ◌-◌, ◌*◌, ◌/◌, ◌%◌, ◌^◌}
+use Rattle.std.specs.Prelude.{◌≤◌, ◌<◌, eqb}
+use Rattle.std.proofs.Common.{sym, ap, ◌∙◌, mul-one, mul_assoc, mul-le-mul_right, eq-or-lt_of_le}
+use Rattle.std.proofs.Common.{eqb-true}
 use Rattle.std.proofs.Math.Logic.{⊎_elim}
-use Rattle.std.proofs.Math.Nat.{pow-zero, pow-succ', one-mul, le_trans, sub-zero, div-eq_of_lt-le, pow-le-pow_right}
+use Rattle.std.proofs.Math.Nat.{pow-zero, pow-succ', one-mul, le_trans, div-eq_of_lt-le, pow-le-pow_right}
 use native.Mathlib.Omega.{arith}
 use Rattle.std.proofs.lemmas.Bool.{eqb-false}
 use Rattle.std.proofs.Math.ListN.{length}
-use Rattle.std.proofs.lemmas.List.{drop-append-le}
-use Rattle.std.proofs.Math.Seq.{take-length, take-nil}
-use Rattle.below.specs.Below.{holds_not, lt_or_le, and_left, and_right}
+use Rattle.below.specs.Below.{lt_or_le}
 use Rattle.ascii.specs.rule.Tens.{digits_of, count_from}
 use Rattle.ascii.specs.Tens.{digits_hold, digits_least}
 use Rattle.fields.specs.rule.Number.{unspaced, digits_only, decimal_from, decimal, padded}

@@ -10,14 +10,12 @@ ghost use Rattle.bare_digits.specs.Bare.{unled};
 pub fn leading(s: &[u8], b: u8) -> usize
     ensures { (result ≤ length s.now) × (unled b s.now ≡ drop result s.now) }
 {
-    let mut p: usize = 0;
-    while p < s.len() {
-        if s[p] != b {
+    for (p, x) in s.iter().enumerate() {
+        if *x != b {
             return p;
         }
-        p += 1;
     }
-    p
+    s.len()
 }
 
 // A code's digits, as they stand behind spaces and zeros: none where it is missing.

@@ -1,5 +1,5 @@
 -- BLIND: by two well-formed tables that are alike, every record, file and write goes the same way.
-use Rattle.std.specs.Prelude.{◌≡◌, Bool, List, ℕ, zero, suc, ◌+◌, ◌-◌, ◌≤◌, ◌<◌, ℤ, length}
+use Rattle.std.specs.Prelude.{◌≡◌, Bool, List, ℕ, zero, suc, ◌+◌, ◌-◌, ◌≤◌, ◌<◌, ℤ, length, Some}
 use Rattle.std.proofs.Math.Path.{refl, ap}
 use Rattle.std.proofs.Common.{◌∙◌, arith}
 use Rattle.std.proofs.Math.Bool.{true, false, cond}
@@ -19,7 +19,6 @@ use Rattle.records.specs.rule.First.{first_from, bad_row, row_fault}
 use Rattle.records.specs.rule.Value.{Outcome, refused, outcome_of, read_as, list_as}
 use Rattle.records.specs.rule.Verdict.{Verdict, row_verdict, byte_verdict, rows_verdict, verdict_of}
 use Rattle.records.specs.rule.Verdict as verdict
-use Rattle.records.specs.declared.Found.TheVariants.{At}
 use Rattle.writes.specs.rule.Public.{fit_number, refusal_of, record_after}
 use Rattle.cuts.specs.rule.Records.{Records, over, unended, record_and, records_of}
 use Rattle.files.specs.rule.File.{first_length, record_verdict, records_verdict, file_verdict}
@@ -44,7 +43,7 @@ first_same f g a b v i (suc n) h p q = rw (p i (omega arith))
     (go (g i) (q i (omega arith)) (first_same f g a b v (suc i) n (omega arith) p q))
   where
     go : (c : Bool) → a i ≡ b i → row_verdict a (first_from f (suc i) n) ≡ row_verdict b (first_from g (suc i) n)
-        → row_verdict a (cond c (At i) (first_from f (suc i) n)) ≡ row_verdict b (cond c (At i) (first_from g (suc i) n))
+        → row_verdict a (cond c (Some i) (first_from f (suc i) n)) ≡ row_verdict b (cond c (Some i) (first_from g (suc i) n))
     go true e r = ap (verdict.bad_field i) e
     go false e r = r
 

@@ -1,4 +1,4 @@
-// One number of a table: as a count, as a sign and a size, compared, read where it may not be there, and the one loop that
+// One number of a table: as a count, as a sign and a size, compared, read where it may not be there, and the one call that
 // copies numbers into a table. Above it stand the layout of a table and the test of one.
 #![tactic(auto)]
 
@@ -13,16 +13,11 @@ pub struct Signed {
     pub size: u64,
 }
 
-// A number as a count. In both branches these are the bits as they stand, so that the compiler makes no test of it.
+// A number as a count: its bits as they stand.
 pub fn count_of(x: i64) -> usize
     ensures { result ≡ count_of x }
 {
-    if x < 0 {
-        // !x is -(x + 1)
-        18_446_744_073_709_551_615 - (!x) as usize
-    } else {
-        x as usize
-    }
+    x.cast_unsigned() as usize
 }
 
 // The number at i; past the end it is 0.
@@ -50,17 +45,9 @@ pub fn count_at(t: &[i64], i: usize) -> usize
 pub fn signed_of(x: i64) -> Signed
     ensures { result ≡ signed_of x }
 {
-    if x < 0 {
-        // !x is -(x + 1), which fits where -x might not
-        Signed {
-            minus: true,
-            size: (!x) as u64 + 1,
-        }
-    } else {
-        Signed {
-            minus: false,
-            size: x as u64,
-        }
+    Signed {
+        minus: x < 0,
+        size: x.unsigned_abs(),
     }
 }
 
@@ -69,11 +56,7 @@ pub fn number_of(minus: bool, size: u64) -> i64
     requires { size ≤ 1000000000000000 }
     ensures { result ≡ number_of minus size }
 {
-    if minus {
-        0 - (size as i64)
-    } else {
-        size as i64
-    }
+    if minus { -(size as i64) } else { size as i64 }
 }
 
 // A count as a number of the table.
@@ -101,10 +84,8 @@ pub fn paste(t: &mut [i64], at: usize, src: &[i64])
     requires { at + length src.now ≤ length t.old }
     ensures { t.new ≡ pasted t.old at src.now }
 {
-    let mut j: usize = 0;
-    while j < src.len() {
-        let x = src[j];
+    // A copy_from_slice asks whether the two overlap, so that four numbers are first laid out in memory.
+    for (j, &x) in src.iter().enumerate() {
         t[at + j] = x;
-        j += 1;
     }
 }

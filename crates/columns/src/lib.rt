@@ -2,7 +2,8 @@
 // stands the matrix of a file.
 #![tactic(auto)]
 
-ghost use Rattle.std.specs.Prelude.{◌≡◌, true, false, ℕ, ◌+◌, ◌-◌, ◌^◌, ◌≤◌, ◌<◌, List, [], ◌∷◌, pos, length, get_or};
+ghost use Rattle.std.specs.Prelude.{◌≡◌, true, false, ℕ, ◌+◌, ◌-◌, ◌^◌, ◌≤◌, ◌<◌, List, [], ◌∷◌, pos, length, get_or, is_some};
+ghost use Rattle.std.specs.Option.{unwrap_or};
 ghost use Rattle.below.specs.rule.Below.{any_below};
 ghost use Rattle.ascii.specs.rule.Tens.{Tens};
 ghost use Rattle.cells.specs.rule.Cell.{cell, eq_z};
@@ -20,13 +21,12 @@ ghost use Rattle.sets.specs.rule.Sets.{is_illegal};
 ghost use Rattle.sets.specs.Full.{always};
 ghost use Rattle.sets.specs.Marks.{Marks, Besides};
 ghost use Rattle.sets.specs.Sets.{SpreadRoom, bits_field_at};
-ghost use Rattle.record_values.specs.Rows.{members_in};
 ghost use Rattle.files.specs.rule.Tested.{Tested};
 ghost use Rattle.matrix.specs.Put.{put_entries};
 ghost use Rattle.matrix.specs.Entry.{EntryGood};
 ghost use Rattle.columns.specs.rule.Columns.{row_columns, columns_from, number_entry};
 ghost use Rattle.columns.specs.Reach.{shape_of, digits_reach, bits_reach, reach_by, Readable, Covered};
-ghost use Rattle.columns.specs.Marked.{answer_entry, is_set, marked_entry, marked_entries, member_entries};
+ghost use Rattle.columns.specs.Marked.{answer_entry, marked_entry, marked_entries, member_entries};
 ghost use Rattle.columns.specs.Stretch.{Starts, Ends, mark_among, Unmarked, Alike};
 ghost use Rattle.columns.specs.Room.{Room, PutAs};
 ghost use Rattle.columns.specs.Ones.{Marked, RangeTo, marked_left, in_list, stretch_from, OneMore, OnesMore, NoneFrom};
@@ -152,51 +152,13 @@ fn put_truth(b: u8, out: &mut [u8], flags: usize, values: usize)
     matrix::put_entry(out, flags, values, number_entry(a, 1));
 }
 
-// How many members a row's answer put into the list.
-fn members_in(a: Answer) -> usize
-    ensures { result ≡ members_in a }
-{
-    match a {
-        Answer::Set(n) => n,
-        Answer::Missing => 0,
-        Answer::Number(_) => 0,
-        Answer::Text(_, _) => 0,
-        Answer::Truth(_) => 0,
-        Answer::BadTable => 0,
-        Answer::NoRow => 0,
-        Answer::ShortRecord => 0,
-        Answer::Illegal => 0,
-        Answer::ShortList => 0,
-    }
-}
-
-// Whether a row's answer is a set; the empty one is.
-fn is_set(a: Answer) -> bool
-    ensures { result ≡ is_set a }
-{
-    match a {
-        Answer::Set(_) => true,
-        Answer::Missing => false,
-        Answer::Number(_) => false,
-        Answer::Text(_, _) => false,
-        Answer::Truth(_) => false,
-        Answer::BadTable => false,
-        Answer::NoRow => false,
-        Answer::ShortRecord => false,
-        Answer::Illegal => false,
-        Answer::ShortList => false,
-    }
-}
-
 // The first n numbers of a list marked, besides those that are.
 fn mark_members(list: &[i64], n: usize, marks: &mut [u8])
     requires { (n ≤ length list.now) × (length marks.old ≤ 10000) }
     ensures { Besides (λ x. any_below n (λ j. eq_z (cell list.now j) x)) marks.old marks.new }
 {
-    let mut k: usize = 0;
-    while k < n {
+    for k in 0..n {
         sets::marks::mark_one(marks, list[k]);
-        k += 1;
     }
 }
 
@@ -219,10 +181,8 @@ fn mark_among(marks: &[u8], i: usize) -> bool
     ensures { result ≡ mark_among marks.now i 16 }
 {
     let mut any = false;
-    let mut k: usize = 0;
-    while k < 16 {
+    for k in 0..16 {
         any = any | (marks[i + k] == 1);
-        k += 1;
     }
     any
 }
@@ -234,6 +194,7 @@ fn pass_unmarked(marks: &[u8], from: usize) -> usize
 {
     let n = marks.len();
     let mut i = from;
+    // no `for`: the place where it stops is the answer
     while n - i >= 16 {
         if mark_among(marks, i) {
             return i;
@@ -287,6 +248,7 @@ fn put_rest(
     let mut k: usize = 0;
     let mut c = from;
     let mut wait: usize = 0;
+    // no `for`: categories are passed by sixteens too, and by stretches that are not legal
     while c < allowed.len() {
         let b = c;
         let w = wait;
@@ -315,6 +277,7 @@ fn pass_sixteens(marks: &[u8], from: usize) -> usize
 {
     let n = marks.len();
     let mut i = from;
+    // no `for`: the place where it stops is the answer
     while n - i >= 16 {
         if !matrix::all_are(marks, i, 16, 1) {
             return i;
@@ -330,15 +293,12 @@ fn pass_marked(marks: &[u8], from: usize) -> usize
     ensures { Marked marks.now from result }
 {
     let n = marks.len();
-    let mut i = pass_sixteens(marks, from);
-    while i < n {
-        if marks[i] == 1 {
-            i += 1;
-        } else {
+    for i in pass_sixteens(marks, from)..n {
+        if marks[i] != 1 {
             return i;
         }
     }
-    i
+    n
 }
 
 // The entry of category z set to 1, if it is one of those before `past`, which stand there.
@@ -366,10 +326,8 @@ fn put_ones(list: &[i64], n: usize, out: &mut [u8], past: usize, flags: usize, v
     requires { (n ≤ length list.now) × (past ≤ 10000) × Room flags values (length out.old) (past - 1) }
     ensures { OnesMore flags values (past - 1) list.now n out.old out.new }
 {
-    let mut k: usize = 0;
-    while k < n {
+    for k in 0..n {
         put_one(out, list[k], past, flags, values);
-        k += 1;
     }
 }
 
@@ -400,10 +358,8 @@ fn all_before(list: &[i64], n: usize, gap: usize) -> bool
     ensures { result ≡ true → NoneFrom list.now n gap }
 {
     let mut all = true;
-    let mut k: usize = 0;
-    while k < n {
+    for k in 0..n {
         all = all & (cells::count_of(list[k]) < gap);
-        k += 1;
     }
     all
 }
@@ -479,10 +435,8 @@ fn mark_range(row: Row, marks: &mut [u8])
         return;
     }
     let past = end_of(to, marks.len());
-    let mut c = start_of(from, past);
-    while c < past {
+    for c in start_of(from, past)..past {
         marks[c] = 1;
-        c += 1;
     }
 }
 
@@ -563,22 +517,15 @@ fn put_far(
     put_members(list, n, m, allowed, present, there, out, flags, values);
 }
 
-// What a list holds of a set: whether there is one, and in how many of its first numbers; zeros among them don't count.
-#[derive(Clone, Copy)]
-pub struct Listed {
-    pub there: bool,
-    pub count: usize,
-}
-
-// The members of any multiple, as they are read.
-fn list_read(t: &[i64], rows: usize, row: Row, bytes: &[u8], list: &mut [i64]) -> Listed
+// The members of any multiple, as they are read: how many the list begins with, where there is a set; the empty one is.
+fn list_read(t: &[i64], rows: usize, row: Row, bytes: &[u8], list: &mut [i64]) -> Option<usize>
     requires { Readable t.now rows row (length bytes.now) × (length list.old ≡ 9999) }
-    ensures { Lists (reading_of t.now rows row bytes.now) list.new result.count result.there }
+    ensures { Lists (reading_of t.now rows row bytes.now) list.new (unwrap_or result 0) (is_some result) }
 {
-    let a = readings::read_row(t, rows, row, bytes, list);
-    let count = members_in(a);
-    let there = is_set(a);
-    Listed { there, count }
+    match readings::read_row(t, rows, row, bytes, list) {
+        Answer::Set(n) => Some(n),
+        _ => None,
+    }
 }
 
 fn code_of(x: u16) -> i64
@@ -592,10 +539,8 @@ fn list_room(room: &[u16], list: &mut [i64])
     requires { length room.now ≤ length list.old }
     ensures { Copied room.now list.new }
 {
-    let mut k: usize = 0;
-    while k < room.len() {
-        list[k] = code_of(room[k]);
-        k += 1;
+    for (k, code) in room.iter().enumerate() {
+        list[k] = code_of(*code);
     }
 }
 
@@ -618,7 +563,7 @@ fn list_fields(
     list_room(room, list);
 }
 
-// The members of a spread in a record where it is legal, in no order, and some of them twice.
+// The members of a spread in a record where it is legal, in no order, and some of them twice; zeros among them don't count.
 fn list_spread(
     t: &[i64],
     rows: usize,
@@ -627,10 +572,10 @@ fn list_spread(
     b: usize,
     bytes: &[u8],
     list: &mut [i64],
-) -> Listed
+) -> Option<usize>
     requires readable { Readable t.now rows row (length bytes.now) × (length list.old ≡ 9999) × (row.kind ≡ Multiple (Fields n b)) }
     requires bytes_value { is_illegal (reading_of t.now rows row bytes.now) ≡ false }
-    ensures { Lists (reading_of t.now rows row bytes.now) list.new result.count result.there }
+    ensures { Lists (reading_of t.now rows row bytes.now) list.new (unwrap_or result 0) (is_some result) }
 {
     if 64 < n {
         return list_read(t, rows, row, bytes, list);
@@ -638,27 +583,21 @@ fn list_spread(
     let at = row.start - 1;
     let w = row.width;
     if sets::spread::spread_blank(bytes, at, b, w, n) {
-        return Listed {
-            there: false,
-            count: 0,
-        };
+        return None;
     }
     let mut room = [0u16; 64];
     list_fields(bytes, at, b, w, n, &mut room[..n], list);
-    Listed {
-        there: true,
-        count: n,
-    }
+    Some(n)
 }
 
-// The entries of a multiple's categories, by the marks of its row and by the list of its members.
+// The entries of a multiple's categories, by the marks of its row and by the list's first numbers, its members where it holds a set.
 fn put_listed(
     t: &[i64],
     rows: usize,
     row: Row,
     bytes: &[u8],
     m: Marking,
-    l: Listed,
+    l: Option<usize>,
     list: &[i64],
     allowed: &[u8],
     present: &mut [u8],
@@ -666,15 +605,15 @@ fn put_listed(
     flags: usize,
     values: usize,
 ) -> Put
-    requires lists { Lists (reading_of t.now rows row bytes.now) list.now l.count l.there }
+    requires lists { Lists (reading_of t.now rows row bytes.now) list.now (unwrap_or l 0) (is_some l) }
     requires marked_set { MarkedSet t.now rows row allowed.now m.gap m.count × (length present.old ≡ length allowed.now) }
     requires room { Room flags values (length out.old) m.count }
     ensures { RowPut (member_entries (reading_of t.now rows row bytes.now)
         (defined (legal t.now rows row) 1 9999)) m.gap m.count flags values present.old
         present.new out.old out.new result.there result.near }
 {
-    let n = l.count;
-    let there = l.there;
+    let n = l.unwrap_or(0);
+    let there = l.is_some();
     if all_before(list, n, m.gap) {
         put_near(list, n, m, there, present, out, flags, values);
         return Put { there, near: true };
@@ -682,6 +621,9 @@ fn put_listed(
     put_far(list, n, m, allowed, present, there, out, flags, values);
     Put { there, near: false }
 }
+
+// The byte of a bitstring that says that the set has the category.
+const HAS: u8 = b'1';
 
 // The entries of w categories by the bytes of a bitstring, whose ones are marked besides those of the records before.
 fn put_bits(
@@ -697,12 +639,9 @@ fn put_bits(
     ensures { BitsPut bytes.now at w w flags values met.old met.new out.old
         out.new }
 {
-    let mut i: usize = 0;
-    while i < w {
-        let k = i;
-        i += 1;
-        if bytes[at + k] == 49 {
-            met[i] = 1;
+    for k in 0..w {
+        if bytes[at + k] == HAS {
+            met[k + 1] = 1;
             matrix::put_entry(out, flags + k, values + 8 * k, Entry::Scaled(1, 1));
         } else {
             matrix::put_entry(out, flags + k, values + 8 * k, Entry::Scaled(0, 1));
@@ -862,11 +801,8 @@ fn count_marked(marks: &[u8]) -> usize
     ensures { result ≡ length (marked_entries true marks.now marks.now) }
 {
     let mut k: usize = 0;
-    let mut c: usize = 1;
-    while c < marks.len() {
-        let b = c;
-        c += 1;
-        if marks[b] == 1 {
+    for c in 1..marks.len() {
+        if marks[c] == 1 {
             k += 1;
         }
     }
@@ -995,10 +931,8 @@ pub fn count_columns(t: &[i64], h: Header, allowed: &mut [u8]) -> usize
     ensures { (result ≡ length (columns_from t.now h.rows 0 h.rows)) × (result ≤ 5119488) }
 {
     let mut k: usize = 0;
-    let mut i: usize = 0;
-    while i < h.rows {
+    for i in 0..h.rows {
         k += count_row(t, h, i, allowed);
-        i += 1;
     }
     k
 }

@@ -20,10 +20,8 @@ fn eight_special(s: &[u8], i: usize) -> bool
     ensures { holds_special (drop i s.now) ≡ (result || holds_special (drop (i + 8) s.now)) }
 {
     let mut some = false;
-    let mut k: usize = 0;
-    while k < 8 {
+    for k in 0..8 {
         some = some | special(s[i + k]);
-        k += 1;
     }
     some
 }
@@ -32,12 +30,10 @@ fn eight_special(s: &[u8], i: usize) -> bool
 fn some_special(s: &[u8], from: usize) -> bool
     ensures { result ≡ holds_special (drop from s.now) }
 {
-    let mut i = from;
-    while i < s.len() {
+    for i in from..s.len() {
         if special(s[i]) {
             return true;
         }
-        i += 1;
     }
     false
 }
@@ -47,6 +43,7 @@ fn needs_quotes(s: &[u8]) -> bool
     ensures { result ≡ holds_special s.now }
 {
     let mut i: usize = 0;
+    // No `for`: the steps are of eight, and the bytes behind the place where they stop are still to be looked at.
     while 8 <= s.len() - i {
         if eight_special(s, i) {
             return true;
@@ -72,10 +69,8 @@ fn send_inside(bound: usize, out: &mut [u8], at: usize, s: &[u8]) -> usize
     ensures { Sent bound out.old at (doubled s.now) out.new result }
 {
     let mut end = at;
-    let mut i: usize = 0;
-    while i < s.len() {
-        end = send_doubled(bound, out, end, s[i]);
-        i += 1;
+    for b in s {
+        end = send_doubled(bound, out, end, *b);
     }
     end
 }

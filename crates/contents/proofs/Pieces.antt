@@ -7,6 +7,7 @@ use native.Mathlib.Omega.{arith}
 use lib.Dec.{leb, eqb}
 use lib.ListN.{length, drop, get_or}
 use borrow.Author.Tests.{ne_eqb, eqb-true, lt-leb}
+use Rattle.std.proofs.Common.{Some}
 use Rattle.signs.specs.declared.Sign.{Sign}
 use Rattle.signs.specs.declared.Sign.TheVariants as sign
 use Rattle.utf.specs.rule.Chars.{encode}
@@ -15,7 +16,6 @@ use Rattle.markup.specs.rule.Bytes.{of_kind, is_name, is_digit, starts_name, sta
 use Rattle.markup.specs.rule.Reference.{reference_of}
 use Rattle.markup.specs.rule.Gap.{xml_comment}
 use Rattle.markup.specs.rule.Grammar.{no_more, each, Note}
-use Rattle.markup.specs.declared.Char.TheVariants as char
 use Rattle.markup.specs.declared.Skip.TheVariants as skip
 use Rattle.markup.proofs.References.{reference_complete}
 use Rattle.markup.proofs.Gaps.{comment_complete}
@@ -104,7 +104,7 @@ module _ (l bad : Bool) (d : List ℕ) (m : ℕ) (w : List ℕ) where
   step_return g q h f e = rw (lt-leb (length d) g.next h, f, e)
 
   pub step_refer : (g : Going) (c n : ℕ) → g.next < length d → get_or d g.next 0 ≡ 38 → reference_of g.next (drop (g.next + 1) d)
-      ≡ char.Is c n → step_of bad d m w g ≡ go_on_saying g n (said.Code c)
+      ≡ Some (c, n) → step_of bad d m w g ≡ go_on_saying g n (said.Code c)
   unfolding step_of refer_at
   step_refer g c n h f e = rw (lt-leb (length d) g.next h, f, e)
 

@@ -7,6 +7,7 @@ use native.Mathlib.Omega.{arith}
 use lib.Dec.{leb, ltb, eqb}
 use lib.ListN.{length, drop, get_or}
 use borrow.Author.Tests.{eqb-true, eqb-false, leb-false, ne_eqb, le-leb, lt-leb, ltb-true, ltb-false}
+use Rattle.std.proofs.Common.{Option, Some, None}
 use Rattle.below.specs.Below.{and_left, and_right, holds_not}
 use Rattle.utf.proofs.Strides.{drop_1}
 use Rattle.signs.specs.declared.Sign.TheVariants as sign
@@ -15,8 +16,6 @@ use Rattle.markup.specs.rule.Bytes.{stands}
 use Rattle.markup.specs.rule.Reference.{reference_of}
 use Rattle.markup.specs.rule.Gap.{xml_comment}
 use Rattle.markup.specs.rule.Grammar.{Ref, lt, gt, amp, apos, quot, decimal, hex}
-use Rattle.markup.specs.declared.Char.{Char}
-use Rattle.markup.specs.declared.Char.TheVariants as char
 use Rattle.markup.specs.declared.Skip.{Skip}
 use Rattle.markup.specs.declared.Skip.TheVariants as skip
 use Rattle.markup.proofs.References.{reference_sound}
@@ -234,9 +233,9 @@ module _ (l bad : Bool) (d : List ℕ) (m : ℕ) (w : List ℕ) where
   refer_view : (g : Going) → g.next < length d → get_or d g.next 0 ≡ 38 → View l d m w g (refer_at d g)
   unfolding refer_at signs_of
   refer_view g h b = by (reference_of g.next (drop (g.next + 1) d)) refl where
-    by : (r : Char) → reference_of g.next (drop (g.next + 1) d) ≡ r → View l d m w g (on_char g r)
-    by char.Bad e = fault
-    by (char.Is c n) e =
+    by : (r : Option (ℕ × ℕ)) → reference_of g.next (drop (g.next + 1) d) ≡ r → View l d m w g (on_char g r)
+    by None e = fault
+    by (Some (c, n)) e =
         let r = reference_sound g.next c n (drop (g.next + 1) d) e in
         let k = r.place in
         let x = split_lies d (g.next + 1) n r.bytes r.rest r.split k in

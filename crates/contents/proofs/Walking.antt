@@ -7,13 +7,13 @@ use native.Mathlib.Omega.{arith}
 use lib.Dec.{leb, eqb}
 use lib.ListN.{length, drop, get_or}
 use borrow.Author.Tests.{lt-leb}
+use Rattle.std.proofs.Common.{Some}
 use Rattle.utf.proofs.Strides.{drop_1}
 use Rattle.signs.specs.declared.Sign.TheVariants as sign
 use Rattle.markup.specs.rule.Bytes.{is_white, of_kind, starts_name, run_of, stands}
 use Rattle.markup.specs.rule.Reference.{reference_of}
 use Rattle.markup.specs.rule.Gap.{xml_comment}
 use Rattle.markup.specs.rule.Grammar.{no_more}
-use Rattle.markup.specs.declared.Char.TheVariants as char
 use Rattle.markup.specs.declared.Skip.TheVariants as skip
 use Rattle.markup.proofs.Runs.{run_over}
 use Rattle.markup.proofs.Gaps.{stands_split}
@@ -44,7 +44,7 @@ passes_return d p h e = record {
   within = omega arith;
 }
 
-pub passes_refer : (d : List ℕ) (p c n : ℕ) → p < length d → get_or d p 0 ≡ 38 → reference_of p (drop (p + 1) d) ≡ char.Is c n
+pub passes_refer : (d : List ℕ) (p c n : ℕ) → p < length d → get_or d p 0 ≡ 38 → reference_of p (drop (p + 1) d) ≡ Some (c, n)
     → Passes d p n
 passes_refer d p c n h f e =
     let o = step_on false d 0 [] (stand false 0 p) (stand false 0 n) _ (step_refer false false d 0 [] (stand false 0 p) c n h f e) in

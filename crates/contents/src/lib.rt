@@ -11,7 +11,7 @@ ghost use Rattle.contents.specs.Told.{Hears, Tells, whole_part, first_part, next
 ghost use Rattle.utf.specs.rule.Chars.{encode};
 
 use angles::Angle;
-use markup::{Char, Skip};
+use markup::Skip;
 use pairs::Pair;
 use signs::Sign;
 use tags::Tag;
@@ -116,8 +116,8 @@ fn step_refer(d: &[u8], g: Going) -> Step
 {
     let at = g.next;
     match markup::reference(d, at) {
-        Char::Is { code, next } => go_on(g, next, Said::Code(code)),
-        Char::Bad => broken(at),
+        Some((code, next)) => go_on(g, next, Said::Code(code)),
+        None => broken(at),
     }
 }
 
@@ -343,10 +343,8 @@ fn all_plain(d: &[u8], i: usize) -> bool
     ensures { result ≡ all_plain d.now i 16 }
 {
     let mut plain = true;
-    let mut k: usize = 0;
-    while k < 16 {
+    for k in 0..16 {
         plain = plain & is_plain(d[i + k]);
-        k += 1;
     }
     plain
 }
@@ -362,6 +360,7 @@ fn pass_wide(d: &[u8], at: usize) -> usize
     }
     let last = n - 16;
     let mut i = at;
+    // no `for`: the place where the steps stop is the answer
     while i <= last {
         if !all_plain(d, i) {
             return i;
@@ -377,15 +376,12 @@ fn pass_plain(d: &[u8], at: usize) -> usize
     requires { at ≤ length d.now }
     ensures { Passes d.now at result }
 {
-    let mut i = pass_wide(d, at);
-    while i < d.len() {
-        if is_plain(d[i]) {
-            i += 1;
-        } else {
+    for i in pass_wide(d, at)..d.len() {
+        if !is_plain(d[i]) {
             return i;
         }
     }
-    i
+    d.len()
 }
 
 // The place after the reference at a place; that place where it is bad.
@@ -394,8 +390,8 @@ fn pass_reference(d: &[u8], at: usize) -> usize
     ensures { Passes d.now at result }
 {
     match markup::reference(d, at) {
-        Char::Is { code: _, next } => next,
-        Char::Bad => at,
+        Some((_, next)) => next,
+        None => at,
     }
 }
 
@@ -686,15 +682,9 @@ fn say_byte(latin: bool, byte: u8, g: Going) -> Part
     ensures { (result ≡ byte_part latin byte g) × (part_code result ≤ 255) }
 {
     if latin {
-        return say_first(wide(byte), g);
+        return say_first(byte as u64, g);
     }
     say_whole(Sign::Byte(byte), g)
-}
-
-fn wide(b: u8) -> u64
-    ensures { (result ≡ b) × (result ≤ 255) }
-{
-    b as u64
 }
 
 // The next sign of a text that goes on to the end of d.

@@ -49,14 +49,12 @@ pub fn bare_to(d: &[u8], at: usize) -> usize
     requires { at ≤ length d.now }
     ensures { BareTo d.now at result }
 {
-    let mut i = at;
-    while i < d.len() {
+    for i in at..d.len() {
         if commas::special(d[i]) {
             return i;
         }
-        i += 1;
     }
-    i
+    d.len()
 }
 
 // The first quote from a place on, or the end.
@@ -64,14 +62,12 @@ fn quote_to(d: &[u8], at: usize) -> usize
     requires { at ≤ length d.now }
     ensures { QuoteTo d.now at result }
 {
-    let mut i = at;
-    while i < d.len() {
+    for i in at..d.len() {
         if d[i] == 34 {
             return i;
         }
-        i += 1;
     }
-    i
+    d.len()
 }
 
 fn stop_at(d: &[u8], i: usize) -> Stop

@@ -31,7 +31,7 @@ pub enum Next {
 }
 
 // The terminator that starts with the CR or LF at i: a pair if the other adjoins it.
-fn terminator_at(d: &[u8], i: usize, first: u8, second: u8) -> Terminator
+pub fn terminator_at(d: &[u8], i: usize, first: u8, second: u8) -> Terminator
     requires { i < length d.now }
     ensures { result ≡ terminator_at first second (drop (i + 1) d.now) }
 {
@@ -75,14 +75,12 @@ pub fn low_from(d: &[u8], from: usize) -> usize
     requires { from ≤ length d.now }
     ensures { FirstLow d.now from result }
 {
-    let mut i = clear_to(d, from);
-    while i < d.len() {
+    for i in clear_to(d, from)..d.len() {
         if d[i] < 32 {
             return i;
         }
-        i += 1;
     }
-    i
+    d.len()
 }
 
 // The file's terminator: the first one met.
@@ -97,8 +95,7 @@ pub fn terminator_behind(d: &[u8], clear: usize) -> Terminator
     requires { Clear d.now 0 clear }
     ensures { Found d.now result }
 {
-    let mut i = clear;
-    while i < d.len() {
+    for i in clear..d.len() {
         let b = d[i];
         if b == 13 {
             return terminator_at(d, i, 13, 10);
@@ -106,7 +103,6 @@ pub fn terminator_behind(d: &[u8], clear: usize) -> Terminator
         if b == 10 {
             return terminator_at(d, i, 10, 13);
         }
-        i += 1;
     }
     Terminator {
         first: 0,
@@ -168,8 +164,7 @@ pub fn next_behind(d: &[u8], w: Terminator, from: usize, clear: usize) -> Next
     if d.len() <= from {
         return Next::Nothing;
     }
-    let mut i = clear;
-    while i < d.len() {
+    for i in clear..d.len() {
         if begins_at(d, w, i) {
             return Next::Ended {
                 start: from,
@@ -177,11 +172,10 @@ pub fn next_behind(d: &[u8], w: Terminator, from: usize, clear: usize) -> Next
                 next: i + w.size,
             };
         }
-        i += 1;
     }
     Next::Unended {
         start: from,
-        end: i,
+        end: d.len(),
     }
 }
 
@@ -224,15 +218,16 @@ pub fn plain_run(d: &[u8], w: Terminator, from: usize, size: usize, most: usize)
 {
     let step = size + w.size;
     let mut at = from;
-    let mut k: usize = 0;
-    while (k < most) & (at < d.len()) {
+    for k in 0..most {
+        if d.len() <= at {
+            return k;
+        }
         if !next_short(d, w, at, size) {
             return k;
         }
         at += step;
-        k += 1;
     }
-    k
+    most
 }
 
 // The next record from a place on. The terminator is found from the start of the data, whatever the place.

@@ -191,10 +191,8 @@ fn names_fault(classes: &[u8; 256], d: &[u8], rows: &[i64], count: usize) -> usi
     ensures { NamesJudged d.now rows.now count result }
 {
     let mut keys = [0u64; Header::MOST_ROWS];
-    let mut i: usize = 0;
-    while i < count {
+    for i in 0..count {
         keys[i] = names::name_key(classes, d, name_place(rows, i));
-        i += 1;
     }
     names::first_fault(&keys, count)
 }

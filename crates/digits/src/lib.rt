@@ -19,9 +19,7 @@ fn put_right(out: &mut [u8], at: usize, k: usize, n: u64)
     ensures { out.new ≡ put out.old (run at k) (padded k n) }
 {
     let mut rest = n;
-    let mut j = k;
-    while 0 < j {
-        j -= 1;
+    for j in (0..k).rev() {
         let digit = rest % 10;
         rest /= 10;
         out[at + j] = 48 + digit as u8;

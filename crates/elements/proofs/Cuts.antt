@@ -7,11 +7,10 @@ use native.Mathlib.Omega.{arith}
 use lib.Dec.{leb, eqb}
 use lib.ListN.{length, drop, get_or}
 use borrow.Author.Tests.{leb-false}
+use Rattle.std.proofs.Common.{Option, Some, None}
 use Rattle.markup.specs.rule.Bytes as bytes
 use Rattle.markup.specs.rule.Gap.{gap_of, xml_comment}
 use Rattle.markup.specs.rule.Reference.{reference_of}
-use Rattle.markup.specs.declared.Char.{Char}
-use Rattle.markup.specs.declared.Char.TheVariants as char
 use Rattle.markup.specs.declared.Skip.{Skip}
 use Rattle.markup.specs.declared.Skip.TheVariants as skip
 use Rattle.markup.proofs.Gaps.{gap_exactly}
@@ -62,9 +61,9 @@ is_foreign (stand.Broken p) = 0
 text_known : (d : List ℕ) (p : ℕ) → is_foreign (text_stand d p) ≡ 0
 unfolding text_stand
 text_known d p = by (eqb (get_or d p 0) 38) (reference_of p (drop (p + 1) d)) where
-  by : (x : Bool) (r : Char) → is_foreign (cond x (stands.on_text_char p r) (stand.Text p)) ≡ 0
-  by true (char.Is c n) = refl
-  by true char.Bad = refl
+  by : (x : Bool) (r : Option (ℕ × ℕ)) → is_foreign (cond x (stands.on_text_char p r) (stand.Text p)) ≡ 0
+  by true (Some (c, n)) = refl
+  by true None = refl
   by false r = refl
 
 pub foreign_within : (bad : Bool) (d : List ℕ) (at p : ℕ) → stand_of bad d at ≡ stand.Foreign p → (at ≤ p) × (p < length d)
@@ -132,9 +131,9 @@ module _ (bad : Bool) (d : List ℕ) (m : ℕ) (w : List ℕ) (g : Going) (p u :
   here : {v : ℕ} → g.next < length d → cut_at g g.next ≡ step.Over (content.Cut p v) → Lies
   here h f = let i : g.next ≡ p = cc in (omega arith, omega arith)
 
-  char_no : (k : Going) (r : Char) → on_char k r ≡ Over → Lies
-  char_no k (char.Is c n) f = never cc
-  char_no k char.Bad f = never cc
+  char_no : (k : Going) (r : Option (ℕ × ℕ)) → on_char k r ≡ Over → Lies
+  char_no k (Some (c, n)) f = never cc
+  char_no k None f = never cc
 
   note_no : (r : Skip) → on_note g r ≡ Over → Lies
   note_no (skip.Past n) f = never cc

@@ -8,6 +8,7 @@ use native.Mathlib.Omega.{arith}
 use lib.Dec.{ltb}
 use lib.ListN.{length, take, drop}
 use borrow.Author.Tests.{ne_eqb, ltb-true, le-ltb}
+use Rattle.std.proofs.Common.{Option, Some, None}
 use Rattle.below.specs.Below.{holds_not}
 use Rattle.markup.specs.rule.Bytes.{is_digit}
 use Rattle.scan.specs.rule.Number.{decimal_of}
@@ -15,8 +16,6 @@ use Rattle.scan.specs.Number.{capped}
 use Rattle.spans.specs.rule.Heard.{Heard, All, Ill, heard, nothing}
 use Rattle.spans.specs.rule.Says.{each_char, of_class, count_after}
 use Rattle.spans.specs.Figures.{figures_after, figures_of}
-use Rattle.spans.specs.declared.Figures as span
-use Rattle.spans.specs.declared.Figures.TheVariants.{Good, Wrong}
 use Rattle.spans.proofs.Hearing.{heard_exactly}
 use Rattle.forms.specs.rule.Form.{fits_of}
 use Rattle.tags.specs.rule.Tag.{stretch_fits}
@@ -54,9 +53,9 @@ unfolding stretch_fits
 fits_digits d v e q = digits_of (heard (stretch d v e) 0) q
 
 -- ---- the number
-abbrev pub to_figures : ℕ → ℕ → span.Figures → Figures
-to_figures v e (Good size count) = record { size = size; count = count; place = v; next = e }
-to_figures v e Wrong = record { size = 0; count = 0; place = v; next = e }
+abbrev pub to_figures : ℕ → ℕ → Option (ℕ × ℕ) → Figures
+to_figures v e (Some (size, count)) = record { size = size; count = count; place = v; next = e }
+to_figures v e None = record { size = 0; count = 0; place = v; next = e }
 
 number_of : (v e : ℕ) (h : Heard) → Digits h
     → to_figures v e (figures_of h) ≡ record { size = capped (decimal_of 0 (said_in h)); count = length (said_in h); place = v; next = e }

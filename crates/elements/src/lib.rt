@@ -264,13 +264,13 @@ fn figure_at(d: &[u8], v: usize, e: usize) -> Figures
     ensures { Written d.now v e → result ≡ figures (figure_of d.now v e) e }
 {
     match spans::figures_in(&d[v..e]) {
-        spans::Figures::Good { size, count } => Figures {
+        Some((size, count)) => Figures {
             size,
             count,
             place: v,
             next: e,
         },
-        spans::Figures::Wrong => Figures {
+        None => Figures {
             size: 0,
             count: 0,
             place: v,

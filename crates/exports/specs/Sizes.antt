@@ -1,7 +1,7 @@
 -- What follows from rule/Text.antt, and what the code keeps.
-use Rattle.std.specs.Prelude.{◌≡◌, refl, Bool, true, false, cond, List, [], ◌∷◌, ◌++◌, ℕ, ◌+◌, ◌-◌, ◌*◌, ◌/◌, ◌≤◌, ◌<◌, leb, ℤ, length}
+use Rattle.std.specs.Prelude.{◌≡◌, true, false, List, ◌++◌, ℕ, ◌+◌, ◌-◌, ◌*◌, ◌/◌, ◌≤◌, ◌<◌, leb, ℤ, length}
 use Rattle.std.specs.Prelude.{drop}
-use Rattle.std.proofs.Common.{sym, ap, ◌∙◌, ⊎_elim, le-div_iff_mul-le, arith, le-leb, length-append}
+use Rattle.std.proofs.Common.{sym, ◌∙◌, ⊎_elim, le-div_iff_mul-le, arith, le-leb, length-append}
 use Rattle.std.proofs.lemmas.Bool.{lt-leb}
 use Rattle.below.specs.Below.{lt_or_le}
 use Rattle.cuts.specs.rule.Cut.{Found}
@@ -10,7 +10,7 @@ use Rattle.cuts.specs.declared.Terminator.{Terminator}
 use Rattle.layout.specs.rule.Layout.{row_base, most_rows}
 use Rattle.layout.specs.declared.Header.{Header}
 use Rattle.sound.specs.rule.Sound.{well_formed}
-use Rattle.sound.specs.rule.Rows.{rows_of, length_of}
+use Rattle.sound.specs.rule.Rows.{length_of}
 use Rattle.records.specs.Tables.{table_ready}
 use Rattle.files.specs.rule.File.{FileVerdict, file_verdict, records_verdict}
 use Rattle.files.specs.rule.Tested.{Tested}

@@ -154,14 +154,7 @@ fn export_tested(def: &[u8], t: &[i64], d: &[u8], out: &mut [u8]) -> Export
 fn is_same(a: Against) -> bool
     ensures { result ≡ is_same a }
 {
-    match a {
-        Against::Same => true,
-        Against::Other => false,
-        Against::Refused {
-            number: _,
-            place: _,
-        } => false,
-    }
+    matches!(a, Against::Same)
 }
 
 // Whether the definition, of either kind, yields the table. The reader's rooms are gone when this returns.

@@ -78,13 +78,11 @@ fn first_failing(x: Test, bytes: &[u8], at: usize, w: usize) -> Fault
     requires { at + w ≤ length bytes.now }
     ensures { result ≡ first_failing x bytes.now (run at w) }
 {
-    let mut i: usize = 0;
-    while i < w {
+    for i in 0..w {
         let here = at + i;
         if !byte_passes(x, bytes[here]) {
             return Fault::Stray(here);
         }
-        i += 1;
     }
     Fault::Sound
 }
@@ -115,13 +113,10 @@ fn first_bit_failing(x: Test, t: &[i64], rows: usize, row: Row, bytes: &[u8]) ->
 {
     let at = row.start - 1;
     let w = row.width;
-    let mut i: usize = 0;
-    while i < w {
+    for i in 0..w {
         let p = at + i;
-        let k = i;
-        i += 1;
         if !byte_passes(x, bytes[p]) {
-            if legal::is_legal(t, rows, row, cells::cell_of(k + 1)) {
+            if legal::is_legal(t, rows, row, cells::cell_of(i + 1)) {
                 return Fault::Stray(p);
             }
         }
@@ -185,8 +180,7 @@ fn number_from(quantity: bool, f: Format, bytes: &[u8], at: usize, w: usize) -> 
     ensures { result ≡ number_from quantity f bytes.now [] (run at w) }
 {
     let mut open = true;
-    let mut i: usize = 0;
-    while i < w {
+    for i in 0..w {
         let p = at + i;
         let b = bytes[p];
         let after = w - i - 1;
@@ -194,7 +188,6 @@ fn number_from(quantity: bool, f: Format, bytes: &[u8], at: usize, w: usize) -> 
             return fault_at(quantity, f, after, p, b);
         }
         open = open & (b == 32);
-        i += 1;
     }
     Fault::Sound
 }
@@ -216,8 +209,7 @@ fn spread_form(bytes: &[u8], at: usize, b: usize, w: usize, n: usize) -> Fault
     ensures { result ≡ spread_form w bytes.now n (spread_places at b w n) }
 {
     let mut q = at;
-    let mut k = n;
-    while 0 < k {
+    for _ in 0..n {
         let x = number_form(
             false,
             Format {
@@ -231,7 +223,6 @@ fn spread_form(bytes: &[u8], at: usize, b: usize, w: usize, n: usize) -> Fault
         if is_fault(x) {
             return x;
         }
-        k -= 1;
         q += b;
     }
     Fault::Sound
@@ -274,15 +265,13 @@ fn spread_value(
     ensures { result ≡ spread_value (legal t.now rows row) w bytes.now n (spread_places at b w n) }
 {
     let mut q = at;
-    let mut k = n;
-    while 0 < k {
+    for _ in 0..n {
         let a = q + (b - w);
         let e = a + w;
         let x = numeral_fault(t, rows, row, numbers::code(&bytes[a..e]), true);
         if is_fault(x) {
             return x;
         }
-        k -= 1;
         q += b;
     }
     Fault::Sound

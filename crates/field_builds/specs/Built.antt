@@ -8,13 +8,10 @@ use borrow.Author.Tests.{eqb-true, eqb-false}
 use Rattle.std.proofs.Math.Dec.{eqb}
 use Rattle.std.proofs.Math.ListN.{get_or}
 use Rattle.below.specs.Below.{holds_not}
-use Rattle.places.specs.rule.Places.{put}
 use Rattle.layout.specs.declared.Row.{Row}
-use Rattle.layout.specs.declared.Kind.{Kind}
-use Rattle.layout.specs.declared.Kind.TheVariants.{Single}
 use Rattle.fields.specs.rule.Legal.{legal}
 use Rattle.fields.specs.rule.Field.{Value, missing, number, members, text, truth, set_fits}
-use Rattle.fields.specs.rule.Row.{Fit, fits, other_type, not_legal, too_many, fits_by, fit_of, bytes_by, places_by, written_of}
+use Rattle.fields.specs.rule.Row.{Fit, fits, other_type, not_legal, too_many, fit_of, written_of}
 use Rattle.fieldlaws.specs.RisingLaws.{Rising, rising_empty}
 use Rattle.lines.specs.rule.Text.{numeral}
 use Rattle.commas.specs.rule.Csv.{holds_special}

@@ -94,9 +94,8 @@ fn codes_in(d: &[u8], at: usize, low: usize, high: usize, most: usize, list: &mu
     ensures { CodesIn d.now at low high most list.new result.count result.at }
 {
     let mut least = low;
-    let mut k: usize = 0;
     let mut i = at;
-    while k < most {
+    for k in 0..most {
         let a = number_fields::code_from(d, i);
         let n = a.n;
         let p = a.at;
@@ -107,9 +106,11 @@ fn codes_in(d: &[u8], at: usize, low: usize, high: usize, most: usize, list: &mu
             return Codes { count: 0, at };
         }
         list[k] = cells::cell_of(n);
-        k += 1;
         if d[p] != 59 {
-            return Codes { count: k, at: p };
+            return Codes {
+                count: k + 1,
+                at: p,
+            };
         }
         least = n + 1;
         i = p + 1;

@@ -1,26 +1,25 @@
 -- What a field is that was judged where it stands: the value that export writes so, which its row accepts.
-use Rattle.std.specs.Prelude.{◌≡◌, refl, Bool, ◌&&◌, ◌||◌, List, [], ◌∷◌, ◌++◌, ℕ, zero, suc, ◌+◌, ◌-◌, ◌*◌, ◌^◌, ◌≤◌, ◌<◌, eqb, leb, ltb}
+use Rattle.std.specs.Prelude.{◌≡◌, refl, Bool, ◌&&◌, ◌||◌, List, [], ◌∷◌, ◌++◌, ℕ, zero, suc, ◌+◌, ◌-◌, ◌≤◌, ◌<◌, eqb, leb, ltb}
 use Rattle.std.specs.Prelude.{ℤ, pos, negsuc, length, take, drop, get_or}
 use Rattle.std.proofs.Math.Path.{sym, ap}
-use Rattle.std.proofs.Common.{◌∙◌, append-nil, append_assoc, add-one, arith, eqb-true, ne_eqb, le-leb, lt-ltb, le-ltb, ltb-false}
-use Rattle.std.proofs.Common.{length-append, length-drop, length-take-le}
+use Rattle.std.proofs.Common.{◌∙◌, append-nil, add-one, arith, eqb-true, ne_eqb, le-leb, lt-ltb, le-ltb, ltb-false}
+use Rattle.std.proofs.Common.{length-drop, length-take-le}
 use Rattle.std.proofs.Math.Bool.{true, false, cond}
 use Rattle.std.proofs.lemmas.Bool.{eqb-false}
 use Rattle.std.proofs.Math.Seq.{get_or-append_seam}
 use Rattle.std.specs.Int.Signed.{le_z}
-use Rattle.below.specs.Below.{holds_not, and_true, and_left, and_right, or_true}
+use Rattle.below.specs.Below.{holds_not, and_true, and_left, and_right}
 use Rattle.cells.specs.rule.Cell.{count_of}
 use Rattle.layout.specs.declared.Row.{Row}
 use Rattle.layout.specs.declared.Format.{Format}
 use Rattle.layout.specs.declared.Kind.{Kind}
 use Rattle.layout.specs.declared.Kind.TheVariants.{Single, Multiple, Quantity, Character, Logical}
 use Rattle.layout.specs.declared.Spread.TheVariants.{Bits, Fields}
-use Rattle.fields.specs.Facts.{KindFacts, RowFacts}
+use Rattle.fields.specs.Facts.{RowFacts}
 use Rattle.fields.specs.rule.Legal.{in_range, legal}
 use Rattle.fields.specs.rule.Field.{Value, missing, number, members, text, truth, holds, all_legal, set_fits, all_plain, text_fits}
-use Rattle.fields.specs.rule.Row.{Fit, fits, other_type, not_legal, too_many, legal_fit, fits_by, fit_of}
+use Rattle.fields.specs.rule.Row.{fits, not_legal, too_many, legal_fit, fits_by, fit_of}
 use Rattle.fieldlaws.specs.RisingLaws.{Rising, none, skip, keep, rising_empty, fits_of}
-use Rattle.sets.specs.Full.{EachLegal}
 use Rattle.lines.specs.rule.Text.{numeral}
 use Rattle.commas.specs.rule.Csv.{is_special, holds_special}
 use Rattle.csv_fields.specs.Page.{part, part_none, part_more, part_rest, Bared, bared_none, bared_to, BareTo, Bounded}
@@ -29,11 +28,8 @@ use Rattle.value_fields.specs.rule.Values.{export_number, codes_behind, set_text
 use Rattle.widths.specs.rule.Width.{decimals_of}
 use Rattle.value_fields.specs.Plain.{truth_plain}
 use Rattle.value_fields.proofs.Plain.{number_plain, set_plain}
-use Rattle.number_fields.specs.Reads.{Reads, reads_none, reads_byte, reads_join, reads_as, reads_part, NumberAt, CodeAt}
-use Rattle.writes.specs.Write.{answer_by}
-use Rattle.writes.specs.declared.Wrote.{Wrote}
-use Rattle.writes.specs.declared.Wrote.TheVariants.{Done, OtherType, NotLegal, TooMany}
-use Rattle.field_values.specs.rule.Value.{IsValue, Left, whole}
+use Rattle.number_fields.specs.Reads.{Reads, reads_none, reads_byte, reads_join, reads_as, reads_part, CodeAt}
+use Rattle.field_values.specs.rule.Value.{whole}
 use Rattle.field_values.specs.rule.Read.{value_from}
 use Rattle.field_values.specs.Guess.{code_text}
 use Rattle.field_values.specs.Exactly.{value_exactly}

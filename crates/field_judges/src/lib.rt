@@ -31,9 +31,8 @@ fn codes_to(d: &[u8], at: usize, low: usize, high: usize, most: usize) -> usize
     ensures { CodesAt d.now at low high most result }
 {
     let mut least = low;
-    let mut left = most;
     let mut i = at;
-    while 0 < left {
+    for _ in 0..most {
         let a = number_fields::code_from(d, i);
         let n = a.n;
         let p = a.at;
@@ -47,7 +46,6 @@ fn codes_to(d: &[u8], at: usize, low: usize, high: usize, most: usize) -> usize
             return p;
         }
         least = n + 1;
-        left -= 1;
         i = p + 1;
     }
     at
@@ -169,14 +167,12 @@ fn text_to(d: &[u8], at: usize) -> usize
     requires { at ≤ length d.now }
     ensures { TextTo d.now at result }
 {
-    let mut i = at;
-    while i < d.len() {
+    for i in at..d.len() {
         if ends_text(d[i]) {
             return i;
         }
-        i += 1;
     }
-    i
+    d.len()
 }
 
 // A text.

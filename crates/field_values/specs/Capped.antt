@@ -1,5 +1,5 @@
 -- The digits of a guess: below the cap it is what the digits say; what stands before the point and behind it.
-use Rattle.std.specs.Prelude.{◌≡◌, refl, List, [], ◌∷◌, ◌++◌, ℕ, zero, suc, ◌+◌, ◌-◌, ◌*◌, ◌/◌, ◌%◌, ◌^◌, ◌≤◌, ◌<◌, min, eqb, length, take}
+use Rattle.std.specs.Prelude.{◌≡◌, refl, List, [], ◌∷◌, ◌++◌, ℕ, zero, suc, ◌+◌, ◌-◌, ◌*◌, ◌/◌, ◌%◌, ◌^◌, ◌≤◌, ◌<◌, min, length, take}
 use Rattle.std.specs.Prelude.{drop}
 use Rattle.std.proofs.Common.{sym, ap, ◌∙◌, mod-lt, div-add-mod', div-le_self, lt_of_le_of_lt, add-mul, mul_assoc, add_assoc, arith, ne_eqb}
 use Rattle.std.proofs.Common.{lit<, drop_of_length-le, take_at}

@@ -1,14 +1,14 @@
 -- A set's text read in one walk: codes of one to four digits with no zero in front, joined by semicolons, are what export writes for them.
-use Rattle.std.specs.Prelude.{◌≡◌, refl, Bool, true, false, cond, List, [], ◌∷◌, ◌++◌, ℕ, zero, suc, ◌+◌, ◌-◌, ◌*◌, ◌/◌, ◌%◌, ◌^◌, ◌≤◌, ◌<◌}
+use Rattle.std.specs.Prelude.{◌≡◌, refl, true, cond, List, [], ◌∷◌, ◌++◌, ℕ, zero, suc, ◌+◌, ◌-◌, ◌*◌, ◌/◌, ◌%◌, ◌≤◌, ◌<◌}
 use Rattle.std.specs.Prelude.{eqb, ℤ, pos, negsuc, length, take, drop, get_or, set}
-use Rattle.std.proofs.Common.{sym, ap, ◌∙◌, append-nil, append_assoc, add-one, arith, eq-eqb, ne_eqb, drop_of_length-le, drop-cons}
+use Rattle.std.proofs.Common.{sym, ap, ◌∙◌, append-nil, append_assoc, add-one, arith, ne_eqb, drop_of_length-le, drop-cons}
 use Rattle.std.proofs.Common.{take-suc-set}
 use Rattle.lines.specs.rule.Text.{numeral}
 use Rattle.value_fields.specs.rule.Values.{export_number, codes_behind, set_text}
 use Rattle.value_fields.specs.Numeral.{numeral_one, numeral_more}
 use Rattle.field_values.specs.Guess.{AreCodes, code_text, set_back}
 use Rattle.field_values.specs.rule.Read.{set_guess, left_of}
-use Rattle.field_values.specs.rule.Value.{Left, whole}
+use Rattle.field_values.specs.rule.Value.{whole}
 use Rattle.field_values.specs.Left.{is_left}
 
 -- codes, each with its semicolon

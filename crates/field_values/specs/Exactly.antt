@@ -1,11 +1,10 @@
 -- THE VALUE OF A FIELD, EXACTLY: what is found (rule/Read.antt) is the value that the field is (rule/Value.antt), both ways; a field is at
 -- most one value.
-use Rattle.std.specs.Prelude.{◌≡◌, ◌↔◌, Bool, List, [], ◌∷◌, ◌++◌, ℕ, zero, suc, ◌+◌, ◌-◌, ◌*◌, ◌^◌, ◌≤◌, ◌<◌, ltb, ℤ, length}
+use Rattle.std.specs.Prelude.{◌≡◌, ◌↔◌, Bool, List, [], ◌∷◌, ℕ, ◌^◌, ◌≤◌, ◌<◌, ltb, ℤ, length}
 use Rattle.std.proofs.Math.Path.{refl, subst}
 use Rattle.std.proofs.Common.{sym, ap, ◌∙◌, arith}
 use Rattle.std.proofs.Math.Bool.{true, false, cond}
 use Rattle.std.proofs.Math.Nat.{pow-le-pow_right}
-use Rattle.std.specs.Int.Signed.{le_z}
 use Rattle.below.specs.Below.{holds_not}
 use Rattle.layout.specs.declared.Row.{Row}
 use Rattle.layout.specs.declared.Kind.{Kind}
@@ -14,7 +13,7 @@ use Rattle.layout.specs.declared.Spread.TheVariants.{Bits, Fields}
 use Rattle.widths.specs.Width.{size_small}
 use Rattle.fields.specs.rule.Legal.{legal}
 use Rattle.fields.specs.rule.Field.{Value, missing, number, members, text, truth, Field, holds, illegal, set_fits, text_fits}
-use Rattle.fields.specs.rule.Row.{Fit, fits, other_type, not_legal, too_many, legal_fit, fits_by, fit_of}
+use Rattle.fields.specs.rule.Row.{Fit, fits, other_type, not_legal, too_many, fits_by, fit_of}
 use Rattle.fields.specs.Facts.{RowFacts}
 use Rattle.fieldlaws.specs.BackLaws.{Limits, limits, fit_legal, fit_set, bits_members, spread_members, illegal_holds, held}
 use Rattle.fieldlaws.specs.TextLaws.{fitting}

@@ -1,13 +1,13 @@
 -- The guess finds the value: of what is left of a number's text the number, of a set's text its members.
-use Rattle.std.specs.Prelude.{◌≡◌, refl, Bool, true, false, cond, List, [], ◌∷◌, ◌++◌, ℕ, zero, suc, ◌+◌, ◌-◌, ◌*◌, ◌/◌, ◌%◌, ◌^◌, ◌≤◌, ◌<◌}
+use Rattle.std.specs.Prelude.{◌≡◌, refl, Bool, true, false, List, [], ◌∷◌, ◌++◌, ℕ, zero, suc, ◌+◌, ◌-◌, ◌*◌, ◌/◌, ◌^◌, ◌≤◌, ◌<◌}
 use Rattle.std.specs.Prelude.{min, eqb, ℤ, pos, negsuc, take, drop}
-use Rattle.std.proofs.Common.{sym, ap, subst, ◌∙◌, append-nil, append_assoc, div-one, lt_of_le_of_lt, arith, eq-eqb, ne_eqb, eqb-true}
+use Rattle.std.proofs.Common.{sym, ap, subst, ◌∙◌, append-nil, append_assoc, div-one, lt_of_le_of_lt, arith, ne_eqb, eqb-true}
 use Rattle.std.proofs.Common.{length-append, length-drop, take-append-drop}
 use Rattle.std.proofs.lemmas.Bool.{eqb-false}
 use Rattle.std.proofs.Math.ListN.{length}
 use Rattle.cells.specs.rule.Cell.{signed_of, number_of}
 use Rattle.widths.specs.rule.Width.{size_of}
-use Rattle.fields.specs.rule.Number.{decimal, padded}
+use Rattle.fields.specs.rule.Number.{padded}
 use Rattle.fieldlaws.specs.NumberLaws.{length_padded}
 use Rattle.fieldlaws.specs.RisingLaws.{Rising, none, skip, keep}
 use Rattle.lines.specs.rule.Text.{numeral}
@@ -18,7 +18,7 @@ use Rattle.value_fields.proofs.Values.{amount_whole, amount_parts}
 use Rattle.field_values.specs.rule.Value.{zeros, Left, whole, cut, unpointed}
 use Rattle.field_values.specs.rule.Read.{capped, capped_from, size_guess, number_guess, codes_in, set_guess}
 use Rattle.field_values.specs.Left.{length_zeros, same_tail}
-use Rattle.field_values.specs.Capped.{Free, no_point, no_semicolon, free_numeral, Led, led_numeral, capped_same, decimal_parts}
+use Rattle.field_values.specs.Capped.{Free, no_point, no_semicolon, free_numeral, led_numeral, capped_same, decimal_parts}
 use Rattle.field_values.specs.Capped.{decimal_numeral, size_parts, size_whole}
 
 -- ---- a size

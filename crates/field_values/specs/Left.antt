@@ -1,5 +1,5 @@
 -- What is left of a text, decided: the test of rule/Read.antt is the relation of rule/Value.antt, both ways.
-use Rattle.std.specs.Prelude.{◌≡◌, refl, Bool, true, false, cond, ◌&&◌, List, [], ◌∷◌, ◌++◌, ℕ, zero, suc, ◌+◌, ◌≤◌, ◌<◌, eqb, ltb, length}
+use Rattle.std.specs.Prelude.{◌≡◌, refl, Bool, true, false, cond, List, [], ◌∷◌, ◌++◌, ℕ, zero, suc, ◌<◌, eqb, ltb, length}
 use Rattle.std.specs.Prelude.{take, drop}
 use Rattle.std.proofs.Common.{sym, ap, ◌∙◌, append-nil, arith, eqb-true, eq-eqb, ne_eqb, ltb-true, lt-ltb, length-append}
 use Rattle.std.proofs.lemmas.Bool.{eqb-false}

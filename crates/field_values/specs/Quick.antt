@@ -1,7 +1,7 @@
 -- The quick road: what it leaves, and numbers that stand as export writes them, read in one walk.
 use Rattle.std.specs.Prelude.{◌≡◌, refl, Bool, true, false, List, [], ℕ, ◌-◌, ℤ, length, take}
 use Rattle.std.proofs.Math.Path.{sym}
-use Rattle.std.proofs.Common.{ap, ◌∙◌, arith, take_all}
+use Rattle.std.proofs.Common.{◌∙◌, arith, take_all}
 use Rattle.below.specs.Below.{holds_not}
 use Rattle.layout.specs.declared.Row.{Row}
 use Rattle.layout.specs.declared.Kind.{Kind}
@@ -16,8 +16,8 @@ use Rattle.writes.specs.declared.Wrote.{Wrote}
 use Rattle.value_fields.specs.rule.Values.{export_number}
 use Rattle.widths.specs.rule.Width.{decimals_of}
 use Rattle.number_fields.specs.Reads.{reads_part, NumberAt}
-use Rattle.field_values.specs.rule.Value.{Left, whole}
-use Rattle.field_values.specs.rule.Read.{value_from, number_guess, left_of}
+use Rattle.field_values.specs.rule.Value.{whole}
+use Rattle.field_values.specs.rule.Read.{value_from, number_guess}
 use Rattle.field_values.specs.Left.{is_left}
 use Rattle.field_values.specs.Guess.{number_left}
 use Rattle.field_values.specs.Coded.{Coded, coded_guess, coded_left}

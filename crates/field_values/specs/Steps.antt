@@ -3,11 +3,11 @@ use Rattle.std.specs.Prelude.{◌≡◌, ◌⊎◌, Bool, ◌&&◌, ℕ, zero, s
 use Rattle.std.specs.Prelude.{take, get_or, set}
 use Rattle.std.proofs.Math.Path.{refl, sym, ap}
 use Rattle.std.proofs.Common.{◌∙◌, inl, inr, ⊎_elim, add-one, length-append, length-drop, drop-cons, take-suc-set, take-suc, get_or-drop}
-use Rattle.std.proofs.Common.{get_or-take, length-take-le, take_all}
+use Rattle.std.proofs.Common.{add-zero, get_or-take, length-take-le, take_all}
 use Rattle.std.proofs.Math.Bool.{true, false, cond}
-use mathlib.Core.List.{List, [], ◌∷◌, ◌++◌, append-nil, append_assoc}
+use mathlib.Core.List.{List, [], ◌∷◌, ◌++◌, append_assoc}
 use native.Mathlib.Omega.{arith}
-use borrow.Author.Tests.{eq-eqb, ne_eqb, eqb-true, eqb-false, lt-ltb, le-ltb, ltb-true}
+use borrow.Author.Tests.{eq-eqb, ne_eqb, lt-ltb, le-ltb}
 use Rattle.std.proofs.Math.ListN.{drop, drop_of_length-le}
 use Rattle.std.proofs.Math.Seq.{take-append_seam}
 use Rattle.below.specs.Below.{holds_not, lt_or_le}
@@ -22,7 +22,7 @@ use Rattle.places.specs.rule.Places.{put}
 use Rattle.fields.specs.rule.Legal.{legal}
 use Rattle.fields.specs.rule.Number.{padded}
 use Rattle.fields.specs.rule.Field.{Value, missing, number, members, text, truth, Field, holds, illegal, set_fits}
-use Rattle.fields.specs.rule.Row.{Fit, fits, other_type, not_legal, too_many, legal_fit, fits_by, fit_of, bytes_by, places_by, written_of}
+use Rattle.fields.specs.rule.Row.{Fit, fits, other_type, not_legal, too_many, fits_by, fit_of, bytes_by, places_by, written_of}
 use Rattle.fieldlaws.specs.NumberLaws.{length_padded}
 use Rattle.fieldlaws.specs.BackLaws.{Limits, fit_legal, fit_set}
 use Rattle.lines.specs.rule.Text.{numeral}
@@ -37,7 +37,7 @@ use Rattle.writes.specs.declared.Wrote.{Wrote}
 use Rattle.writes.specs.declared.Wrote.TheVariants.{Done, NotWellFormed, NoRow, TooShort, OtherType, NotLegal, TooMany}
 use Rattle.value_fields.specs.rule.Values.{amount_text, export_number, set_text, export_value}
 use Rattle.widths.specs.rule.Width.{decimals_of}
-use Rattle.field_values.specs.rule.Value.{zeros, Left, whole}
+use Rattle.field_values.specs.rule.Value.{zeros, whole}
 use Rattle.field_values.specs.rule.Read.{capped, capped_from, point_at, size_guess, number_guess, codes_in, set_guess, truth_guess}
 use Rattle.field_values.specs.rule.Read.{some_guess, guess_of}
 use Rattle.field_values.specs.rule.Read.{all_zeros, tail_good, left_of, is_fits, tried_as, value_from}
@@ -94,15 +94,6 @@ capped_none n k e = rw e
 pub capped_small : (n : ℕ) → capped n ≤ small
 unfolding capped
 capped_small n = omega arith
-
-pub point_few : (f : List ℕ) → point_at f ≤ length f
-unfolding point_at
-point_few [] = omega arith
-point_few (b ∷ f) = let h = point_few f in go (eqb b 46) h
-  where
-    go : (q : Bool) → point_at f ≤ length f → cond q 0 (suc (point_at f)) ≤ suc (length f)
-    go true h = omega arith
-    go false h = omega arith
 
 -- ---- the size of a number
 module _ (k : ℕ) (f : List ℕ) {p : ℕ} (e : p ≡ point_at f) {n : ℕ} (a : n ≡ capped_from 0 (take p f)) where
@@ -188,17 +179,30 @@ sent_other a h = a.beyond (omega arith)
 abbrev part : List ℕ → ℕ → ℕ → List ℕ
 part d from to = take (to - from) (drop from d)
 
+-- the first byte b from a place on, or the end
+pub record ByteTo (b : ℕ) (f : List ℕ) (from to : ℕ) : Type 0 where
+  pub on : from ≤ to
+  pub within : to ≤ length f
+  pub none : (j : ℕ) → from ≤ j → j < to → get_or f j 0 ≡ b → ⊥
+  pub stops : to < length f → get_or f to 0 ≡ b
+
+-- the first point from the start on
+pub point_is : {f : List ℕ} {to : ℕ} → ByteTo 46 f 0 to → to ≡ point_at f
+point_is {f} {to} p = sym (run to (omega arith) ∙ ⊎_elim (λ h. point_here f to h (p.stops h)) (point_over f to) (lt_or_le to (length f)))
+  where
+    run : (k : ℕ) → k ≤ to → point_at f ≡ k + point_at (drop k f)
+    run zero h = omega arith
+    run (suc k) h =
+        let g : k < length f = omega (arith, p.within) in
+        rw (add-one k) at (run k (omega arith) ∙ point_next f k g (p.none k (omega arith) h))
+
 -- bytes passed from a place on, none of which is a semicolon
 pub record Passed (f : List ℕ) (from to : ℕ) : Type 0 where
   pub on : from ≤ to
   pub within : to ≤ length f
   pub codes : (n : ℕ) → codes_in n (drop from f) ≡ codes_in (capped_from n (part f from to)) (drop to f)
 
-pub record SemiTo (f : List ℕ) (from to : ℕ) : Type 0 where
-  pub passed : Passed f from to
-  pub stops : to < length f → get_or f to 0 ≡ 59
-
-pub passed_none : (f : List ℕ) (i : ℕ) → i ≤ length f → Passed f i i
+passed_none : (f : List ℕ) (i : ℕ) → i ≤ length f → Passed f i i
 unfolding capped_from
 passed_none f i h = record { on = omega arith; within = h; codes = λ n. let e : i - i ≡ 0 = omega arith in rw e }
 
@@ -210,7 +214,7 @@ part_more f from to h l =
     rw e (take-suc (drop from f) (to - from) 0 m ∙ ap (λ (x : ℕ). take (to - from) (drop from f) ++ (x ∷ []))
     (get_or-drop from f (to - from) 0 ∙ ap (λ (x : ℕ). get_or f x 0) k))
 
-pub passed_more : {f : List ℕ} {from to : ℕ} → Passed f from to → to < length f → (get_or f to 0 ≡ 59 → ⊥) → Passed f from (to + 1)
+passed_more : {f : List ℕ} {from to : ℕ} → Passed f from to → to < length f → (get_or f to 0 ≡ 59 → ⊥) → Passed f from (to + 1)
 unfolding codes_in capped_from
 passed_more {f} {from} {to} p h n = record {
   on = omega (arith, p.on);
@@ -222,6 +226,17 @@ passed_more {f} {from} {to} p h n = record {
     step : (m : ℕ) → capped (capped_from m (part f from to) * 10 + (get_or f to 0 - 48)) ≡ capped_from m (part f from (to + 1))
     step m = sym (ap (capped_from m) (part_more f from to p.on h) ∙ capped_join (part f from to) (get_or f to 0 ∷ []) m)
 
+passed_to : {f : List ℕ} {from to : ℕ} → ByteTo 59 f from to → Passed f from to
+passed_to {f} {from} {to} s =
+    let e : from + (to - from) ≡ to = omega (arith, s.on) in
+    rw e at (run (to - from) (omega (arith, s.on)))
+  where
+    run : (k : ℕ) → from + k ≤ to → Passed f from (from + k)
+    run zero h = rw add-zero (passed_none f from (omega (arith, s.on, s.within)))
+    run (suc k) h =
+        let e : from + k + 1 ≡ from + suc k = omega arith in
+        rw e at (passed_more (run k (omega arith)) (omega (arith, s.within)) (s.none (from + k) (omega arith) (omega arith)))
+
 -- the list holds the codes before a place, and those behind it are to come
 pub record Gathering (f : List ℕ) (list : List ℤ) (count at : ℕ) : Type 0 where
   pub few : count ≤ 9999
@@ -231,53 +246,41 @@ pub record Gathering (f : List ℕ) (list : List ℤ) (count at : ℕ) : Type 0 
 pub gathering_none : (f : List ℕ) (list : List ℤ) → Gathering f list 0 0
 gathering_none f list = record { few = omega arith; inside = omega arith; codes = refl }
 
--- what was gathered: all codes; or that there are too many
-pub record Gathered (f : List ℕ) (list : List ℤ) (r : ℕ) : Type 0 where
-  pub all : r ≤ 9999 → take r list ≡ codes_in 0 f
-  pub many : 9999 < r → 9999 < length (codes_in 0 f)
-
 module _ {f : List ℕ} {list : List ℤ} {count at : ℕ} (g : Gathering f list count at) (size : length list ≡ 9999) {to : ℕ}
-    (s : SemiTo f at to) where
+    (s : ByteTo 59 f at to) where
   abbrev code : ℕ
   code = min (capped_from 0 (part f at to)) 9999
 
   code_over : length f ≤ to → codes_in 0 (drop at f) ≡ pos code ∷ []
   unfolding codes_in
-  code_over h = s.passed.codes 0 ∙ ap (codes_in (capped_from 0 (part f at to))) (drop_of_length-le f h)
+  code_over h = (passed_to s).codes 0 ∙ ap (codes_in (capped_from 0 (part f at to))) (drop_of_length-le f h)
 
   code_more : to < length f → codes_in 0 (drop at f) ≡ pos code ∷ codes_in 0 (drop (to + 1) f)
   unfolding codes_in
-  code_more h = s.passed.codes 0 ∙ ap (codes_in (capped_from 0 (part f at to))) (next_byte f to h)
+  code_more h = (passed_to s).codes 0 ∙ ap (codes_in (capped_from 0 (part f at to))) (next_byte f to h)
       ∙ rw (eq-eqb (get_or f to 0) 59 (s.stops h))
 
   codes_some : (e : (length f ≤ to) ⊎ (to < length f)) → 1 ≤ length (codes_in 0 (drop at f))
   codes_some (inl h) = rw (code_over h) (omega arith)
   codes_some (inr h) = rw (code_more h) (omega arith)
 
-  pub gathered_many : 9999 ≤ count → Gathered f list 10000
-  gathered_many h = record {
-    all = λ l. absurd (omega arith);
-    many = λ l.
-        let k : length (take count list) ≡ count = length-take-le count list (omega (arith, g.few)) in
-        omega (
-          arith,
-          ap length g.codes,
-          length-append (take count list) (codes_in 0 (drop at f)),
-          k,
-          codes_some (⊎_elim inr inl (lt_or_le to (length f))),
-        );
-  }
+  pub gathered_many : 9999 ≤ count → 9999 < length (codes_in 0 f)
+  gathered_many h =
+      let k : length (take count list) ≡ count = length-take-le count list (omega (arith, g.few)) in
+      omega (
+        arith,
+        ap length g.codes,
+        length-append (take count list) (codes_in 0 (drop at f)),
+        k,
+        codes_some (⊎_elim inr inl (lt_or_le to (length f))),
+      )
 
   module _ (low : count < 9999) {z : ℤ} (is : z ≡ pos code) where
     more_taken : take (count + 1) (set list count z) ≡ take count list ++ (pos code ∷ [])
     more_taken = rw (add-one count, is) (take-suc-set list count (pos code) (omega (arith, size)))
 
-    pub gathered_all : length f ≤ to → Gathered f (set list count z) (count + 1)
-    gathered_all h = record {
-      all = λ l. more_taken
-          ∙ sym (g.codes ∙ ap (λ (x : List ℤ). take count list ++ x) (code_over h));
-      many = λ l. absurd (omega arith);
-    }
+    pub gathered_all : length f ≤ to → take (count + 1) (set list count z) ≡ codes_in 0 f
+    gathered_all h = more_taken ∙ sym (g.codes ∙ ap (λ (x : List ℤ). take count list ++ x) (code_over h))
 
     pub gathering_more : to < length f → Gathering f (set list count z) (count + 1) (to + 1)
     gathering_more h = record {
@@ -509,11 +512,6 @@ module _ (r : Row) (f : List ℕ) (some : length f ≡ 0 → ⊥) {s : Spread} (
     pub many_none : 9999 < length (set_guess f) → value_from t v r f ≡ illegal
     many_none h = not_a_set (λ c m e. omega arith)
 
--- the members that a field may have, in the list; or that there are too many
-pub record Members (f : List ℕ) (list : List ℤ) (r : ℕ) : Type 0 where
-  pub all : r ≤ 9999 → take r list ≡ set_guess f
-  pub many : 9999 < r → 9999 < length (set_guess f)
-
 pub record TakesSets (k : Kind) : Type 0 where
   pub spread : Spread
   pub is : k ≡ Multiple spread
@@ -564,9 +562,8 @@ code_cells (pos n ∷ ms) c zero h = (omega (arith, c.0), refl)
 code_cells (pos n ∷ ms) c (suc j) h = code_cells ms c.1 j (omega arith)
 code_cells (negsuc n ∷ ms) c j h = absurd c
 
-pub set_sendable : (f : List ℕ) (list : List ℤ) (n : ℕ) → length list ≡ 9999 → n ≤ 9999 → Members f list n → Codes list n
-set_sendable f list n size h m =
-    let e = m.all h in
+pub set_sendable : (f : List ℕ) (list : List ℤ) (n : ℕ) → length list ≡ 9999 → n ≤ 9999 → take n list ≡ set_guess f → Codes list n
+set_sendable f list n size h e =
     let k : length (take n list) ≡ n = length-take-le n list (omega arith) in
     let a : AreCodes (take n list) = rw e (set_few f) in
     record {

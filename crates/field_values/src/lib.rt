@@ -1,14 +1,15 @@
 // A field of a text as a value of its row, written to a record if the row's write accepts it. Above it stands the import of a text.
 #![tactic(auto)]
 
-ghost use Rattle.std.specs.Prelude.{◌≡◌, true, cond, ◌+◌, ◌-◌, ◌*◌, ◌≤◌, min, length};
+ghost use Rattle.std.specs.Prelude.{◌≡◌, true, ◌+◌, ◌-◌, ◌*◌, ◌≤◌, ◌<◌, min, length, take, MatchOption};
 ghost use Rattle.ascii.specs.rule.Tens.{Tens};
 ghost use Rattle.layout.specs.declared.Kind.TheVariants as kind;
 ghost use Rattle.writes.specs.Write.{Ready, takes_numbers};
 ghost use Rattle.widths.specs.rule.Width.{decimals_of};
 ghost use Rattle.field_values.specs.rule.Value.{zeros};
-ghost use Rattle.field_values.specs.rule.Read.{capped, capped_from, point_at, size_guess, number_guess, all_zeros, tail_good, left_of};
-ghost use Rattle.field_values.specs.Steps.{small, SemiTo, Gathered, Members, TakesSets, Took, is_done};
+ghost use Rattle.field_values.specs.rule.Read.{capped, capped_from, size_guess, number_guess, codes_in, set_guess, all_zeros, tail_good};
+ghost use Rattle.field_values.specs.rule.Read.{left_of};
+ghost use Rattle.field_values.specs.Steps.{small, ByteTo, TakesSets, Took, is_done};
 ghost use Rattle.field_values.specs.Coded.{Stepped, Coded};
 
 use layout::{Kind, Row};
@@ -46,10 +47,8 @@ fn fold_digits(f: &[u8], from: u64) -> u64
     ensures { (result ≡ capped_from from f.now) × (result ≤ small) }
 {
     let mut n = from;
-    let mut i: usize = 0;
-    while i < f.len() {
-        n = step(n, f[i]);
-        i += 1;
+    for b in f {
+        n = step(n, *b);
     }
     n
 }
@@ -59,33 +58,30 @@ fn fold_zeros(from: u64, count: usize) -> u64
     ensures { (result ≡ capped_from from (zeros count)) × (result ≤ small) }
 {
     let mut n = from;
-    let mut k = count;
-    while 0 < k {
+    for _ in 0..count {
         n = step(n, 48);
-        k -= 1;
     }
     n
 }
 
-// Where the point stands, or the length.
-fn point_in(f: &[u8]) -> usize
-    ensures { result ≡ point_at f.now }
+// The first byte b from a place on, or the end.
+fn byte_to(f: &[u8], at: usize, b: u8) -> usize
+    requires { at ≤ length f.now }
+    ensures { ByteTo b f.now at result }
 {
-    let mut i: usize = 0;
-    while i < f.len() {
-        if f[i] == 46 {
+    for i in at..f.len() {
+        if f[i] == b {
             return i;
         }
-        i += 1;
     }
-    i
+    f.len()
 }
 
 // The size of a number with k decimals, of which some at the end may not be written.
 fn guess_size(f: &[u8], k: usize) -> u64
     ensures { (result ≡ size_guess k f.now) × (result ≤ small) }
 {
-    let p = point_in(f);
+    let p = byte_to(f, 0, 46);
     let n = fold_digits(&f[..p], 0);
     let q = p + 1;
     if f.len() <= q {
@@ -112,21 +108,6 @@ fn guess_number(f: &[u8], k: usize) -> i64
     cells::number_of(false, guess_size(f, k))
 }
 
-// The first semicolon from a place on, or the end.
-fn semi_to(f: &[u8], at: usize) -> usize
-    requires { at ≤ length f.now }
-    ensures { SemiTo f.now at result }
-{
-    let mut i = at;
-    while i < f.len() {
-        if f[i] == 59 {
-            return i;
-        }
-        i += 1;
-    }
-    i
-}
-
 fn code_of(f: &[u8]) -> usize
     ensures { result ≡ min (capped_from 0 f.now) 9999 }
 {
@@ -134,22 +115,22 @@ fn code_of(f: &[u8]) -> usize
     if n <= 9999 { n as usize } else { 9999 }
 }
 
-// The codes between semicolons, at the start of the list; 10,000 where there are too many.
-fn gather(f: &[u8], list: &mut [i64]) -> usize
+// The codes between semicolons, at the start of the list, and how many; none where there are too many.
+fn gather(f: &[u8], list: &mut [i64]) -> Option<usize>
     requires { length list.old ≡ 9999 }
-    ensures { Gathered f.now list.new result }
+    ensures { MatchOption result (9999 < length (codes_in 0 f.now)) (λ n. (n ≤ 9999) × (take n list.new ≡ codes_in 0 f.now)) }
 {
     let mut count: usize = 0;
     let mut at: usize = 0;
     loop {
-        let to = semi_to(f, at);
+        let to = byte_to(f, at, 59);
         if 9999 <= count {
-            return 10000;
+            return None;
         }
         list[count] = cells::cell_of(code_of(&f[at..to]));
         count += 1;
         if f.len() <= to {
-            return count;
+            return Some(count);
         }
         at = to + 1;
     }
@@ -158,12 +139,10 @@ fn gather(f: &[u8], list: &mut [i64]) -> usize
 fn all_zeros(s: &[u8]) -> bool
     ensures { result ≡ all_zeros s.now }
 {
-    let mut i: usize = 0;
-    while i < s.len() {
-        if s[i] != 48 {
+    for b in s {
+        if *b != 48 {
             return false;
         }
-        i += 1;
     }
     true
 }
@@ -199,12 +178,10 @@ fn left_of(k: usize, s: &[u8], f: &[u8]) -> bool
     if s.len() < n {
         return false;
     }
-    let mut i: usize = 0;
-    while i < n {
+    for i in 0..n {
         if s[i] != f[i] {
             return false;
         }
-        i += 1;
     }
     tail_good(k, &s[n..])
 }
@@ -247,14 +224,14 @@ fn take_number(
     is_done(writes::plain::write_number(powers, t, rows, row, z, bytes))
 }
 
-// The members that a field may have, at the start of the list, and how many; 10,000 where there are too many.
-fn guess_set(f: &[u8], list: &mut [i64]) -> usize
+// The members that a field may have, at the start of the list, and how many; none where there are too many.
+fn guess_set(f: &[u8], list: &mut [i64]) -> Option<usize>
     requires list_len { length list.old ≡ 9999 }
     requires fact { length f.now ≡ 0 → ⊥ }
-    ensures { Members f.now list.new result }
+    ensures { MatchOption result (9999 < length (set_guess f.now)) (λ n. (n ≤ 9999) × (take n list.new ≡ set_guess f.now)) }
 {
     if f[0] == 110 {
-        return 0;
+        return Some(0);
     }
     gather(f, list)
 }
@@ -284,11 +261,8 @@ fn take_codes(f: &[u8], list: &mut [i64]) -> usize
 {
     let mut count: usize = 0;
     let mut n: usize = 0;
-    let mut i: usize = 0;
-    while i < f.len() {
-        let b = f[i];
-        i += 1;
-        if b == 59 {
+    for b in f {
+        if *b == 59 {
             if n == 0 {
                 return 0;
             }
@@ -299,7 +273,7 @@ fn take_codes(f: &[u8], list: &mut [i64]) -> usize
             count += 1;
             n = 0;
         } else {
-            n = code_step(n, b);
+            n = code_step(n, *b);
             if n == 0 {
                 return 0;
             }
@@ -332,10 +306,9 @@ fn take_other(
     if 50000 < f.len() {
         return false;
     }
-    let n = guess_set(f, list);
-    if 9999 < n {
+    let Some(n) = guess_set(f, list) else {
         return false;
-    }
+    };
     let end = value_fields::send_set(powers, 50001, room, 0, list, n);
     if end != f.len() {
         return false;
@@ -385,7 +358,7 @@ fn take_truth(
     ensures { Took t.now rows row f.now bytes.old bytes.new result }
 {
     let one = f[0] == 49;
-    let text = [bit_of(one)];
+    let text = [value_fields::bit_of(one)];
     if !left_of(0, &text, f) {
         return false;
     }
@@ -441,10 +414,4 @@ pub fn take_field(
         return true;
     }
     take_guessed(powers, t, rows, row, f, list, room, bytes)
-}
-
-fn bit_of(b: bool) -> u8
-    ensures { result ≡ cond b 49 48 }
-{
-    if b { 49 } else { 48 }
 }

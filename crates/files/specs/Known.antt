@@ -1,5 +1,5 @@
 -- A record's first byte below 32 that is known, or that it has none: what it says of the record's verdict.
-use Rattle.std.specs.Prelude.{◌≡◌, true, false, List, ℕ, ◌+◌, ◌-◌, ◌≤◌, ◌<◌, ℤ, length, drop}
+use Rattle.std.specs.Prelude.{◌≡◌, true, false, List, ℕ, ◌+◌, ◌-◌, ◌≤◌, ◌<◌, ℤ, length, drop, Some, None}
 use Rattle.std.proofs.Common.{sym, ◌∙◌, arith, length-take, length-drop, get_or-drop, get_or-take}
 use Rattle.lows.specs.rule.Lows.{low_at}
 use Rattle.lows.specs.Lows.{Clear}
@@ -11,7 +11,6 @@ use Rattle.readings.specs.Ready.{Plain}
 use Rattle.records.proofs.Laws.{first_here, first_clear, first_of_plain}
 use Rattle.records.specs.rule.First.{first_from, bad_row, row_fault}
 use Rattle.records.specs.rule.Verdict.{rows_verdict, byte_verdict, row_verdict, sound, low_byte, bad_field}
-use Rattle.records.specs.declared.Found.TheVariants.{At, Nothing}
 use Rattle.files.specs.rule.File.{record_verdict, go_on, first_length, records_verdict}
 use Rattle.files.specs.File.{records_next}
 
@@ -50,18 +49,18 @@ pub known_low : (t : List ℤ) (v : ℕ) {bytes : List ℕ} {low : ℕ} → LowK
     → rows_verdict t v bytes ≡ low_byte low
 unfolding rows_verdict byte_verdict
 known_low t v {bytes} {low} k h =
-    let e : first_from (low_at bytes) 0 (length bytes) ≡ At low =
+    let e : first_from (low_at bytes) 0 (length bytes) ≡ Some low =
     sym (first_clear (low_at bytes) (length bytes) low (omega arith) (λ j a b. k.before j b (omega arith)))
     ∙ first_here (low_at bytes) (length bytes) low h (k.here h) in
     rw e
 
 -- a record with none is judged by its lowest illegal row
 module _ (t : List ℤ) (v : ℕ) (bytes : List ℕ) (p : Plain bytes) where
-  pub row_refused : {i : ℕ} → first_from (bad_row t v bytes) 0 v ≡ At i → rows_verdict t v bytes ≡ bad_field i (row_fault t v bytes i)
+  pub row_refused : {i : ℕ} → first_from (bad_row t v bytes) 0 v ≡ Some i → rows_verdict t v bytes ≡ bad_field i (row_fault t v bytes i)
   unfolding rows_verdict byte_verdict row_verdict
   row_refused e = rw (first_of_plain bytes p, e)
 
-  pub rows_sound : first_from (bad_row t v bytes) 0 v ≡ Nothing → rows_verdict t v bytes ≡ sound
+  pub rows_sound : first_from (bad_row t v bytes) 0 v ≡ None → rows_verdict t v bytes ≡ sound
   unfolding rows_verdict byte_verdict row_verdict
   rows_sound e = rw (first_of_plain bytes p, e)
 

@@ -19,7 +19,7 @@ use cuts::{Next, Terminator};
 use faults::Fault;
 use layout::{Header, Row};
 use readings::many::Batch;
-use records::{Found, Judged};
+use records::Judged;
 
 // What a file is judged to be: sound, with the count of its records; or the first fault, with its record from 1.
 #[derive(Clone, Copy)]
@@ -42,26 +42,14 @@ struct Place {
 pub fn is_sound(j: Judged) -> bool
     ensures { result ≡ is_sound (judged_as j) }
 {
-    match j {
-        Judged::Sound => true,
-        Judged::BadTable => false,
-        Judged::ShortRecord => false,
-        Judged::LowByte(_) => false,
-        Judged::Faulty(_, _) => false,
-    }
+    matches!(j, Judged::Sound)
 }
 
 // Is a file sound so far?
 pub fn goes_on(j: Judgement) -> bool
     ensures { result ≡ sound_so_far (file_said j) }
 {
-    match j {
-        Judgement::Sound(_) => true,
-        Judgement::BadTable => false,
-        Judgement::Unended(_) => false,
-        Judgement::OtherLength(_) => false,
-        Judgement::Fault(_, _) => false,
-    }
+    matches!(j, Judgement::Sound(_))
 }
 
 // The length of the first record, once it is known.
@@ -408,11 +396,11 @@ pub fn judge_tested(t: &[i64], d: &[u8]) -> Judgement
             }
             let mut few = [0u8; 128];
             match records::illegal_row(t, h.rows, &d[start..end], &mut few) {
-                Found::At(i) => {
+                Some(i) => {
                     let x = faults::row_fault(t, h.rows, Row::read(t, i), &d[start..end]);
                     Judgement::Fault(1, Judged::Faulty(i, apart(x)))
                 }
-                Found::Nothing => judge_rest(t, h, d, w, next, end),
+                None => judge_rest(t, h, d, w, next, end),
             }
         }
         Next::Unended { start: _, end: _ } => Judgement::Unended(1),

@@ -8,6 +8,7 @@ use native.Mathlib.Omega.{arith}
 use lib.Dec.{ltb, leb}
 use lib.ListN.{length, take, drop}
 use borrow.Author.Tests.{ne_eqb, ltb-true, leb-true, le-ltb}
+use Rattle.std.proofs.Common.{Option, Some, None}
 use Rattle.below.specs.Below.{holds_not, and_left, and_right}
 use Rattle.markup.specs.rule.Bytes.{is_digit}
 use Rattle.scan.specs.rule.Number.{decimal_of}
@@ -15,8 +16,6 @@ use Rattle.scan.specs.Number.{capped}
 use Rattle.spans.specs.rule.Heard.{Heard, All, Ill, heard}
 use Rattle.spans.specs.rule.Says.{each_char, of_class, count_after}
 use Rattle.spans.specs.Figures.{figures_after, figures_of}
-use Rattle.spans.specs.declared.Figures.{Figures}
-use Rattle.spans.specs.declared.Figures.TheVariants.{Good, Wrong}
 use Rattle.forms.specs.rule.Form.{fits_of}
 use Rattle.tags.specs.rule.Tag.{stretch_fits}
 use Rattle.reading.specs.rule.Result.{Is}
@@ -71,23 +70,24 @@ module _ (d : List ℕ) (v e : ℕ) (fits : stretch_fits 1 d v e ≡ true) where
   unfolding figure_of chars_of
   few_digits h = digits_few (said_in (heard (take (e - v) (drop v d)) 0)) digits.each h
 
-  figures_are : figures_of (heard (take (e - v) (drop v d)) 0) ≡ Good (capped (decimal_of 0 (chars_of d v e))) (length (chars_of d v e))
+  figures_are : figures_of (heard (take (e - v) (drop v d)) 0) ≡ Some (capped (decimal_of 0 (chars_of d v e)), length (chars_of d v e))
   unfolding figures_after chars_of
   figures_are = ap figures_of digits.all ∙ by (said_in (heard (take (e - v) (drop v d)) 0)) digits.each digits.some where
-    by : (cs : List ℕ) → each_char is_digit cs ≡ true → 0 < length cs → figures_of (All cs) ≡ Good (capped (decimal_of 0 cs)) (length cs)
+    by : (cs : List ℕ) → each_char is_digit cs ≡ true → 0 < length cs → figures_of (All cs) ≡ Some (capped (decimal_of 0 cs), length cs)
     by cs g h = let z : 0 + length cs ≡ length cs = omega arith in rw (g, z, ne_eqb (length cs) 0 (λ o. omega arith))
 
-  module _ (next : ℕ) (r : Figures) (said : r ≡ figures_of (heard (take (e - v) (drop v d)) 0)) where
-    pub figure_good : (size count : ℕ) → r ≡ Good size count
+  module _ (next : ℕ) (r : Option (ℕ × ℕ)) (said : r ≡ figures_of (heard (take (e - v) (drop v d)) 0)) where
+    pub figure_good : (size count : ℕ) → r ≡ Some (size, count)
         → Ok (record { size = size; count = count; place = v; next = next }) ≡ to_number (Is (figure_of d v e) next)
     unfolding figure_of
     figure_good size count q =
         let t = sym q ∙ said ∙ figures_are in
-        let a : size ≡ capped (decimal_of 0 (chars_of d v e)) = cc in
-        let b : count ≡ length (chars_of d v e) = cc in
+        let p : ◌≡◌ {A = ℕ × ℕ} (size, count) (capped (decimal_of 0 (chars_of d v e)), length (chars_of d v e)) = cc in
+        let a : size ≡ capped (decimal_of 0 (chars_of d v e)) = ap (λ (k : ℕ × ℕ). k.0) p in
+        let b : count ≡ length (chars_of d v e) = ap (λ (k : ℕ × ℕ). k.1) p in
         rw (a, b)
 
-    pub figure_wrong : {A : Type 0} → r ≡ Wrong → A
+    pub figure_wrong : {A : Type 0} → r ≡ None → A
     figure_wrong q =
         let t = sym q ∙ said ∙ figures_are in
         let z : ◌≡◌ {A = ℕ} 0 1 = cc in

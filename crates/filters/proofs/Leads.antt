@@ -7,6 +7,7 @@ use native.Mathlib.Omega.{arith}
 use lib.Dec.{eqb, ltb}
 use lib.ListN.{length, get_or}
 use borrow.Author.Tests.{lt-leb, lt-ltb, ltb-true}
+use Rattle.std.proofs.Common.{Option, Some, None}
 use Rattle.below.specs.Below.{and_left, and_right}
 use Rattle.ascii.specs.rule.Class.{upper_of}
 use Rattle.signs.specs.declared.Sign.{Sign}
@@ -20,8 +21,6 @@ use Rattle.contents.specs.declared.Step.TheVariants as step
 use Rattle.contents.proofs.Goes.{signs_next}
 use Rattle.xml_reading.specs.rule.Role.{alike}
 use Rattle.filters.specs.Code.{plain_of, Leads}
-use Rattle.filters.specs.declared.Lead.{Lead}
-use Rattle.filters.specs.declared.Lead.TheVariants as lead
 use Rattle.filters.proofs.Meets.{like_both}
 
 record Plain (b : ℕ) : Type 0 where
@@ -108,12 +107,12 @@ module _ (standard : Bool) (s t : List ℕ) (p q : ℕ) where
       → false ≡ cond standard (eqb (upper_of (get_or s (p + k) 0)) (upper_of (get_or t (q + k) 0)))
       (eqb (get_or s (p + k) 0) (get_or t (q + k) 0))
       → Shares k
-      → Leads standard s t p q lead.Apart
+      → Leads standard s t p q None
   lead_apart k i j x y e h = record { says = shares_step k i j x y false e h; first = omega arith; second = omega arith }
 
   pub lead_shared : (k : ℕ) → p ≤ length s → q ≤ length t → k ≤ length s - p → k ≤ length t - q → Shares k
-      → Leads standard s t p q (lead.Shared k)
+      → Leads standard s t p q (Some k)
   lead_shared k a b i j h = record { says = h; first = i; second = j }
 
-  pub lead_is : {r u : Lead} → r ≡ u → Leads standard s t p q r → Leads standard s t p q u
+  pub lead_is : {r u : Option ℕ} → r ≡ u → Leads standard s t p q r → Leads standard s t p q u
   lead_is e x = rw (← e) x

@@ -1,6 +1,7 @@
 -- What the code answers, by the rule of crate `xml_reading`: names sign by sign, and what is asked of the rows of the variables before, for
 -- whatever variables the room holds.
-use Rattle.std.specs.Prelude.{◌≡◌, Bool, false, cond, not, ◌&&◌, List, [], ℕ, ◌+◌, ◌-◌, ◌*◌, ◌≤◌, ◌<◌, eqb, ltb, ℤ, length, take, Ok, Err}
+use Rattle.std.specs.Prelude.{◌≡◌, Bool, false, cond, not, ◌&&◌, List, [], ℕ, ◌+◌, ◌-◌, ◌*◌, ◌≤◌, ◌<◌, eqb, ltb, ℤ, length, take, Option}
+use Rattle.std.specs.Prelude.{Some, None, Ok, Err}
 use Rattle.cells.specs.rule.Cell.{cell, count_of}
 use Rattle.layout.specs.rule.Layout.{row_size, most_rows}
 use Rattle.signs.specs.declared.Sign.{Sign}
@@ -24,8 +25,6 @@ use Rattle.filters.specs.declared.Titled.{Titled}
 use Rattle.filters.specs.declared.Titled.TheVariants as titled
 use Rattle.filters.specs.declared.Filtered.{Filtered}
 use Rattle.filters.specs.declared.Filtered.TheVariants as filtered
-use Rattle.filters.specs.declared.Lead.{Lead}
-use Rattle.filters.specs.declared.Lead.TheVariants as lead
 use Rattle.filters.specs.declared.Met.{Met}
 use Rattle.filters.specs.declared.Met.TheVariants as met
 use Rattle.tokens.specs.declared.Figures.{Figures}
@@ -65,15 +64,15 @@ pub record Meets (latin standard : Bool) (s t : List ℕ) (a b : Cursor) (r : Me
 unfoldable pub plain_of : ℕ → Bool
 plain_of b = ltb b 128 && (not (eqb b 60) && (not (eqb b 38) && (not (eqb b 93) && not (eqb b 13))))
 
-abbrev pub lead_says : Bool → Bool → List ℕ → List ℕ → ℕ → ℕ → Lead → Bool
-lead_says latin standard s t p q (lead.Shared k) = alike standard (signs_from latin s (begun (p + k))) (signs_from latin t (begun (q + k)))
-lead_says latin standard s t p q lead.Apart = false
+abbrev pub lead_says : Bool → Bool → List ℕ → List ℕ → ℕ → ℕ → Option ℕ → Bool
+lead_says latin standard s t p q (Some k) = alike standard (signs_from latin s (begun (p + k))) (signs_from latin t (begun (q + k)))
+lead_says latin standard s t p q None = false
 
-abbrev pub lead_count : Lead → ℕ
-lead_count (lead.Shared k) = k
-lead_count lead.Apart = 0
+abbrev pub lead_count : Option ℕ → ℕ
+lead_count (Some k) = k
+lead_count None = 0
 
-pub record Leads (standard : Bool) (s t : List ℕ) (p q : ℕ) (r : Lead) : Type 0 where
+pub record Leads (standard : Bool) (s t : List ℕ) (p q : ℕ) (r : Option ℕ) : Type 0 where
   pub says : (latin : Bool) → alike standard (signs_from latin s (begun p)) (signs_from latin t (begun q))
       ≡ lead_says latin standard s t p q r
   pub first : lead_count r ≤ length s - p

@@ -86,33 +86,26 @@ fn is_plain(b: u8) -> bool
     (b < 128) & ((b != 60) & ((b != 38) & ((b != 93) & (b != 13))))
 }
 
-// How many bytes that say themselves two texts share at their start; or that they differ there. It answers for most names.
-#[derive(Clone, Copy)]
-pub enum Lead {
-    Shared(usize),
-    Apart,
-}
-
-fn lead_of(standard: bool, s: &[u8], t: &[u8], p: usize, q: usize) -> Lead
+// How many bytes that say themselves two texts share at their start; none where they differ there. It answers for most names.
+fn lead_of(standard: bool, s: &[u8], t: &[u8], p: usize, q: usize) -> Option<usize>
     requires { (p ≤ length s.now) × (q ≤ length t.now) }
     ensures { Leads standard s.now t.now p q result }
 {
-    let mut k: usize = 0;
-    while k < s.len() - p {
+    let most = s.len() - p;
+    for k in 0..most {
         if t.len() - q <= k {
-            return Lead::Shared(k);
+            return Some(k);
         }
         let b = s[p + k];
         let c = t[q + k];
         if !(is_plain(b) & is_plain(c)) {
-            return Lead::Shared(k);
+            return Some(k);
         }
         if !same_byte(standard, b, c) {
-            return Lead::Apart;
+            return None;
         }
-        k += 1;
     }
-    Lead::Shared(k)
+    Some(most)
 }
 
 // The texts from p to the end of s and from q to the end of t.
@@ -140,8 +133,8 @@ fn same_from(latin: bool, standard: bool, s: &[u8], t: &[u8], p: usize, q: usize
     ensures { result ≡ alike standard (signs_from latin s.now (begun p)) (signs_from latin t.now (begun q)) }
 {
     match lead_of(standard, s, t, p, q) {
-        Lead::Shared(k) => same_rest(latin, standard, s, t, p + k, q + k),
-        Lead::Apart => false,
+        Some(k) => same_rest(latin, standard, s, t, p + k, q + k),
+        None => false,
     }
 }
 
@@ -186,7 +179,7 @@ fn folded(sign: Sign) -> u64
     ensures { (result ≡ folded_of sign) × (result ≤ 256) }
 {
     match sign {
-        Sign::Byte(b) => wide(ascii::upper(b)),
+        Sign::Byte(b) => ascii::upper(b) as u64,
         Sign::Break => 256,
     }
 }
@@ -203,16 +196,14 @@ fn lead_sum(d: &[u8], at: usize) -> Summed
     ensures { Adds d.now at result }
 {
     let mut sum: u16 = 0;
-    let mut i = at;
-    while i < d.len() {
+    for i in at..d.len() {
         let b = d[i];
         if !is_plain(b) {
             return Summed { sum, next: i };
         }
-        sum = sum_with(sum, wide(ascii::upper(b)));
-        i += 1;
+        sum = sum_with(sum, ascii::upper(b) as u64);
     }
-    Summed { sum, next: i }
+    Summed { sum, next: d.len() }
 }
 
 // That of the signs from a place on, behind those of a sum.
@@ -312,10 +303,8 @@ fn all_apart(sums: &[u16], i: usize, sum: u16) -> bool
     ensures { result ≡ all_apart sums.now sum i 16 }
 {
     let mut apart = true;
-    let mut k: usize = 0;
-    while k < 16 {
+    for k in 0..16 {
         apart = apart & (sums[i + k] != sum);
-        k += 1;
     }
     apart
 }
@@ -330,6 +319,7 @@ fn pass_wide(sums: &[u16], count: usize, from: usize, sum: u16) -> usize
     }
     let last = count - 16;
     let mut i = from;
+    // no `for`: the place where the steps stop is the answer
     while i <= last {
         if !all_apart(sums, i, sum) {
             return i;
@@ -345,14 +335,12 @@ fn pass_apart(sums: &[u16], count: usize, from: usize, sum: u16) -> usize
     requires { (from ≤ count) × (count ≤ length sums.now) }
     ensures { Apart sums.now sum count from result }
 {
-    let mut i = pass_wide(sums, count, from, sum);
-    while i < count {
+    for i in pass_wide(sums, count, from, sum)..count {
         if sums[i] == sum {
             return i;
         }
-        i += 1;
     }
-    i
+    count
 }
 
 // Whether row i has a filter, and the text is that one's name.
@@ -402,12 +390,10 @@ pub fn has_served(
     if pass_apart(sums, count, 0, sum) == count {
         return false;
     }
-    let mut i: usize = 0;
-    while i < count {
+    for i in 0..count {
         if is_served(latin, standard, d, rows, count, i, p, n, sums, sum) {
             return true;
         }
-        i += 1;
     }
     false
 }
@@ -519,12 +505,10 @@ fn use_taken(rows: &[i64], count: usize, usage: usize) -> bool
     requires { (length rows.now ≡ row_size * most_rows) × (count ≤ most_rows) }
     ensures { TakenSaid rows.now count usage result }
 {
-    let mut i: usize = 0;
-    while i < count {
+    for i in 0..count {
         if column(rows, i, Row::USE) == usage {
             return true;
         }
-        i += 1;
     }
     false
 }
@@ -573,13 +557,13 @@ fn figure_at(d: &[u8], v: usize, e: usize, next: usize) -> OrFault<Figures>
     ensures { result ≡ to_number (Is (figure_of d.now v e) next) }
 {
     match spans::figures_in(&d[v..e]) {
-        spans::Figures::Good { size, count } => Ok(Figures {
+        Some((size, count)) => Ok(Figures {
             size,
             count,
             place: v,
             next,
         }),
-        spans::Figures::Wrong => Err(Fault {
+        None => Err(Fault {
             number: 2,
             place: v,
         }),
@@ -765,12 +749,6 @@ fn may_stand(classes: &[u8; 256], count: usize, b: u8) -> bool
     (class == ascii::LETTER) | ((0 < count) & (class == ascii::DIGIT))
 }
 
-fn wide(b: u8) -> u64
-    ensures { (result ≡ b) × (result ≤ 255) }
-{
-    b as u64
-}
-
 // The number, as crate names has them, of the name from a place to the end of d.
 fn name_key(classes: &[u8; 256], latin: bool, d: &[u8], at: usize) -> u64
     requires classes { Classes classes.now }
@@ -778,9 +756,8 @@ fn name_key(classes: &[u8; 256], latin: bool, d: &[u8], at: usize) -> u64
     ensures { result ≡ key_of 0 0 (signs_from latin d.now (begun at)) }
 {
     let mut c = contents::start_at(at);
-    let mut count: usize = 0;
     let mut key: u64 = 0;
-    while count < 9 {
+    for count in 0..9 {
         match contents::next_sign(latin, d, c) {
             Part::One { sign, cursor } => match sign {
                 Sign::Byte(byte) => {
@@ -790,8 +767,7 @@ fn name_key(classes: &[u8; 256], latin: bool, d: &[u8], at: usize) -> u64
                     if count == 8 {
                         return 0;
                     }
-                    key = key * 256 + wide(ascii::upper(byte));
-                    count += 1;
+                    key = key * 256 + ascii::upper(byte) as u64;
                     c = cursor;
                 }
                 Sign::Break => {
@@ -824,10 +800,8 @@ pub fn names_fault(classes: &[u8; 256], latin: bool, d: &[u8], rows: &[i64], cou
     ensures { NamesSaid latin d.now rows.now count result }
 {
     let mut keys = [0u64; Header::MOST_ROWS];
-    let mut i: usize = 0;
-    while i < count {
+    for i in 0..count {
         keys[i] = row_key(classes, latin, d, rows, count, i);
-        i += 1;
     }
     names::first_fault(&keys, count)
 }

@@ -1,6 +1,6 @@
 -- THE CODE'S BOOKS of what stands before the first variable, and of the clean text as a whole. Crate `front_laws` says that it is the clean
 -- text of the survey that was read.
-use Rattle.std.specs.Prelude.{Bool, true, false, cond, List, [], ◌∷◌, ◌++◌, ℕ, zero, suc, ◌-◌, eqb}
+use Rattle.std.specs.Prelude.{Bool, true, false, cond, List, [], ◌∷◌, ◌++◌, ℕ, zero, suc, eqb}
 use Rattle.scan.specs.rule.Text.{text}
 use Rattle.scan.specs.Text.{step_of}
 use Rattle.scan.specs.declared.Step.{Step}

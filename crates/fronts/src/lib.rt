@@ -225,15 +225,13 @@ fn items_of(classes: &[u8; 256], d: &[u8], start: usize) -> Items
         standard: none,
         next: start,
     };
-    let mut j: usize = 0;
-    while j < 6 {
+    for _ in 0..6usize {
         let i = item_at(classes, d, m.next);
         if i.which == 5 {
             return end_items(m);
         }
         let next = item_past(classes, d, i);
         m = meet(m, i, next);
-        j += 1;
     }
     end_items(m)
 }

@@ -1,6 +1,6 @@
 -- A line built: which rows have each of their categories, and what a field leaves that was built where it stands, or not.
-use Rattle.std.specs.Prelude.{◌≡◌, refl, Bool, true, false, List, ℕ, ◌+◌, ◌-◌, ◌≤◌, ◌<◌, eqb, ltb, ℤ, length, get_or, set}
-use Rattle.std.proofs.Common.{sym, ap, ◌∙◌, arith, eqb-true, lt-ltb, length-set, get_or-set_same, get_or-set_other}
+use Rattle.std.specs.Prelude.{◌≡◌, refl, Bool, true, false, List, ℕ, ◌+◌, ◌-◌, ◌≤◌, ◌<◌, eqb, ℤ, length, get_or, set}
+use Rattle.std.proofs.Common.{sym, ap, ◌∙◌, arith, eqb-true, lt-ltb, get_or-set_same, get_or-set_other}
 use Rattle.std.proofs.lemmas.Bool.{eqb-false}
 use Rattle.layout.specs.rule.Row.{row_at}
 use Rattle.layout.specs.declared.Row.{Row}
@@ -10,10 +10,10 @@ use Rattle.fields.specs.rule.Row.{written_of}
 use Rattle.sets.specs.Full.{EachLegal}
 use Rattle.field_values.specs.rule.Read.{value_from}
 use Rattle.csv_fields.specs.Page.{part, Stands}
-use Rattle.field_judges.specs.Judged.{Standing, standing_value}
-use Rattle.field_builds.specs.Built.{Built, BuiltAt}
+use Rattle.field_judges.specs.Judged.{standing_value}
+use Rattle.field_builds.specs.Built.{BuiltAt}
 use Rattle.import_lines.specs.Undoubled.{undoubled}
-use Rattle.import_lines.specs.Walk.{Walk, walk_of, step_by, step, raw_of, raw_bare}
+use Rattle.import_lines.specs.Walk.{walk_of, step_by, step, raw_of, raw_bare}
 use Rattle.import_lines.specs.Judge.{FieldJudged}
 
 -- ---- rows that are marked have each category up to their width: the first n

@@ -1,7 +1,7 @@
 -- A line judged: what its fields say of it, whatever record they would leave.
-use Rattle.std.specs.Prelude.{◌≡◌, Bool, cond, List, [], ℕ, ◌+◌, ◌-◌, ◌≤◌, ◌<◌, eqb, ltb, ℤ, length, take, drop}
+use Rattle.std.specs.Prelude.{◌≡◌, Bool, cond, List, ℕ, ◌+◌, ◌≤◌, ◌<◌, eqb, ltb, ℤ, length, drop}
 use Rattle.std.proofs.Math.Path.{refl}
-use Rattle.std.proofs.Common.{sym, ap, ◌∙◌, arith}
+use Rattle.std.proofs.Common.{sym, ap, ◌∙◌}
 use Rattle.std.proofs.Math.Bool.{true, false}
 use borrow.Author.Tests.{lt-ltb}
 use Rattle.layout.specs.rule.Row.{row_at}
@@ -10,10 +10,10 @@ use Rattle.fields.specs.Facts.{RowFacts}
 use Rattle.fields.specs.rule.Field.{Value, Field, holds, illegal, spaces}
 use Rattle.field_values.specs.rule.Read.{value_from}
 use Rattle.csv_fields.specs.rule.Page.{fresh, page, broken, page_lines}
-use Rattle.csv_fields.specs.Page.{part, Bounded, Stands}
-use Rattle.field_judges.specs.Judged.{Standing, standing_bounded, standing_value}
+use Rattle.csv_fields.specs.Page.{part, Stands}
+use Rattle.field_judges.specs.Judged.{Standing, standing_value}
 use Rattle.import_lines.specs.Undoubled.{undoubled}
-use Rattle.import_lines.specs.Walk.{Walk, walk_of, step_by, step, step_bad, step_none, Walking, raw_of, raw_bare, GoodLine, FaultyLine}
+use Rattle.import_lines.specs.Walk.{Walk, walk_of, step_by, step, Walking, raw_of, raw_bare, GoodLine, FaultyLine}
 use Rattle.import_lines.specs.Walk.{LineTaken, Whole, end_of}
 use Rattle.import_lines.specs.Walk.{whole_taken}
 use Rattle.sound.specs.rule.Rows.{rows_of, length_of}

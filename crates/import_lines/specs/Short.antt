@@ -1,13 +1,13 @@
 -- No value's text is longer than 50,000 bytes, and so no field that is.
-use Rattle.std.specs.Prelude.{◌≡◌, refl, Bool, true, false, cond, List, [], ◌∷◌, ◌++◌, ℕ, zero, suc, ◌+◌, ◌*◌, ◌≤◌, ◌<◌, ltb, ℤ, length}
-use Rattle.std.proofs.Common.{sym, ap, ◌∙◌, arith, length-append}
+use Rattle.std.specs.Prelude.{◌≡◌, refl, Bool, true, false, cond, List, ◌∷◌, ℕ, ◌≤◌, ◌<◌, ltb, ℤ, length}
+use Rattle.std.proofs.Common.{ap, arith, length-append}
 use Rattle.layout.specs.declared.Row.{Row}
 use Rattle.layout.specs.declared.Kind.{Kind}
 use Rattle.layout.specs.declared.Kind.TheVariants.{Single, Multiple, Quantity, Character, Logical}
 use Rattle.layout.specs.declared.Spread.TheVariants.{Bits, Fields}
 use Rattle.fields.specs.rule.Legal.{legal}
-use Rattle.fields.specs.rule.Field.{Value, missing, number, members, text, truth, Field, holds, illegal, set_fits, text_fits}
-use Rattle.fields.specs.rule.Row.{Fit, fits, other_type, fits_by, fit_of}
+use Rattle.fields.specs.rule.Field.{Value, missing, number, members, text, truth, holds, illegal, set_fits, text_fits}
+use Rattle.fields.specs.rule.Row.{fits, fits_by, fit_of}
 use Rattle.fieldlaws.specs.BackLaws.{Limits, fit_legal, fit_set}
 use Rattle.fieldlaws.specs.TextLaws.{fitting}
 use Rattle.value_fields.specs.rule.Values.{export_value}

@@ -1,5 +1,5 @@
 -- A field in quotes without its doubled quotes.
-use Rattle.std.specs.Prelude.{◌≡◌, refl, Bool, true, false, cond, List, [], ◌∷◌, ◌++◌, ℕ, zero, suc, ◌+◌, ◌-◌, ◌≤◌, ◌<◌, eqb, length, take}
+use Rattle.std.specs.Prelude.{◌≡◌, refl, Bool, true, false, cond, List, [], ◌∷◌, ◌++◌, ℕ, suc, ◌+◌, ◌≤◌, ◌<◌, eqb, length, take}
 use Rattle.std.specs.Prelude.{drop, get_or, set}
 use Rattle.std.proofs.Common.{sym, ap, ◌∙◌, append-nil, append_assoc, add-one, arith, eqb-true, drop_of_length-le, length-append, drop-cons}
 use Rattle.std.proofs.Common.{drop-drop, take-suc-set, length-take-le}
@@ -60,23 +60,16 @@ pub record Undoubling (raw room : List ℕ) (n i : ℕ) : Type 0 where
   pub few : n ≤ 50000
   pub text : undoubled false raw ≡ take n room ++ undoubled false (drop i raw)
 
--- all of it does; or it is longer than any value's text
-pub record Undoubled (raw room : List ℕ) (r : ℕ) : Type 0 where
-  pub all : r ≤ 50000 → take r room ≡ undoubled false raw
-  pub long : 50000 < r → 50000 < length (undoubled false raw)
-
 pub undoubling_none : (raw room : List ℕ) → Undoubling raw room 0 0
 undoubling_none raw room = record { few = omega arith; text = refl }
 
 module _ {raw room : List ℕ} {n i : ℕ} (u : Undoubling raw room n i) (size : length room ≡ 50000) where
-  pub undoubling_long : i < length raw → 50000 ≤ n → Undoubled raw room 50001
-  undoubling_long h l = record {
-    all = λ k. absurd (omega arith);
-    long = λ k.
-        let m : length (take n room) ≡ n = length-take-le n room (omega (arith, u.few)) in
-        let e = ap length (undoubled_next raw i h) in
-        omega (arith, ap length u.text, length-append (take n room) (undoubled false (drop i raw)), m, e);
-  }
+  -- it is longer than any value's text
+  pub undoubling_long : i < length raw → 50000 ≤ n → 50000 < length (undoubled false raw)
+  undoubling_long h l =
+      let m : length (take n room) ≡ n = length-take-le n room (omega (arith, u.few)) in
+      let e = ap length (undoubled_next raw i h) in
+      omega (arith, ap length u.text, length-append (take n room) (undoubled false (drop i raw)), m, e)
 
   one_taken : (b : ℕ) → n < 50000 → take (n + 1) (set room n b) ≡ take n room ++ (b ∷ [])
   one_taken b l = rw (add-one n) (take-suc-set room n b (omega (arith, size)))
@@ -91,8 +84,6 @@ module _ {raw room : List ℕ} {n i : ℕ} (u : Undoubling raw room n i) (size :
             ∙ sym (ap (λ (x : List ℕ). x ++ v) (one_taken b l) ∙ append_assoc (take n room) (b ∷ []) v);
       }
 
-  pub undoubling_all : length raw ≤ i → Undoubled raw room n
-  undoubling_all h = record {
-    all = λ k. sym (u.text ∙ ap (λ (x : List ℕ). take n room ++ x) (undoubled_over raw i h) ∙ append-nil (take n room));
-    long = λ k. absurd (omega (arith, u.few));
-  }
+  -- all of it stands there
+  pub undoubling_all : length raw ≤ i → take n room ≡ undoubled false raw
+  undoubling_all h = sym (u.text ∙ ap (λ (x : List ℕ). take n room ++ x) (undoubled_over raw i h) ∙ append-nil (take n room))

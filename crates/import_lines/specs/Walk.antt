@@ -1,20 +1,20 @@
 -- What the code keeps of a line: the record so far, the first column that is no value, and how many fields there were.
-use Rattle.std.specs.Prelude.{◌≡◌, refl, Bool, true, false, cond, not, ℕ, zero, suc, ◌+◌, ◌-◌, ◌≤◌, ◌<◌, min, eqb, ltb, ℤ, length, take}
+use Rattle.std.specs.Prelude.{◌≡◌, refl, Bool, true, false, cond, not, ℕ, suc, ◌+◌, ◌-◌, ◌≤◌, ◌<◌, min, eqb, ltb, ℤ, length, take}
 use Rattle.std.specs.Prelude.{drop}
 use Rattle.std.proofs.Math.Path.{sym, ap}
-use Rattle.std.proofs.Common.{◌∙◌, add-one, arith}
-use mathlib.Core.List.{List, [], ◌∷◌, ◌++◌, append-nil, append_assoc}
-use borrow.Author.Tests.{eq-eqb, ne_eqb, eqb-true, eqb-false, lt-ltb, le-ltb}
+use Rattle.std.proofs.Common.{◌∙◌, arith}
+use mathlib.Core.List.{List, [], ◌∷◌, ◌++◌}
+use borrow.Author.Tests.{eq-eqb, ne_eqb, eqb-true, lt-ltb, le-ltb}
 use Rattle.std.proofs.Math.ListN.{length-append}
 use Rattle.below.specs.Below.{holds_not}
 use Rattle.layout.specs.rule.Row.{row_at}
 use Rattle.layout.specs.declared.Row.{Row}
-use Rattle.fields.specs.rule.Field.{Value, Field, holds, illegal, spaces}
+use Rattle.fields.specs.rule.Field.{Field, holds, illegal, spaces}
 use Rattle.fields.specs.rule.Row.{written_of}
 use Rattle.sound.specs.rule.Rows.{rows_of, length_of}
 use Rattle.field_values.specs.rule.Read.{value_from}
 use Rattle.field_values.specs.Steps.{is_held, took_by, Took}
-use Rattle.csv_fields.specs.rule.Page.{Page, over, torn, more, last, start, fresh, page, Lines, done, broken, line, with_field, page_lines}
+use Rattle.csv_fields.specs.rule.Page.{Page, torn, more, last, start, fresh, page, Lines, broken, line, with_field, page_lines}
 use Rattle.commas.specs.rule.Csv.{doubled}
 use Rattle.csv_fields.specs.Page.{Stands, Found, has_quote, doubled_bare}
 use Rattle.import_rule.specs.rule.Line.{LineSays, builds, faulty, on_field, record_from, line_says}

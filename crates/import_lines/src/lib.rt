@@ -2,7 +2,7 @@
 // line and the passes of an import.
 #![tactic(auto)]
 
-ghost use Rattle.std.specs.Prelude.{◌≡◌, false, cond, ◌+◌, ◌-◌, ◌≤◌, ◌<◌, min, length, drop};
+ghost use Rattle.std.specs.Prelude.{◌≡◌, false, cond, ◌+◌, ◌-◌, ◌≤◌, ◌<◌, min, length, take, drop, MatchOption};
 ghost use Rattle.ascii.specs.rule.Tens.{Tens};
 ghost use Rattle.fields.specs.rule.Field.{spaces};
 ghost use Rattle.sound.specs.rule.Rows.{rows_of, length_of};
@@ -11,7 +11,7 @@ ghost use Rattle.writes.specs.Write.{Ready};
 ghost use Rattle.csv_fields.specs.rule.Page.{page, fresh};
 ghost use Rattle.csv_fields.specs.Page.{CutAs, CutFrom, Ahead, Bounded};
 ghost use Rattle.field_values.specs.Steps.{Took};
-ghost use Rattle.import_lines.specs.Undoubled.{undoubled, stride, Undoubled};
+ghost use Rattle.import_lines.specs.Undoubled.{undoubled, stride};
 ghost use Rattle.import_lines.specs.Walk.{RawOf, walk_of, step, end_of, LineTaken};
 ghost use Rattle.import_lines.specs.Judge.{FieldJudged, Judges, LineJudged};
 ghost use Rattle.import_lines.specs.Build.{FullRows, FieldBuilt, SlowBuilt};
@@ -37,23 +37,25 @@ pub fn stride_of(b: u8) -> usize
     if b == 34 { 2 } else { 1 }
 }
 
-// The bytes of a field that stood in quotes, without the doubled ones; 50,001 where there are more than any value has.
-fn undouble(raw: &[u8], room: &mut [u8]) -> usize
+// The bytes of a field that stood in quotes, without the doubled ones, at the start of the room, and how many; none where there are more
+// than any value has.
+fn undouble(raw: &[u8], room: &mut [u8]) -> Option<usize>
     requires { length room.old ≡ 50000 }
-    ensures { Undoubled raw.now room.new result }
+    ensures { MatchOption result (50000 < length (undoubled false raw.now))
+        (λ n. (n ≤ 50000) × (take n room.new ≡ undoubled false raw.now)) }
 {
     let mut n: usize = 0;
     let mut i: usize = 0;
     while i < raw.len() {
         if 50000 <= n {
-            return 50001;
+            return None;
         }
         let b = raw[i];
         room[n] = b;
         n += 1;
         i += stride_of(b);
     }
-    n
+    Some(n)
 }
 
 // The field whose bytes so stand in the text, as a value of the row.
@@ -78,10 +80,9 @@ fn take_raw(
     if bare {
         return field_values::take_field(powers, t, rows, row, raw, list, room, bytes);
     }
-    let n = undouble(raw, spare);
-    if 50000 < n {
+    let Some(n) = undouble(raw, spare) else {
         return false;
-    }
+    };
     field_values::take_field(powers, t, rows, row, &spare[..n], list, room, bytes)
 }
 
@@ -406,11 +407,7 @@ fn full_row(t: &[i64], rows: usize, row: Row) -> u8
     if 9999 < w {
         return 0;
     }
-    if sets::alike::lines_count(t, rows, row, w) {
-        1
-    } else {
-        0
-    }
+    u8::from(sets::alike::lines_count(t, rows, row, w))
 }
 
 // A 1 for each row whose lines are its categories, so that no field asks it again.
@@ -418,9 +415,7 @@ pub fn mark_full(t: &[i64], rows: usize, len: usize, full: &mut [u8])
     requires { TableKnown t.now rows len × (length full.old ≡ 512) }
     ensures { FullRows t.now rows full.new }
 {
-    let mut j: usize = 0;
-    while j < rows {
+    for j in 0..rows {
         full[j] = full_row(t, rows, Row::read(t, j));
-        j += 1;
     }
 }

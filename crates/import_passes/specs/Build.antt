@@ -1,5 +1,5 @@
 -- What the code keeps of the output while it builds the records of a text that is accepted.
-use Rattle.std.specs.Prelude.{◌≡◌, refl, Bool, true, false, cond, List, [], ◌∷◌, ◌++◌, ℕ, zero, suc, ◌+◌, ◌-◌, ◌*◌, ◌≤◌, ◌<◌, min, eqb, ℤ}
+use Rattle.std.specs.Prelude.{◌≡◌, refl, Bool, true, false, cond, List, [], ◌∷◌, ◌++◌, ℕ, suc, ◌+◌, ◌-◌, ◌*◌, ◌≤◌, ◌<◌, min, eqb, ℤ}
 use Rattle.std.specs.Prelude.{length, take, drop}
 use Rattle.std.proofs.Common.{sym, ap, ◌∙◌, append-nil, append_assoc, ⊎_elim, suc-mul, mul-le-mul_right, arith, length-append, length-drop}
 use Rattle.std.proofs.Common.{take_at, drop_at, drop-drop}

@@ -1,5 +1,5 @@
 -- What the code keeps over the lines behind the name line: the records so far, and what the lines that are left say.
-use Rattle.std.specs.Prelude.{◌≡◌, refl, List, [], ◌∷◌, ◌++◌, ℕ, zero, suc, ◌+◌, ◌≤◌, ◌<◌, ℤ, length, take, drop, set}
+use Rattle.std.specs.Prelude.{◌≡◌, refl, List, [], ◌∷◌, ◌++◌, ℕ, ◌+◌, ◌≤◌, ◌<◌, ℤ, length, take, drop, set}
 use Rattle.std.proofs.Math.Path.{sym, ap}
 use Rattle.std.proofs.Common.{◌∙◌, append-nil, append_assoc, length-set, length-drop, length-take-le}
 use native.Mathlib.Omega.{arith}
@@ -9,9 +9,9 @@ use Rattle.places.specs.rule.Places.{put, run}
 use Rattle.places.specs.Laws.{pick_run, length_put, back, once_run, below_run, length_run}
 use Rattle.fields.specs.rule.Field.{spaces}
 use Rattle.fieldlaws.specs.TextLaws.{length_spaces}
-use Rattle.csv_fields.specs.rule.Page.{Page, over, start, fresh, page, Lines, done, broken, line, page_lines}
+use Rattle.csv_fields.specs.rule.Page.{Page, start, fresh, page, Lines, broken, line, page_lines}
 use Rattle.csv_fields.proofs.Page.{start_fresh, start_over}
-use Rattle.import_rule.specs.rule.Line.{LineSays, builds, faulty, line_says}
+use Rattle.import_rule.specs.rule.Line.{LineSays, line_says}
 use Rattle.import_rule.specs.rule.Text.{TextSays, accepts, refuses, and_record, after_line, lines_say}
 use Rattle.import_lines.specs.declared.LineEnd.{LineEnd}
 use Rattle.import_lines.specs.declared.LineEnd.TheVariants.{Good, Refused, Torn}

@@ -136,15 +136,13 @@ pub fn build_lines(
     let size = len + 2;
     let mut at = from;
     let mut k: usize = 0;
-    let mut i: usize = 0;
-    while i < n {
+    for _ in 0..n {
         let end = k + size;
         let slot = &mut out[k..end];
         match take_record(powers, t, rows, len, full, d, at, list, room, spare, slot) {
             LineEnd::Good(next) => {
                 at = next;
                 k = end;
-                i += 1;
             }
             LineEnd::Refused(_, _) => {
                 return;

@@ -1,4 +1,5 @@
 -- Tags, texts, the declaration and the DOCTYPE, as the rule of XML reads them, are refused with numbers that XML has, never with 3.
+use Rattle.std.specs.Prelude.{Option, Some, None}
 use Rattle.std.specs.Prelude.{◌≡◌, Bool, cond, not, ◌&&◌, ◌||◌, ℕ, zero, suc, ◌+◌, ◌-◌, ◌≤◌, eqb, leb, ltb, drop, get_or}
 use Rattle.std.proofs.Math.Path.{refl}
 use Rattle.std.proofs.Math.Bool.{true, false}
@@ -7,8 +8,6 @@ use Rattle.std.proofs.Common.{arith}
 use Rattle.std.proofs.Math.ListN.{length}
 use Rattle.markup.specs.declared.Skip.{Skip}
 use Rattle.markup.specs.declared.Skip.TheVariants as skip
-use Rattle.markup.specs.declared.Char.{Char}
-use Rattle.markup.specs.declared.Char.TheVariants as char
 use Rattle.markup.specs.rule.Bytes as bytes
 use Rattle.markup.specs.rule.Gap.{gap_of, xml_comment}
 use Rattle.markup.specs.rule.Reference.{reference_of}
@@ -153,9 +152,9 @@ StepFree (step.More g s) = Unit
 StepFree (step.Over c) = ContentFree c
 
 module _ (bad : Bool) (d : List ℕ) (g : Going) where
-  refer_free : (c : Char) → StepFree (on_char g c)
-  refer_free (char.Is c n) = tt
-  refer_free char.Bad = refl
+  refer_free : (c : Option (ℕ × ℕ)) → StepFree (on_char g c)
+  refer_free (Some (c, n)) = tt
+  refer_free None = refl
 
   note_free : (s : Skip) → StepFree (on_note g s)
   note_free (skip.Past n) = tt

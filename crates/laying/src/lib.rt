@@ -94,10 +94,8 @@ fn same_eight(t: &[i64], at: usize, part: &[i64], j: usize) -> bool
         ≡ (result && begins_table (drop (j + 8) part.now) (drop (at + (j + 8)) t.now)) }
 {
     let mut same = true;
-    let mut k: usize = 0;
-    while k < 8 {
+    for k in 0..8 {
         same = same & cells::same(part[j + k], t[at + (j + k)]);
-        k += 1;
     }
     same
 }
@@ -107,11 +105,8 @@ fn same_left(t: &[i64], at: usize, part: &[i64], from: usize) -> bool
     requires { (at + length part.now ≤ length t.now) × (from ≤ length part.now) }
     ensures { result ≡ begins_table (drop from part.now) (drop (at + from) t.now) }
 {
-    let mut j = from;
-    while j < part.len() {
-        let same = cells::same(part[j], t[at + j]);
-        j += 1;
-        if !same {
+    for j in from..part.len() {
+        if !cells::same(part[j], t[at + j]) {
             return false;
         }
     }
@@ -124,6 +119,7 @@ fn same_at(t: &[i64], at: usize, part: &[i64]) -> bool
     ensures { result ≡ begins_table part.now (drop at t.now) }
 {
     let mut j: usize = 0;
+    // A hand-counted loop: the place where the eights stop is where the rest is compared from.
     while 8 <= part.len() - j {
         if !same_eight(t, at, part, j) {
             return false;

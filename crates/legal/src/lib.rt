@@ -23,13 +23,11 @@ pub fn on_line(t: &[i64], rows: usize, row: Row, z: i64) -> bool
 {
     let before = row.before;
     let lines = row.lines;
-    let mut k: usize = 0;
-    while k < lines {
+    for k in 0..lines {
         let at = Line::base(rows, before + k);
         if cells::same(t[at], z) {
             return true;
         }
-        k += 1;
     }
     false
 }

@@ -27,27 +27,22 @@ fn kept_bytes(s: &[u8]) -> usize
     ensures { (result ≤ length s.now) × (unended s.now ≡ take result s.now)
         × (all_spaces s.now ≡ eqb result 0) }
 {
-    let mut n = s.len();
-    while 0 < n {
-        let k = n - 1;
+    for k in (0..s.len()).rev() {
         if s[k] != 32 {
-            return n;
+            return k + 1;
         }
-        n = k;
     }
-    n
+    0
 }
 
 // Whether no byte is below 32.
 pub fn plain(s: &[u8]) -> bool
     ensures { result ≡ all_plain s.now }
 {
-    let mut i: usize = 0;
-    while i < s.len() {
-        if s[i] < 32 {
+    for &b in s {
+        if b < 32 {
             return false;
         }
-        i += 1;
     }
     true
 }

@@ -33,12 +33,10 @@ pub fn line_most(t: &[i64], h: Header) -> usize
     ensures { (result ≡ most_from t.now 0 (rows_of t.now)) × (2 ≤ result) }
 {
     let mut sum: usize = 2;
-    let mut i: usize = 0;
-    while i < h.rows {
+    for i in 0..h.rows {
         let row = Row::read(t, i);
         let kind = row.kind;
         sum = sum + most_by(kind, row.width) + 1;
-        i += 1;
     }
     sum
 }

@@ -67,11 +67,9 @@ fn append_others(powers: &[u64; 16], out: &mut [u8], at: usize, list: &[i64], n:
     ensures upper_bound { result ≤ at + 49990 }
 {
     let mut end = at;
-    let mut j: usize = 1;
-    while j < n {
+    for j in 1..n {
         end = append_byte(out, end, b',');
         end = append_number(powers, out, end, cells::number(list, j));
-        j += 1;
     }
     end
 }

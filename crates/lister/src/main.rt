@@ -2,12 +2,11 @@
 // the library's; here files are opened, read and measured, and full buffers written out.
 #![tactic(auto)]
 
-ghost use Rattle.std.specs.Prelude.{◌≡◌, ◌^◌, ◌≤◌, ◌<◌, length};
+ghost use Rattle.std.specs.Prelude.{◌≡◌, ◌+◌, ◌^◌, ◌≤◌, ◌<◌, length, IfSome};
 ghost use Rattle.ascii.specs.rule.Tens.{Tens};
 ghost use Rattle.cuts.specs.rule.Cut.{Found};
 ghost use Rattle.files.specs.rule.Tested.{Tested};
 ghost use Rattle.lines.specs.rule.Lines.{line_room};
-ghost use Rattle.lister.specs.Space.{Spacious};
 
 use cuts::Terminator;
 use definition::Answer;
@@ -33,61 +32,27 @@ const MARKS: usize = 10_000;
 // Room for what is written out at once: full before another line might not fit.
 const OUT: usize = 131_072;
 
-// A file as it was read: so many bytes of it came, or it can't be opened or read.
-#[derive(Clone, Copy)]
-enum Loaded {
-    Bytes(usize),
-    Nothing,
-}
-
-// Reads a file that is open until it ends or the buffer is full.
-fn read_whole(file: &mut impl Read, buf: &mut [u8]) -> Loaded {
+// Reads a file that is open until it ends or the buffer is full: how many bytes came, if it can be read.
+fn read_whole(file: &mut impl Read, buf: &mut [u8]) -> Option<usize>
+    ensures { IfSome result (λ n. n ≤ length buf.new) }
+{
     let mut done: usize = 0;
     while done < buf.len() {
-        match file.read(&mut buf[done..]) {
-            Ok(got) => {
-                if got == 0 {
-                    return Loaded::Bytes(done);
-                }
-                done += got;
-            }
-            Err(_) => {
-                return Loaded::Nothing;
-            }
+        let got = file.read(&mut buf[done..]).ok()?;
+        if got == 0 {
+            return Some(done);
         }
+        done += got;
     }
-    Loaded::Bytes(done)
+    Some(done)
 }
 
-fn load(rt: &impl Files, path: &str, buf: &mut [u8]) -> Loaded {
-    match fs::open(rt, path) {
-        Ok(mut file) => read_whole(&mut file, buf),
-        Err(_) => Loaded::Nothing,
-    }
-}
-
-fn is_missing(l: Loaded) -> bool {
-    match l {
-        Loaded::Bytes(_) => false,
-        Loaded::Nothing => true,
-    }
-}
-
-fn is_long(l: Loaded) -> bool {
-    match l {
-        Loaded::Bytes(n) => n > MOST,
-        Loaded::Nothing => false,
-    }
-}
-
-// How many bytes came, of a file that is not too long.
-fn size_of(l: Loaded) -> usize
-    ensures { result ≤ 65536 }
+// The same of a file that may not be there.
+fn load(rt: &impl Files, path: &str, buf: &mut [u8]) -> Option<usize>
+    ensures { IfSome result (λ n. n ≤ length buf.new) }
 {
-    match l {
-        Loaded::Bytes(n) => { if n <= MOST { n } else { MOST } }
-        Loaded::Nothing => 0,
-    }
+    let mut file = fs::open(rt, path).ok()?;
+    read_whole(&mut file, buf)
 }
 
 // Writes all of it, or says on standard error why not.
@@ -101,24 +66,19 @@ fn write(rt: &(impl Print + Eprint), bytes: &[u8]) -> bool {
     }
 }
 
-// Where the buffer is filled on: behind what it holds while another line fits, or from the start once that is written out.
-#[derive(Clone, Copy)]
-enum Space {
-    From(usize),
-    Closed,
-}
-
-fn make_space(rt: &(impl Print + Eprint), out: &[u8], end: usize) -> Space
+// Where the buffer is filled on: behind what it holds while another line fits, or from the start once that is written out; nowhere where it
+// can't be written.
+fn make_space(rt: &(impl Print + Eprint), out: &[u8], end: usize) -> Option<usize>
     requires { (end ≤ length out.now) × (line_room ≤ length out.now) }
-    ensures { Spacious (length out.now) result }
+    ensures { IfSome result (λ at. at + line_room ≤ length out.now) }
 {
     if out.len() - end >= lines::LINE_ROOM {
-        return Space::From(end);
+        return Some(end);
     }
     if write(rt, &out[..end]) {
-        return Space::From(0);
+        return Some(0);
     }
-    Space::Closed
+    None
 }
 
 // Lists the data by a table that was tested.
@@ -146,11 +106,11 @@ fn list_all(
     loop {
         match listing::list_on(powers, t, h, d, w, p, list, scratch, out, at) {
             Turn::On { place, end } => match make_space(rt, out, end) {
-                Space::From(free) => {
+                Some(free) => {
                     p = place;
                     at = free;
                 }
-                Space::Closed => {
+                None => {
                     return;
                 }
             },
@@ -212,15 +172,13 @@ fn main(rt: HostRuntime) {
     let mut asc = [0u8; ROOM];
     let a = load(&rt, "survey.sss", &mut sss);
     let b = load(&rt, "survey.asc", &mut asc);
-    if is_missing(a) | is_missing(b) {
+    let (Some(n), Some(m)) = (a, b) else {
         write(&rt, b"no file\n");
         return;
-    }
-    if is_long(a) | is_long(b) {
+    };
+    if (MOST < n) | (MOST < m) {
         write(&rt, b"too long\n");
         return;
     }
-    let n = size_of(a);
-    let m = size_of(b);
     list_files(&rt, &sss[..n], &asc[..m]);
 }

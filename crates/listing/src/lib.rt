@@ -103,16 +103,17 @@ pub fn list_rows(
     requires n_bound { (n < 10 ^ 16) × (h.length ≤ length bytes.now) × (at + line_room ≤ length out.old) }
     ensures { Rows t.now n bytes.now i out.old at out.new result }
 {
-    let mut row = i;
     let mut end = at;
-    while row < h.rows {
+    for row in i..h.rows {
         if out.len() - end < lines::LINE_ROOM {
             return Listed { row, end };
         }
         end = list_row(powers, t, h, n, row, bytes, list, out, end);
-        row += 1;
     }
-    Listed { row, end }
+    Listed {
+        row: i.max(h.rows),
+        end,
+    }
 }
 
 // The ident of row i, 0 where there is no such row.

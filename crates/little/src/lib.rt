@@ -7,23 +7,15 @@ ghost use Rattle.std.specs.Float.Ieee.{is_nan, nan_bits, of_bits, to_bits};
 ghost use Rattle.little.specs.rule.Bytes.{little_bytes, put_at};
 ghost use Rattle.little.specs.Bytes.{number_at};
 
-fn low(n: u64) -> u8
-    ensures { result ≡ n % 256 }
-{
-    (n % 256) as u8
-}
-
 // The width lowest bytes of n, the lowest first.
 pub fn put_number(out: &mut [u8], at: usize, n: u64, width: usize)
     requires { at + width ≤ length out.old }
     ensures { out.new ≡ put_at out.old at (little_bytes width n) }
 {
     let mut left = n;
-    let mut i = 0;
-    while i < width {
-        out[at + i] = low(left);
+    for i in 0..width {
+        out[at + i] = (left % 256) as u8;
         left = left / 256;
-        i += 1;
     }
 }
 
@@ -31,7 +23,7 @@ pub fn put_u32(out: &mut [u8], at: usize, n: u32)
     requires { at + 4 ≤ length out.old }
     ensures { out.new ≡ put_at out.old at (little_bytes 4 n) }
 {
-    put_number(out, at, n as u64, 4);
+    put_number(out, at, u64::from(n), 4);
 }
 
 pub fn put_u64(out: &mut [u8], at: usize, n: u64)
@@ -50,12 +42,6 @@ pub fn put_f64(out: &mut [u8], at: usize, x: f64)
     put_number(out, at, f64::to_bits(x), 8);
 }
 
-fn wide(b: u8) -> u64
-    ensures { result ≡ b }
-{
-    b as u64
-}
-
 // The number that width bytes say, the lowest first.
 pub fn get_number(s: &[u8], at: usize, width: usize) -> u64
     requires width_in_bounds { at + width ≤ length s.now }
@@ -63,10 +49,8 @@ pub fn get_number(s: &[u8], at: usize, width: usize) -> u64
     ensures { result ≡ number_at width at s.now }
 {
     let mut n = 0;
-    let mut i = width;
-    while 0 < i {
-        i -= 1;
-        n = n * 256 + wide(s[at + i]);
+    for i in (0..width).rev() {
+        n = n * 256 + u64::from(s[at + i]);
     }
     n
 }

@@ -1,6 +1,6 @@
 -- What holds of each byte of a stretch.
-use Rattle.std.specs.Prelude.{◌≡◌, refl, true, not, ◌&&◌, List, ◌⊎◌, ℕ, zero, suc, ◌+◌, ◌-◌, ◌≤◌, ◌<◌, length, get_or, eqb, leb}
-use Rattle.std.proofs.Common.{sym, ap, ◌∙◌, ⊎_elim, arith, leb-true}
+use Rattle.std.specs.Prelude.{◌≡◌, true, not, ◌&&◌, List, ℕ, zero, suc, ◌+◌, ◌-◌, ◌≤◌, ◌<◌, length, get_or, eqb, leb}
+use Rattle.std.proofs.Common.{◌∙◌, ⊎_elim, arith, leb-true}
 use Rattle.std.proofs.lemmas.Bool.{eqb-false, not-true}
 use Rattle.below.specs.Below.{lt_or_le, and_left, and_right}
 use Rattle.scan.specs.rule.Number.{is_value}

@@ -1,6 +1,6 @@
 -- Numbers that stand just as they are to be written: digits side by side, and a byte behind them that is of no number.
 use Rattle.std.specs.Prelude.{◌≡◌, refl, true, false, List, [], ◌∷◌, ℕ, ◌+◌, ◌-◌, ◌≤◌, ◌<◌, length, get_or}
-use Rattle.std.proofs.Common.{sym, ap, ◌∙◌, arith}
+use Rattle.std.proofs.Common.{◌∙◌, arith}
 use Rattle.scan.specs.rule.Text.{text}
 use Rattle.scan.specs.rule.Number.{is_value}
 use Rattle.scan.specs.Number.{digits_from}
@@ -15,7 +15,7 @@ use Rattle.steps.specs.Step.{span, number_in, number_span}
 use Rattle.looks.specs.declared.Pair.{Pair}
 use Rattle.looks.specs.Plain.{Plain}
 use Rattle.looks.specs.Stand.{Stands, stands_end, stands_at, stands_first}
-use Rattle.looks.specs.Each.{Each, Kept, each_as, kept_plain}
+use Rattle.looks.specs.Each.{Each, each_as, kept_plain}
 
 pub record DigitAt (d : List ℕ) (j : ℕ) : Type 0 where
   pub within : j < length d

@@ -1,12 +1,11 @@
 -- A stretch without a dropped byte: its kept bytes are all of them.
-use Rattle.std.specs.Prelude.{◌≡◌, refl, Bool, true, false, cond, List, [], ◌∷◌, ◌++◌, ℕ, zero, suc, ◌+◌, ◌-◌, ◌≤◌, ◌<◌, eqb, length}
+use Rattle.std.specs.Prelude.{◌≡◌, refl, Bool, true, false, cond, List, [], ◌∷◌, ℕ, zero, suc, ◌+◌, ◌-◌, ◌≤◌, ◌<◌, eqb, length}
 use Rattle.std.specs.Prelude.{get_or, take, drop}
-use Rattle.std.proofs.Common.{sym, ap, subst, ◌∙◌, arith, length-drop, length-take-le, get_or-take, get_or-drop, ltb-false, ne_eqb, le-leb}
+use Rattle.std.proofs.Common.{sym, ap, subst, arith, length-drop, length-take-le, get_or-take, get_or-drop, ltb-false, ne_eqb, le-leb}
 use Rattle.std.proofs.lemmas.Bool.{lt-leb}
 use Rattle.ascii.specs.rule.Class.{class_of}
-use Rattle.scan.specs.rule.Text.{Text, stop, sign, kept, text}
+use Rattle.scan.specs.rule.Text.{sign, kept, text}
 use Rattle.scan.proofs.Texts.{kept_byte}
-use Rattle.lows.specs.rule.Lows.{low_at}
 use Rattle.lows.specs.Lows.{Clear}
 use Rattle.clean_text.specs.rule.Span.{up_to, span_of}
 

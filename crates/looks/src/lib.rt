@@ -37,10 +37,8 @@ fn same_at(d: &[u8], at: usize, w: &[u8]) -> bool
     ensures { result ≡ true → Stands d.now at w.now (at + length w.now) }
 {
     let mut same = true;
-    let mut i: usize = 0;
-    while i < w.len() {
-        same = same & (d[at + i] == w[i]);
-        i += 1;
+    for (i, x) in w.iter().enumerate() {
+        same = same & (d[at + i] == *x);
     }
     same
 }
@@ -88,11 +86,9 @@ fn eight_on(d: &[u8], i: usize) -> bool
     ensures { result ≡ true → Each (On d.now) i (i + 8) }
 {
     let mut on = true;
-    let mut k: usize = 0;
-    while k < 8 {
+    for k in 0..8 {
         let b = d[i + k];
         on = on & ((b != 34) & ((b != 123) & (32 <= b)));
-        k += 1;
     }
     on
 }
@@ -106,6 +102,7 @@ fn text_far(d: &[u8], from: usize) -> usize
     }
     let last = d.len() - 8;
     let mut i = from;
+    // A hand-counted loop: the place where the eights stop is the answer.
     while i <= last {
         if eight_on(d, i) {
             i += 8;
@@ -121,13 +118,10 @@ fn text_near(d: &[u8], i: usize) -> usize
     requires { i + 8 ≤ length d.now }
     ensures { Each (On d.now) i result }
 {
-    let mut k: usize = 0;
-    while k < 8 {
-        let j = i + k;
+    for j in i..i + 8 {
         if !goes_on(d[j]) {
             return j;
         }
-        k += 1;
     }
     i + 8
 }
@@ -136,15 +130,12 @@ fn text_near(d: &[u8], i: usize) -> usize
 fn text_last(d: &[u8], from: usize) -> usize
     ensures { Each (On d.now) from result }
 {
-    let mut i = from;
-    while i < d.len() {
-        if goes_on(d[i]) {
-            i += 1;
-        } else {
+    for i in from..d.len() {
+        if !goes_on(d[i]) {
             return i;
         }
     }
-    i
+    from.max(d.len())
 }
 
 // The place where a text does not go on.
@@ -222,9 +213,8 @@ fn special_end(d: &[u8], a: usize) -> usize
 fn figures_at(d: &[u8], at: usize) -> Lead
     ensures { Led d.now at result.end result.size }
 {
-    let mut i = at;
     let mut v: u64 = 0;
-    while i < d.len() {
+    for i in at..d.len() {
         let b = d[i];
         if b < 48 {
             return Lead { size: v, end: i };
@@ -236,9 +226,11 @@ fn figures_at(d: &[u8], at: usize) -> Lead
             return Lead { size: v, end: i };
         }
         v = v * 10 + ((b as u64) - 48);
-        i += 1;
     }
-    Lead { size: v, end: i }
+    Lead {
+        size: v,
+        end: at.max(d.len()),
+    }
 }
 
 // Whether a kept byte stands at a place that is of no number: a space, or one above the digits.
@@ -367,15 +359,12 @@ fn value_to(classes: &[u8; 256], d: &[u8], from: usize) -> usize
     requires { Classes classes.now }
     ensures { Each (ValueAt d.now) from result }
 {
-    let mut i = from;
-    while i < d.len() {
-        if scan::of_value(classes, d[i]) {
-            i += 1;
-        } else {
+    for i in from..d.len() {
+        if !scan::of_value(classes, d[i]) {
             return i;
         }
     }
-    i
+    from.max(d.len())
 }
 
 // Where a value ends, behind which a string opens; else 0.

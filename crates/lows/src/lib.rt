@@ -5,43 +5,29 @@
 ghost use Rattle.std.specs.Prelude.{◌≡◌, true, ◌+◌, ◌≤◌, length};
 ghost use Rattle.lows.specs.Lows.{low_among, Clear};
 
-// Is one of the sixteen bytes from i on below 32? Nothing leaves the loop early: that lets the compiler look at all of them at once.
-fn low_among(s: &[u8], i: usize) -> bool
-    requires { i + 16 ≤ length s.now }
-    ensures { result ≡ low_among s.now i 16 }
+// Is one of the N bytes from i on below 32? Nothing leaves the loop early: that lets the compiler look at all of them at once.
+fn low_among<const N: usize>(s: &[u8], i: usize) -> bool
+    requires { i + N ≤ length s.now }
+    ensures { result ≡ low_among s.now i N }
 {
     let mut low = false;
-    let mut k: usize = 0;
-    while k < 16 {
+    for k in 0..N {
         low = low | (s[i + k] < 32);
-        k += 1;
     }
     low
 }
 
-// The same for sixty-four: long records are mostly these.
-fn low_among_many(s: &[u8], i: usize) -> bool
-    requires { i + 64 ≤ length s.now }
-    ensures { result ≡ low_among s.now i 64 }
-{
-    let mut low = false;
-    let mut k: usize = 0;
-    while k < 64 {
-        low = low | (s[i + k] < 32);
-        k += 1;
-    }
-    low
-}
-
-// A place from `from` on with no byte below 32 before it: less than sixty-four bytes before the end, or before the first such byte.
+// A place from `from` on with no byte below 32 before it: less than sixty-four bytes before the end, or before the first such byte. Long
+// records are mostly gone through here.
 fn plain_far(s: &[u8], from: usize) -> usize
     requires { from ≤ length s.now }
     ensures { Clear s.now from result }
 {
     let n = s.len();
     let mut i = from;
+    // No `for`: where the steps stop is the answer.
     while n - i >= 64 {
-        if low_among_many(s, i) {
+        if low_among::<64>(s, i) {
             return i;
         }
         i += 64;
@@ -60,14 +46,15 @@ pub fn plain_to(s: &[u8], from: usize) -> usize
     }
     let last = n - 16;
     let mut i = plain_far(s, from);
+    // No `for`: where the steps stop is the answer.
     while i <= last {
-        if low_among(s, i) {
+        if low_among::<16>(s, i) {
             return i;
         }
         i += 16;
     }
     // What is left is among the last sixteen.
-    if low_among(s, last) {
+    if low_among::<16>(s, last) {
         return i;
     }
     n
@@ -78,12 +65,11 @@ pub fn all_plain(s: &[u8]) -> bool
     ensures { result ≡ true → Clear s.now 0 (length s.now) }
 {
     let n = s.len();
-    let mut i = if n < 16 { 0 } else { plain_to(s, 0) };
-    while i < n {
+    let from = if n < 16 { 0 } else { plain_to(s, 0) };
+    for i in from..n {
         if s[i] < 32 {
             return false;
         }
-        i += 1;
     }
     true
 }
@@ -95,15 +81,13 @@ pub fn plain_short(s: &[u8], from: usize, n: usize) -> bool
 {
     let last = from + (n - 16);
     let mut i = from;
+    // No `for`: a step_by was tried, and takes thirteen instructions a turn for ten, as it asks twice whether it is at the end.
     while i < last {
-        if low_among(s, i) {
+        if low_among::<16>(s, i) {
             return false;
         }
         i += 16;
     }
     // What is left is among the last sixteen.
-    if low_among(s, last) {
-        return false;
-    }
-    true
+    !low_among::<16>(s, last)
 }

@@ -8,13 +8,13 @@ use native.Mathlib.Omega.{arith}
 use lib.Dec.{ltb, leb, eqb}
 use lib.ListN.{length, drop, length-append}
 use borrow.Author.Tests.{eqb-true, ne_eqb, ltb-true, leb-true, le-leb, lt-leb}
+use Rattle.std.proofs.Common.{Option, Some, None}
 use Rattle.below.specs.Below.{and_right, holds_not}
 use Rattle.utf.specs.rule.Chars.{legal_character}
 use Rattle.markup.specs.rule.Bytes.{is_digit, is_hex, is_name, starts_name, of_kind, run_of, bytes_while, rest_of, stands}
 use Rattle.markup.specs.rule.Reference.{reference_number, held_below, digit_kind, closed_reference, named_character, numbered_of}
 use Rattle.markup.specs.rule.Reference.{reference_of}
 use Rattle.markup.specs.rule.Grammar.{Each, no_more, each, ReferenceDigits, digits, Ref, lt, gt, amp, apos, quot, decimal, hex}
-use Rattle.markup.specs.declared.Char.TheVariants.{Is, Bad}
 use Rattle.markup.proofs.Runs.{run_splits, run_long, each_bytes, small}
 use Rattle.markup.proofs.Gaps.{stands_split}
 
@@ -70,7 +70,7 @@ no_semicolon false = refl
 numbered_complete : (h : Bool) (n : ℕ) {s : List ℕ} {c : ℕ} (t : List ℕ) → Each (of_kind (digit_kind h)) s → c ≡ reference_number h 0 s
     → legal_character c
     ≡ true
-    → numbered_of h n (s ++ 59 ∷ t) ≡ Is c (n + length s + 1)
+    → numbered_of h n (s ++ 59 ∷ t) ≡ Some (c, n + length s + 1)
 unfolding numbered_of closed_reference
 numbered_complete h n {s} {c} t e q k =
     let f = of_kind (digit_kind h) in
@@ -86,30 +86,32 @@ first (each e r) = e
 
 decimal_complete : (p : ℕ) {b c : ℕ} {s : List ℕ} (t : List ℕ) → Each (of_kind 2) (b ∷ s) → c ≡ reference_number false 0 (b ∷ s)
     → legal_character c ≡ true
-    → reference_of p (35 ∷ (b ∷ s) ++ 59 ∷ t) ≡ Is c (p + 2 + length (b ∷ s) + 1)
+    → reference_of p (35 ∷ (b ∷ s) ++ 59 ∷ t) ≡ Some (c, p + 2 + length (b ∷ s) + 1)
 unfolding reference_of stands
 decimal_complete p {b} {c} {s} t r q k = rw (ne_eqb b 120 (no_x b (first r))) (numbered_complete false (p + 2) t r q k)
 
 hex_complete : (p : ℕ) {c : ℕ} {s : List ℕ} (t : List ℕ) → Each (of_kind 3) s → c ≡ reference_number true 0 s → legal_character c ≡ true
-    → reference_of p (35 ∷ 120 ∷ s ++ 59 ∷ t) ≡ Is c (p + 3 + length s + 1)
+    → reference_of p (35 ∷ 120 ∷ s ++ 59 ∷ t) ≡ Some (c, p + 3 + length s + 1)
 unfolding reference_of stands
 hex_complete p t r q k = numbered_complete true (p + 3) t r q k
 
-pub reference_complete : (p : ℕ) {u : List ℕ} {c : ℕ} → Ref u c → (t : List ℕ) → reference_of p (u ++ t) ≡ Is c (p + 1 + length u)
+pub reference_complete : (p : ℕ) {u : List ℕ} {c : ℕ} → Ref u c → (t : List ℕ) → reference_of p (u ++ t) ≡ Some (c, p + 1 + length u)
 unfolding reference_of stands named_character closed_reference of_kind run_of rest_of is_name is_digit starts_name legal_character
-reference_complete p lt t = ap (Is 60) (omega arith)
-reference_complete p gt t = ap (Is 62) (omega arith)
-reference_complete p amp t = ap (Is 38) (omega arith)
-reference_complete p apos t = ap (Is 39) (omega arith)
-reference_complete p quot t = ap (Is 34) (omega arith)
+reference_complete p lt t = ap (λ (n : ℕ). Some (60, n)) (omega arith)
+reference_complete p gt t = ap (λ (n : ℕ). Some (62, n)) (omega arith)
+reference_complete p amp t = ap (λ (n : ℕ). Some (38, n)) (omega arith)
+reference_complete p apos t = ap (λ (n : ℕ). Some (39, n)) (omega arith)
+reference_complete p quot t = ap (λ (n : ℕ). Some (34, n)) (omega arith)
 reference_complete p (decimal {c = c} (digits {b} {s} r) q k) t =
     let l = length-append (b ∷ s) (59 ∷ []) in
     let n : p + 2 + length (b ∷ s) + 1 ≡ p + 1 + suc (length ((b ∷ s) ++ 59 ∷ [])) = omega arith in
-    ap (λ (x : List ℕ). reference_of p (35 ∷ x)) (append_assoc (b ∷ s) (59 ∷ []) t) ∙ decimal_complete p t r q k ∙ ap (Is c) n
+    ap (λ (x : List ℕ). reference_of p (35 ∷ x)) (append_assoc (b ∷ s) (59 ∷ []) t) ∙ decimal_complete p t r q k
+    ∙ ap (λ (n : ℕ). Some (c, n)) n
 reference_complete p (hex {c = c} (digits {b} {s} r) q k) t =
     let l = length-append (b ∷ s) (59 ∷ []) in
     let n : p + 3 + length (b ∷ s) + 1 ≡ p + 1 + suc (suc (length ((b ∷ s) ++ 59 ∷ []))) = omega arith in
-    ap (λ (x : List ℕ). reference_of p (35 ∷ 120 ∷ x)) (append_assoc (b ∷ s) (59 ∷ []) t) ∙ hex_complete p t r q k ∙ ap (Is c) n
+    ap (λ (x : List ℕ). reference_of p (35 ∷ 120 ∷ x)) (append_assoc (b ∷ s) (59 ∷ []) t) ∙ hex_complete p t r q k
+    ∙ ap (λ (n : ℕ). Some (c, n)) n
 
 -- ---- sound
 -- from the & at p on a reference that says c stands before n
@@ -127,13 +129,23 @@ record Closed (c c' n n' : ℕ) (r : List ℕ) : Type 0 where
   pub same : c' ≡ c
   pub next : n' ≡ n + 1
 
-closed_is : (n c c' n' : ℕ) (r : List ℕ) → closed_reference n c r ≡ Is c' n' → Closed c c' n n' r
+closed_is : (n c c' n' : ℕ) (r : List ℕ) → closed_reference n c r ≡ Some (c', n') → Closed c c' n n' r
 unfolding closed_reference
 closed_is n c c' n' [] e = let z : ◌≡◌ {A = ℕ} 0 1 = cc in absurd (omega arith)
 closed_is n c c' n' (b ∷ s) e = by (eqb b 59) (legal_character c) refl refl e where
-  by : (q r : Bool) → eqb b 59 ≡ q → legal_character c ≡ r → cond q (cond r (Is c (n + 1)) (Bad)) (Bad) ≡ Is c' n'
+  by : (q r : Bool) → eqb b 59 ≡ q → legal_character c ≡ r → cond {A = Option (ℕ × ℕ)} q (cond r (Some (c, n + 1)) None) None
+      ≡ Some (c', n')
       → Closed c c' n n' (b ∷ s)
-  by true true f g e = let h = eqb-true b 59 f in record { after = s; semicolon = rw h; good = g; same = cc; next = cc }
+  by true true f g e =
+      let h = eqb-true b 59 f in
+      let p : ◌≡◌ {A = ℕ × ℕ} (c, n + 1) (c', n') = cc in
+      record {
+        after = s;
+        semicolon = rw h;
+        good = g;
+        same = ap (λ (k : ℕ × ℕ). k.0) (sym p);
+        next = ap (λ (k : ℕ × ℕ). k.1) (sym p);
+      }
   by true false f g e = let z : ◌≡◌ {A = ℕ} 0 1 = cc in absurd (omega arith)
   by false r f g e = let z : ◌≡◌ {A = ℕ} 0 1 = cc in absurd (omega arith)
 
@@ -146,7 +158,7 @@ record Numbered (h : Bool) (s : List ℕ) (n c' n' : ℕ) : Type 0 where
   pub good : legal_character c' ≡ true
   pub next : n' ≡ n + length figures + 1
 
-numbered_sound : (h : Bool) (n c' n' : ℕ) (s : List ℕ) → numbered_of h n s ≡ Is c' n' → Numbered h s n c' n'
+numbered_sound : (h : Bool) (n c' n' : ℕ) (s : List ℕ) → numbered_of h n s ≡ Some (c', n') → Numbered h s n c' n'
 unfolding numbered_of reference_number
 numbered_sound h n c' n' s e =
     let f = of_kind (digit_kind h) in
@@ -218,7 +230,7 @@ named_which s h =
 
 -- which of them stands says the character and the place behind it
 pub name_reference : (p : ℕ) (s : List ℕ) → (named_character s ≡ 0 → ⊥) → reference_of p s
-    ≡ Is (named_character s) (p + 1 + long_of (named_character s))
+    ≡ Some (named_character s, p + 1 + long_of (named_character s))
 name_reference p s h = let w = named_which s h in
     ap (reference_of p) w.split ∙ reference_complete p w.ref w.after ∙ rw (w.says, w.long)
 
@@ -232,28 +244,29 @@ named_fits s h =
     rw w.says e
 
 -- any other name says no character, whatever ends it
-no_code : (n : ℕ) (s : List ℕ) → closed_reference n 0 s ≡ Bad
+no_code : (n : ℕ) (s : List ℕ) → closed_reference n 0 s ≡ None
 unfolding closed_reference legal_character
 no_code n [] = refl
 no_code n (b ∷ s) = by (eqb b 59) where
-  by : (q : Bool) → cond q (cond (legal_character 0) (Is 0 (n + 1)) Bad) Bad ≡ Bad
+  by : (q : Bool) → cond {A = Option (ℕ × ℕ)} q (cond (legal_character 0) (Some (0, n + 1)) None) None ≡ None
   by true = refl
   by false = refl
 
 pub name_bad : (p : ℕ) (s : List ℕ) → stands (35 ∷ 120 ∷ []) s ≡ false → stands (35 ∷ []) s ≡ false → named_character s ≡ 0
     → reference_of p s
-    ≡ Bad
+    ≡ None
 unfolding reference_of
 name_bad p s f g h = rw (f, g, h) (no_code (run_of (of_kind 1) (p + 1) s) (rest_of (of_kind 1) s))
 
-name_sound : (p c n : ℕ) (s : List ℕ) → reference_of p s ≡ Is c n → Which s → Referred s p c n
+name_sound : (p c n : ℕ) (s : List ℕ) → reference_of p s ≡ Some (c, n) → Which s → Referred s p c n
 name_sound p c n s e w =
-    let x : Is w.code (p + 1 + length w.name) ≡ Is c n = sym (reference_complete p w.ref w.after)
+    let x : ◌≡◌ {A = Option (ℕ × ℕ)} (Some (w.code, p + 1 + length w.name)) (Some (c, n)) = sym (reference_complete p w.ref w.after)
     ∙ ap (reference_of p) (sym w.split) ∙ e in
-    let y : w.code ≡ c = cc in
-    record { bytes = w.name; rest = w.after; ref = rw (← y) w.ref; split = w.split; place = cc }
+    let z : ◌≡◌ {A = ℕ × ℕ} (w.code, p + 1 + length w.name) (c, n) = cc in
+    let y : w.code ≡ c = ap (λ (k : ℕ × ℕ). k.0) z in
+    record { bytes = w.name; rest = w.after; ref = rw (← y) w.ref; split = w.split; place = sym (ap (λ (k : ℕ × ℕ). k.1) z) }
 
-pub reference_sound : (p c n : ℕ) (s : List ℕ) → reference_of p s ≡ Is c n → Referred s p c n
+pub reference_sound : (p c n : ℕ) (s : List ℕ) → reference_of p s ≡ Some (c, n) → Referred s p c n
 unfolding reference_of
 reference_sound p c n s e = by (stands (35 ∷ 120 ∷ []) s) (stands (35 ∷ []) s) refl refl e where
   with_hex : (t : List ℕ) → s ≡ 35 ∷ 120 ∷ t → Numbered true t (p + 3) c n → Referred s p c n
@@ -282,7 +295,7 @@ reference_sound p c n s e = by (stands (35 ∷ 120 ∷ []) s) (stands (35 ∷ []
       → cond q (numbered_of true (p + 3) (drop 2 s))
       (cond r (numbered_of false (p + 2) (drop 1 s))
       (closed_reference (run_of (of_kind 1) (p + 1) s) (named_character s) (rest_of (of_kind 1) s)))
-      ≡ Is c n
+      ≡ Some (c, n)
       → Referred s p c n
   by true r f g e = let x = stands_split (35 ∷ 120 ∷ []) s f in
       with_hex (drop 2 s) (x.1 ∙ ap (λ (t : List ℕ). 35 ∷ 120 ∷ t) (sym (ap (drop 2) x.1)))
@@ -294,5 +307,5 @@ reference_sound p c n s e = by (stands (35 ∷ 120 ∷ []) s) (stands (35 ∷ []
       name_sound p c n s e (named_which s λ z. no_zero (rw z at g))
 
 -- REFERENCE: it says c up to n exactly when what follows the & up to n is one of the five names, or a number of a legal character
-pub reference_exactly : (p c n : ℕ) (s : List ℕ) → (reference_of p s ≡ Is c n) ↔ Referred s p c n
+pub reference_exactly : (p c n : ℕ) (s : List ℕ) → (reference_of p s ≡ Some (c, n)) ↔ Referred s p c n
 reference_exactly p c n s = (reference_sound p c n s, λ r. rw (r.split, r.place) (reference_complete p r.ref r.rest))

@@ -65,15 +65,12 @@ pub fn run(kind: usize, d: &[u8], at: usize) -> usize
     requires { at ≤ length d.now }
     ensures { (result ≡ run_of (of_kind kind) at (drop at d.now)) × (result ≤ length d.now) }
 {
-    let mut i = at;
-    while i < d.len() {
-        if of_kind(kind, d[i]) {
-            i += 1;
-        } else {
+    for i in at..d.len() {
+        if !of_kind(kind, d[i]) {
             return i;
         }
     }
-    i
+    d.len()
 }
 
 // Whether the bytes w stand at a place.
@@ -84,12 +81,10 @@ pub fn is_there(d: &[u8], at: usize, w: &[u8]) -> bool
     if d.len() - at < w.len() {
         return false;
     }
-    let mut i: usize = 0;
-    while i < w.len() {
-        if d[at + i] != w[i] {
+    for (i, b) in w.iter().enumerate() {
+        if d[at + i] != *b {
             return false;
         }
-        i += 1;
     }
     true
 }
@@ -157,40 +152,34 @@ pub fn number(hex: bool, d: &[u8], at: usize) -> Figure
 {
     let kind = digit_kind(hex);
     let mut v = 0;
-    let mut i = at;
-    while i < d.len() {
+    for i in at..d.len() {
         let b = d[i];
-        if of_kind(kind, b) {
-            v = hold(push(hex, v, b));
-            i += 1;
-        } else {
+        if !of_kind(kind, b) {
             return Figure { value: v, next: i };
         }
+        v = hold(push(hex, v, b));
     }
-    Figure { value: v, next: i }
+    Figure {
+        value: v,
+        next: d.len(),
+    }
 }
 
-// A character that a reference says, with the place after it; or that it is bad: 50 at its &.
-#[derive(Clone, Copy)]
-pub enum Char {
-    Is { code: u64, next: usize },
-    Bad,
-}
-
-fn closed(d: &[u8], n: usize, code: u64) -> Char
+// ---- references: the character that one says, with the place after it; none where it is bad: 50 at its &
+fn closed(d: &[u8], n: usize, code: u64) -> Option<(u64, usize)>
     requires { n ≤ length d.now }
     ensures { result ≡ closed_reference n code (drop n d.now) }
 {
     if d.len() <= n {
-        return Char::Bad;
+        return None;
     }
     if d[n] == 59 {
         if utf::is_legal(code) {
-            return Char::Is { code, next: n + 1 };
+            return Some((code, n + 1));
         }
-        return Char::Bad;
+        return None;
     }
-    Char::Bad
+    None
 }
 
 // The character whose name begins with a, or 0.
@@ -246,7 +235,7 @@ fn name_long(code: u64) -> usize
     if code == 38 { 4 } else { 5 }
 }
 
-fn numbered(hex: bool, d: &[u8], n: usize) -> Char
+fn numbered(hex: bool, d: &[u8], n: usize) -> Option<(u64, usize)>
     requires { n ≤ length d.now }
     ensures { result ≡ numbered_of hex n (drop n d.now) }
 {
@@ -255,7 +244,7 @@ fn numbered(hex: bool, d: &[u8], n: usize) -> Char
 }
 
 // The reference whose & stands at a place.
-pub fn reference(d: &[u8], at: usize) -> Char
+pub fn reference(d: &[u8], at: usize) -> Option<(u64, usize)>
     requires { at < length d.now }
     ensures { result ≡ reference_of at (drop (at + 1) d.now) }
 {
@@ -269,10 +258,10 @@ pub fn reference(d: &[u8], at: usize) -> Char
     // a name that is none of the five says no character, whatever ends it
     let code = named(d, from);
     if code == 0 {
-        return Char::Bad;
+        return None;
     }
     let next = from + name_long(code);
-    Char::Is { code, next }
+    Some((code, next))
 }
 
 // The place after what was skipped; or the place that is faulted with 50.
@@ -287,17 +276,15 @@ pub fn comment(bad: bool, d: &[u8], opened: usize, at: usize) -> Skip
     requires { at ≤ length d.now }
     ensures { result ≡ xml_comment bad opened at (drop at d.now) }
 {
-    let mut i = at;
-    while i < d.len() {
+    for i in at..d.len() {
         if two_dashes(d, i) {
             if dashes_close(d, i) {
                 return Skip::Past(i + 3);
             }
             return Skip::Broken(i);
         }
-        i += 1;
     }
-    Skip::Broken(end_fault(bad, i, opened))
+    Skip::Broken(end_fault(bad, d.len(), opened))
 }
 
 fn two_dashes(d: &[u8], at: usize) -> bool
@@ -393,15 +380,12 @@ fn pass_white(d: &[u8], at: usize) -> usize
     if d[at] == 60 {
         return at;
     }
-    let mut i = pass_line(d, at);
-    while i < d.len() {
-        if is_white(d[i]) {
-            i += 1;
-        } else {
+    for i in pass_line(d, at)..d.len() {
+        if !is_white(d[i]) {
             return i;
         }
     }
-    i
+    d.len()
 }
 
 // White space and comments from a place on.

@@ -1,6 +1,6 @@
 -- The records of a sound file: every row is legal in each of them.
 -- Assumes nothing.
-use Rattle.std.specs.Prelude.{◌≡◌, Bool, cond, List, [], ◌∷◌, ℕ, zero, suc, ◌+◌, ◌≤◌, ◌<◌, eqb, leb, ℤ, length}
+use Rattle.std.specs.Prelude.{◌≡◌, Bool, cond, List, [], ◌∷◌, ℕ, zero, suc, ◌+◌, ◌≤◌, ◌<◌, eqb, leb, ℤ, length, Option, Some, None}
 use Rattle.std.proofs.Math.Path.{refl}
 use Rattle.std.proofs.Common.{sym, ap, ◌∙◌, ⊎_elim, eq-or-lt_of_le, arith}
 use Rattle.std.proofs.Math.Bool.{true, false}
@@ -11,8 +11,6 @@ use Rattle.fields.specs.rule.Row.{reading_of}
 use Rattle.sets.specs.rule.Sets.{is_illegal}
 use Rattle.sound.specs.rule.Sound.{well_formed}
 use Rattle.sound.specs.rule.Rows.{rows_of, length_of}
-use Rattle.records.specs.declared.Found.{Found}
-use Rattle.records.specs.declared.Found.TheVariants.{At, Nothing}
 use Rattle.records.specs.rule.First.{first_from, bad_row, row_fault}
 use Rattle.records.specs.rule.Verdict.{refused, row_verdict, byte_verdict, rows_verdict}
 use Rattle.files.specs.rule.File.{sound_with, bad_table, record_verdict, first_length, records_verdict, file_verdict}
@@ -34,25 +32,25 @@ legal_at t v [] k a h i l = absurd (omega arith)
 legal_at t v (r ∷ rs) zero a h i l = a.0 i l
 legal_at t v (r ∷ rs) (suc k) a h i l = legal_at t v rs k a.1 (omega arith) i l
 
-none_found : (f : ℕ → Bool) (n i : ℕ) → first_from f i n ≡ Nothing → (j : ℕ) → i ≤ j → j < i + n → f j ≡ false
+none_found : (f : ℕ → Bool) (n i : ℕ) → first_from f i n ≡ None → (j : ℕ) → i ≤ j → j < i + n → f j ≡ false
 unfolding first_from
 none_found f zero i e j a b = absurd (omega arith)
 none_found f (suc n) i e j a b = go (f i) refl e (λ q. none_found f n (suc i) q)
   where
-    go : (c : Bool) → f i ≡ c → cond c (At i) (first_from f (suc i) n) ≡ Nothing
-        → (first_from f (suc i) n ≡ Nothing → (j : ℕ) → suc i ≤ j → j < suc i + n → f j ≡ false) → f j ≡ false
+    go : (c : Bool) → f i ≡ c → cond c (Some i) (first_from f (suc i) n) ≡ None
+        → (first_from f (suc i) n ≡ None → (j : ℕ) → suc i ≤ j → j < suc i + n → f j ≡ false) → f j ≡ false
     go true q p ih = let z : ◌≡◌ {A = ℕ} 0 1 = cc in absurd (omega arith)
     go false q p ih = ⊎_elim (λ s. ap f (sym s) ∙ q) (λ l. ih p j l (omega arith)) (eq-or-lt_of_le a)
 
 -- a record that was judged sound
 module _ (t : List ℤ) (r : List ℕ) where
-  rows_legal : (b : Found) (f : Found) → first_from (bad_row t (rows_of t) r) 0 (rows_of t) ≡ f
+  rows_legal : (b : Option ℕ) (f : Option ℕ) → first_from (bad_row t (rows_of t) r) 0 (rows_of t) ≡ f
       → is_sound (byte_verdict b (row_verdict (row_fault t (rows_of t) r) f)) ≡ true
       → (i : ℕ) → i < rows_of t → is_illegal (reading_of t (rows_of t) (row_at t i) r) ≡ false
   unfolding byte_verdict row_verdict is_sound
-  rows_legal (At p) f e g = holds_not g refl
-  rows_legal Nothing (At i) e g = holds_not g refl
-  rows_legal Nothing Nothing e g = λ i h. none_found (bad_row t (rows_of t) r) (rows_of t) 0 e i (omega arith) (omega arith)
+  rows_legal (Some p) f e g = holds_not g refl
+  rows_legal None (Some i) e g = holds_not g refl
+  rows_legal None None e g = λ i h. none_found (bad_row t (rows_of t) r) (rows_of t) 0 e i (omega arith) (omega arith)
 
   record_legal : (first : ℕ) → is_sound (record_verdict t first r) ≡ true
       → (i : ℕ) → i < rows_of t → is_illegal (reading_of t (rows_of t) (row_at t i) r) ≡ false

@@ -2,7 +2,7 @@
 // was written. Nothing in memory grows with records or columns. Above it stands the face.
 #![tactic(auto)]
 
-ghost use Rattle.std.specs.Prelude.{◌≡◌, true, cond, [], ℕ, ◌+◌, ◌*◌, ◌≤◌, ◌<◌, ltb, length, get_or};
+ghost use Rattle.std.specs.Prelude.{◌≡◌, true, cond, [], ℕ, ◌+◌, ◌*◌, ◌≤◌, ◌<◌, ltb, length, get_or, IfSome};
 ghost use Rattle.little.specs.rule.Bytes.{put_at};
 ghost use Rattle.cuts.specs.rule.Records.{records_of, length_of_first};
 ghost use Rattle.files.specs.rule.File.{file_said};
@@ -85,20 +85,8 @@ fn step_of(d: &[u8]) -> Step
     }
 }
 
-// What was put of a row: how many records hold a set, and whether the members of all of them are marked.
-#[derive(Clone, Copy)]
-struct Tally {
-    count: u64,
-    near: bool,
-}
-
-fn one_if(b: bool) -> u64
-    ensures { result ≡ cond b 1 0 }
-{
-    if b { 1 } else { 0 }
-}
-
-// The entries of a row in some records, whose marks were made: each record's so many columns behind those of the record before.
+// The entries of a row in some records, whose marks were made: each record's so many columns behind those of the record before. Answers how
+// many records hold a set, where the members of all of them are marked.
 fn put_each(
     powers: &[u64; 16],
     t: &[i64],
@@ -115,7 +103,7 @@ fn put_each(
     out: &mut [u8],
     flags: usize,
     values: usize,
-) -> Tally
+) -> Option<u64>
     requires tens { Tens powers.now × (length list.old ≡ 9999) × (length present.old ≡ length allowed.now) }
     requires marked_row { MarkedRow t.now rows row allowed.now m.gap m.count × ((x : ℕ) → x < m.gap → get_or present.old x 0 ≡ 0) }
     requires steps { Steps d.now s.first s.step p.from p.count
@@ -123,18 +111,18 @@ fn put_each(
     requires columns_bound { (p.count * columns ≤ 16777216) × EachRoom flags values (length out.old) columns m.count p.count }
     ensures { (out.new ≡ put_each (λ x. entries_by row.kind t.now rows row x) columns out.old flags
         values (records_in d.now s.first s.step p.from p.count))
-        × (result.near ≡ true → RowMet (λ x. entries_by row.kind t.now rows row x) m.gap m.count result.count
+        × IfSome result (λ held. RowMet (λ x. entries_by row.kind t.now rows row x) m.gap m.count held
         present.new (records_in d.now s.first s.step p.from p.count)) }
 {
     let first = s.first;
     let step = s.step;
+    let start = p.from;
     let records = p.count;
-    let mut k: usize = 0;
-    let mut from = p.from;
-    let mut n: usize = 0;
     let mut held: u64 = 0;
     let mut near = true;
-    while n < records {
+    for n in 0..records {
+        let k = n * columns;
+        let from = start + n * step;
         let end = from + first;
         let put = columns::put_row(
             powers,
@@ -150,13 +138,10 @@ fn put_each(
             flags + k,
             values + 8 * k,
         );
-        held += one_if(put.there);
+        held += u64::from(put.there);
         near = near & put.near;
-        k += columns;
-        from += step;
-        n += 1;
     }
-    Tally { count: held, near }
+    if near { Some(held) } else { None }
 }
 
 // The mark of the c-th column of a row: those behind its first gap have none.
@@ -200,10 +185,8 @@ fn put_told(out: &mut [u8], at: usize, n: u64, ones: &[u64; 16])
     requires { at + 384 ≤ length out.old }
     ensures { out.new ≡ put_at out.old at (told_from n ones.now 0 16) }
 {
-    let mut j: usize = 0;
-    while j < 16 {
-        matrix::put_summary(out, at + 24 * j, matrix::told(n, ones[j]));
-        j += 1;
+    for (j, one) in ones.iter().enumerate() {
+        matrix::put_summary(out, at + 24 * j, matrix::told(n, *one));
     }
 }
 
@@ -257,12 +240,10 @@ fn put_met(
 {
     let count = m.count;
     let gap = m.gap;
-    let mut k: usize = 0;
-    while k < count {
+    for k in 0..count {
         let mark = mark_of(met, gap, k + 1);
         let s = met_summary(out, mark, n, records, columns, flags + k, values + 8 * k);
         matrix::put_summary(out, at + 24 * k, s);
-        k += 1;
     }
 }
 
@@ -271,7 +252,7 @@ fn put_summaries(
     out: &mut [u8],
     met: &[u8],
     m: Marking,
-    y: Tally,
+    held: Option<u64>,
     records: usize,
     columns: usize,
     at: usize,
@@ -281,13 +262,13 @@ fn put_summaries(
     requires columns_bound { (columns ≤ 16777216) × (m.count ≤ columns) × (at + 24 * m.count ≤ flags) × (flags ≤ values)
         × (at + 24 * m.count ≤ length out.old) × (values ≤ 268435456) }
     requires columns_there { ColumnsThere out.old columns flags values records m.count }
-    requires met_column { y.near ≡ true → (j : ℕ) → j < m.count
-        → MetColumn (column_in out.old columns (flags + j) (values + 8 * j) records) y.count (mark_at m.gap met.now (j + 1)) }
+    requires met_column { IfSome held (λ n. (j : ℕ) → j < m.count
+        → MetColumn (column_in out.old columns (flags + j) (values + 8 * j) records) n (mark_at m.gap met.now (j + 1))) }
     ensures { out.new ≡ put_at out.old at
         (summaries_in out.old columns flags values records m.count) }
 {
-    if y.near {
-        put_met(out, met, m, y.count, records, columns, at, flags, values);
+    if let Some(n) = held {
+        put_met(out, met, m, n, records, columns, at, flags, values);
         return;
     }
     let count = m.count;
@@ -345,11 +326,11 @@ fn put_marked(
 {
     let m = columns::mark_row(t, rows, row, allowed);
     sets::marks::clear(present);
-    let y = put_each(
+    let held = put_each(
         powers, t, rows, row, m, d, s, p, columns, list, allowed, present, out, flags, values,
     );
     if told {
-        put_summaries(out, present, m, y, p.count, columns, at, flags, values);
+        put_summaries(out, present, m, held, p.count, columns, at, flags, values);
     }
     m.count
 }
@@ -440,8 +421,7 @@ fn put_rows(
         (columns_from t.now h.rows 0 h.rows)) }
 {
     let mut k: usize = 0;
-    let mut i: usize = 0;
-    while i < h.rows {
+    for i in 0..h.rows {
         k += put_columns(
             powers,
             t,
@@ -460,7 +440,6 @@ fn put_rows(
             flags + k,
             values + 8 * k,
         );
-        i += 1;
     }
 }
 
@@ -472,13 +451,11 @@ fn more_summaries(out: &mut [u8], records: usize, columns: usize, flags: usize, 
     ensures { out.new ≡ put_at out.old 24
         (extended_in out.old columns flags values records 0 columns) }
 {
-    let mut k: usize = 0;
-    while k < columns {
+    for k in 0..columns {
         let at = 24 + 24 * k;
         let begun = matrix::get_summary(out, at);
         let sum = matrix::column_more(out, begun, flags + k, values + 8 * k, columns, records);
         matrix::put_summary(out, at, sum);
-        k += 1;
     }
 }
 
@@ -536,16 +513,6 @@ fn put_block(
     more_summaries(out, count, columns, flags + k, values + 8 * k);
 }
 
-// The smaller of two numbers.
-fn least(a: usize, b: usize) -> usize
-    ensures { (result ≤ a) × (result ≤ b) × (1 ≤ a → 1 ≤ b → 1 ≤ result) }
-{
-    if a < b {
-        return a;
-    }
-    b
-}
-
 // How many records are put together: all, or, of a table with many rows of few columns, so many that their places stay near.
 fn block_of(rows: usize, columns: usize, records: usize) -> usize
     requires { 1 ≤ columns }
@@ -560,7 +527,7 @@ fn block_of(rows: usize, columns: usize, records: usize) -> usize
     if rows < 64 {
         return records;
     }
-    least(16 + 16_384 / columns, records)
+    records.min(16 + 16_384 / columns)
 }
 
 // The presence bytes and values of all records, and the summaries: block by block, and row by row of the table within a block.
@@ -600,8 +567,9 @@ fn put_records(
         powers, t, h, d, s, p, columns, list, allowed, present, true, out, flags, values,
     );
     let mut n = size;
+    // no `step_by`: of no record a block has none, and its steps are 1 at least
     while n < records {
-        let count = least(size, records - n);
+        let count = size.min(records - n);
         put_block(
             powers, t, h, d, s, n, count, columns, list, allowed, present, out, flags, values,
         );

@@ -6,7 +6,7 @@ use Rattle.std.proofs.Common.{ap, ◌∙◌, inl, inr, ⊎_elim, arith, length-s
 use Rattle.std.proofs.lemmas.List.{length-replicate, get_or-replicate}
 use Rattle.below.specs.Below.{holds_not, lt_or_le}
 use Rattle.little.specs.Bytes.{number_at}
-use Rattle.matrix.specs.Column.{there_here}
+use Rattle.matrix.specs.Column.{there_here, place_next, value_next}
 use Rattle.matrix.specs.Noughts.{all_are, are_at}
 use Rattle.matrix.specs.Ones.{Counted, AllThere, AllFew, AllCounted, AllTold, Held, held_none, held_on, held_off, held_done}
 use Rattle.matrix.specs.Ones.{zeros_counted}
@@ -16,9 +16,6 @@ pub record Partly (s : List ℕ) (value : ℕ) (before after : List ℕ) (j : �
   pub long : length after ≡ length before
   pub done : (i : ℕ) → i < j → Counted (number_at 8 (value + 8 * i) s) (get_or before i 0) (get_or after i 0)
   pub rest : (i : ℕ) → j ≤ i → get_or after i 0 ≡ get_or before i 0
-
-pub partly_none : (s : List ℕ) (value : ℕ) (before : List ℕ) → Partly s value before before 0
-partly_none s value before = record { long = refl; done = λ i l. absurd (omega arith); rest = λ i l. refl }
 
 last_or : {i j : ℕ} → i < j + 1 → (i < j) ⊎ (i ≡ j)
 last_or {i} {j} h = ⊎_elim (λ l. inl l) (λ l. inr (omega arith)) (lt_or_le i j)
@@ -44,10 +41,6 @@ module _ {s : List ℕ} {value : ℕ} {before after : List ℕ} {j : ℕ} (p : P
 
   pub partly_all : 16 ≤ j → AllCounted s value before after true
   partly_all h = record { long = p.long; at = λ e i l. p.done i (omega arith) }
-
-pub none_counted : {s : List ℕ} {value : ℕ} {before after : List ℕ} {j : ℕ} → Partly s value before after j
-    → AllCounted s value before after false
-none_counted p = record { long = p.long; at = λ e. holds_not e refl }
 
 pub all_zeros_lem : (s : List ℕ) (value : ℕ) (ones : List ℕ) → all_are s value 128 0 ≡ true → AllCounted s value ones ones true
 all_zeros_lem s value ones e = record { long = refl; at = λ q j h. zeros_counted s value j (get_or ones j 0) h e }
@@ -101,3 +94,37 @@ all_told z a = record { at = λ e j h. held_done z (a.at j h) }
 
 pub none_told : (s : List ℕ) (step flags values records n : ℕ) (ones : List ℕ) → AllTold s step flags values records false n ones
 none_told s step flags values records n ones = record { at = λ e. holds_not e refl }
+
+-- ---- from record k on
+abbrev pub HeldFrom : List ℕ → ℕ → ℕ → ℕ → ℕ → ℕ → ℕ → List ℕ → Type 0
+HeldFrom s step flags values records k n ones =
+    AllHeld s step flags values records (flags + step * k) (values + 8 * (step * k)) (records - k) n ones
+
+pub from_start : (s : List ℕ) (step flags values records : ℕ) → AllThere s step flags values records
+    → HeldFrom s step flags values records 0 0 (replicate 16 0)
+from_start s step flags values records a =
+    let f : flags + step * 0 ≡ flags = omega arith in
+    let v : values + 8 * (step * 0) ≡ values = omega arith in
+    let r : records - 0 ≡ records = omega arith in
+    rw (f, v, r) (all_none s step flags values records a)
+
+module _ {s : List ℕ} {step flags values records k n : ℕ} {ones : List ℕ} (some : k < records)
+    (a : HeldFrom s step flags values records k n ones) where
+  left : 0 < records - k
+  left = omega arith
+
+  left_next : records - (k + 1) ≡ records - k - 1
+  left_next = omega arith
+
+  pub from_here : (flags + step * k + 16 ≤ length s) × (values + 8 * (step * k) + 128 ≤ length s)
+  from_here = all_here left a
+
+  pub from_few : n ≤ k → records < 18446744073709551616 → AllFew ones
+  from_few b l = all_few left a (omega arith) l
+
+  pub from_on : {after : List ℕ} {r : Bool} → all_are s (flags + step * k) 16 1 ≡ true
+      → AllCounted s (values + 8 * (step * k)) ones after r → r ≡ true → HeldFrom s step flags values records (k + 1) (n + 1) after
+  from_on e c q = rw (place_next flags step k, value_next values step k, left_next) (all_on left a e c q)
+
+  pub from_off : all_are s (flags + step * k) 16 0 ≡ true → HeldFrom s step flags values records (k + 1) n ones
+  from_off e = rw (place_next flags step k, value_next values step k, left_next) (all_off left a e)

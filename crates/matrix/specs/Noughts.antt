@@ -1,15 +1,15 @@
 -- Bytes that are all alike, and entries of value zero, sixteen at once.
 -- Assumes nothing.
-use Rattle.std.specs.Prelude.{◌≡◌, refl, Bool, true, false, cond, ◌&&◌, List, [], ◌∷◌, ◌++◌, ℕ, zero, suc, ◌+◌, ◌-◌, ◌*◌, ◌≤◌, ◌<◌, eqb}
+use Rattle.std.specs.Prelude.{◌≡◌, refl, Bool, true, false, cond, ◌&&◌, List, [], ◌∷◌, ℕ, zero, suc, ◌+◌, ◌-◌, ◌*◌, ◌≤◌, ◌<◌, eqb}
 use Rattle.std.specs.Prelude.{pos, length, get_or, set}
 use Rattle.std.proofs.Common.{sym, ap, ◌∙◌, arith, eqb-true}
+use Rattle.std.specs.Int.{from_bool}
 use Rattle.std.specs.Float.Ieee.{div, of_int, to_bits}
 use Rattle.below.specs.rule.Below.{all_below}
 use Rattle.below.specs.Below.{all_none, all_next, all_at_lem}
 use Rattle.quotient.specs.rule.Value.{value_of}
 use Rattle.little.specs.rule.Bytes.{little_bytes, put_at}
-use Rattle.little.specs.Bytes.{bytes_count}
-use Rattle.little.specs.Runs.{put_next, put_more}
+use Rattle.little.specs.Runs.{put_more}
 use Rattle.matrix.specs.declared.Entry.{Entry}
 use Rattle.matrix.specs.declared.Entry.TheVariants.{Absent, Scaled}
 use Rattle.matrix.specs.rule.Entry.{presence_of, float_of, flags_of, value_bytes}
@@ -18,14 +18,6 @@ use Rattle.matrix.specs.Put.{put_entries}
 -- the n bytes from i on are all b
 unfoldable pub all_are : List ℕ → ℕ → ℕ → ℕ → Bool
 all_are s i n b = all_below n (λ k. eqb (get_or s (i + k) 0) b)
-
--- eight presence bytes
-unfoldable pub presences : Bool → ℕ
-presences there = cond there 72340172838076673 0
-
--- an entry's presence byte
-unfoldable pub presence_byte : Bool → ℕ
-presence_byte there = cond there 1 0
 
 -- n entries of value zero, present or not
 unfoldable pub noughts : Bool → ℕ → List Entry
@@ -50,39 +42,19 @@ unfolding noughts
 length_noughts there zero = refl
 length_noughts there (suc n) = ap suc (length_noughts there n)
 
-flags_are : (there : Bool) → little_bytes 8 (presences there) ++ little_bytes 8 (presences there) ≡ flags_of (noughts there 16)
-unfolding little_bytes presences flags_of noughts presence_of
-flags_are true = refl
-flags_are false = refl
-
-values_are : (there : Bool) → little_bytes 128 0 ≡ value_bytes (noughts there 16)
-unfolding little_bytes value_bytes noughts float_of value_of div of_int to_bits
-values_are true = refl
-values_are false = refl
-
-pub noughts_put : (r : List ℕ) (f v : ℕ) (there : Bool)
-    → put_at (put_at (put_at r f (little_bytes 8 (presences there))) (f + 8) (little_bytes 8 (presences there))) v (little_bytes 128 0)
-    ≡ put_entries r f v (noughts there 16)
-noughts_put r f v there =
-    let p = little_bytes 8 (presences there) in
-    ap (λ (x : List ℕ). put_at x v (little_bytes 128 0))
-    (put_next r f p (f + 8) p (ap (λ (n : ℕ). f + n) (bytes_count 8 (presences there))))
-    ∙ ap (λ (x : List ℕ). put_at (put_at r f x) v (little_bytes 128 0)) (flags_are there)
-    ∙ ap (λ (x : List ℕ). put_at (put_at r f (flags_of (noughts there 16))) v x) (values_are there)
-
 -- ---- n of them, byte by byte
-flags_on : (there : Bool) (n : ℕ) → flags_of (noughts there (suc n)) ≡ presence_byte there ∷ flags_of (noughts there n)
-unfolding flags_of noughts presence_of presence_byte
+flags_on : (there : Bool) (n : ℕ) → flags_of (noughts there (suc n)) ≡ from_bool there ∷ flags_of (noughts there n)
+unfolding flags_of noughts presence_of
 flags_on true n = refl
 flags_on false n = refl
 
 pub flags_next : (r : List ℕ) (f i n : ℕ) (there : Bool) → i < n
-    → put_at (set r (f + i) (presence_byte there)) (f + (i + 1)) (flags_of (noughts there (n - (i + 1))))
+    → put_at (set r (f + i) (from_bool there)) (f + (i + 1)) (flags_of (noughts there (n - (i + 1))))
     ≡ put_at r (f + i) (flags_of (noughts there (n - i)))
 flags_next r f i n there h =
     let d : n - i ≡ suc (n - (i + 1)) = omega arith in
     let w : f + (i + 1) ≡ f + i + 1 = omega arith in
-    rw (d, w, flags_on there (n - (i + 1))) (put_more r (f + i) (presence_byte there) (flags_of (noughts there (n - (i + 1)))))
+    rw (d, w, flags_on there (n - (i + 1))) (put_more r (f + i) (from_bool there) (flags_of (noughts there (n - (i + 1)))))
 
 pub flags_end : (r : List ℕ) (f i n : ℕ) (there : Bool) → n ≤ i → put_at r f (flags_of (noughts there (n - i))) ≡ r
 unfolding flags_of noughts put_at

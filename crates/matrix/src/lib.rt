@@ -14,7 +14,7 @@ ghost use Rattle.matrix.specs.rule.Bytes.{total_of, header_bytes, summary_bytes}
 ghost use Rattle.matrix.specs.Entry.{EntryGood, cell_of};
 ghost use Rattle.matrix.specs.Column.{ColumnThere, column_in};
 ghost use Rattle.matrix.specs.Back.{summary_at};
-ghost use Rattle.matrix.specs.Noughts.{all_are, presences, presence_byte, noughts};
+ghost use Rattle.matrix.specs.Noughts.{all_are, noughts};
 ghost use Rattle.matrix.specs.Told.{any_less};
 ghost use Rattle.matrix.specs.Ones.{AllThere, AllFew, AllCounted, AllTold, told_of};
 
@@ -68,19 +68,10 @@ pub fn all_are(s: &[u8], i: usize, n: usize, b: u8) -> bool
     ensures { result ≡ all_are s.now i n b }
 {
     let mut all = true;
-    let mut k: usize = 0;
-    while k < n {
+    for k in 0..n {
         all = all & (s[i + k] == b);
-        k += 1;
     }
     all
-}
-
-// Eight presence bytes as one number.
-fn presence_of(there: bool) -> u64
-    ensures { result ≡ presences there }
-{
-    if there { 72_340_172_838_076_673 } else { 0 }
 }
 
 // Sixteen entries of value zero at once, present or not.
@@ -88,17 +79,7 @@ pub fn put_noughts(out: &mut [u8], flags: usize, values: usize, there: bool)
     requires { (flags + 16 ≤ values) × (values + 128 ≤ length out.old) }
     ensures { out.new ≡ put_entries out.old flags values (noughts there 16) }
 {
-    let present = presence_of(there);
-    little::put_u64(out, flags, present);
-    little::put_u64(out, flags + 8, present);
-    little::put_number(out, values, 0, 128);
-}
-
-// An entry's presence byte.
-fn presence_byte(there: bool) -> u8
-    ensures { result ≡ presence_byte there }
-{
-    if there { 1 } else { 0 }
+    put_many(out, flags, values, 16, there);
 }
 
 // The presence bytes of n entries that are alike.
@@ -106,11 +87,9 @@ fn put_presence(out: &mut [u8], flags: usize, n: usize, there: bool)
     requires { flags + n ≤ length out.old }
     ensures { out.new ≡ put_at out.old flags (flags_of (noughts there n)) }
 {
-    let b = presence_byte(there);
-    let mut i: usize = 0;
-    while i < n {
+    let b = u8::from(there);
+    for i in 0..n {
         out[flags + i] = b;
-        i += 1;
     }
 }
 
@@ -176,17 +155,9 @@ pub fn column_more(
     ensures { result ≡ extended_by begun (column_in s.now step flags values records) }
 {
     let mut sum = begun;
-    let mut flag = flags;
-    let mut value = values;
-    let mut left = records;
-    while 0 < left {
-        let f = flag;
-        let v = value;
-        flag += step;
-        value += 8 * step;
-        left -= 1;
-        if s[f] == 1 {
-            sum = summary::extend(sum, little::get_f64(s, v));
+    for k in 0..records {
+        if s[flags + step * k] == 1 {
+            sum = summary::extend(sum, little::get_f64(s, values + 8 * (step * k)));
         }
     }
     sum
@@ -213,19 +184,9 @@ pub fn has_less(s: &[u8], flags: usize, values: usize, step: usize, records: usi
     requires column_there { ColumnThere s.now step flags values records }
     ensures { result ≡ any_less (column_in s.now step flags values records) }
 {
-    let mut flag = flags;
-    let mut value = values;
-    let mut left = records;
-    while 0 < left {
-        let at = flag;
-        let v = value;
-        flag += step;
-        value += 8 * step;
-        left -= 1;
-        if s[at] == 1 {
-            if little::get_f64(s, v) < 1.0 {
-                return true;
-            }
+    for k in 0..records {
+        if s[flags + step * k] == 1 && little::get_f64(s, values + 8 * (step * k)) < 1.0 {
+            return true;
         }
     }
     false
@@ -246,13 +207,10 @@ fn count_values(s: &[u8], value: usize, ones: &mut [u64; 16]) -> bool
     requires all_few { AllFew ones.old }
     ensures { AllCounted s.now value ones.old ones.new result }
 {
-    let mut j: usize = 0;
-    while j < 16 {
-        let i = j;
-        j += 1;
-        let bits = little::get_u64(s, value + 8 * i);
+    for j in 0..16 {
+        let bits = little::get_u64(s, value + 8 * j);
         if bits == ONE {
-            ones[i] += 1;
+            ones[j] += 1;
         } else if bits != 0 {
             return false;
         }
@@ -280,17 +238,10 @@ pub fn count_ones(s: &[u8], flags: usize, values: usize, step: usize, records: u
 {
     let mut ones = [0u64; 16];
     let mut n: u64 = 0;
-    let mut flag = flags;
-    let mut value = values;
-    let mut left = records;
-    while 0 < left {
-        let f = flag;
-        let v = value;
-        flag += step;
-        value += 8 * step;
-        left -= 1;
-        if all_are(s, f, 16, 1) {
-            if !count_record(s, v, &mut ones) {
+    for k in 0..records {
+        let flag = flags + step * k;
+        if all_are(s, flag, 16, 1) {
+            if !count_record(s, values + 8 * (step * k), &mut ones) {
                 return Block {
                     full: false,
                     count: n,
@@ -298,7 +249,7 @@ pub fn count_ones(s: &[u8], flags: usize, values: usize, step: usize, records: u
                 };
             }
             n += 1;
-        } else if !all_are(s, f, 16, 0) {
+        } else if !all_are(s, flag, 16, 0) {
             return Block {
                 full: false,
                 count: n,

@@ -1,6 +1,6 @@
 -- A FILE WHOSE LINE ENDS, LENGTHS AND BYTES ARE SOUND is judged with no 30, 31, 22, 23; so is every mended file.
 use Rattle.std.specs.Prelude.{◌≡◌, refl, Bool, true, false, cond, List, [], ◌∷◌, ℕ, zero, suc, ◌+◌, ◌≤◌, ◌<◌, ◌↔◌, ◌⊎◌, eqb, leb, ℤ}
-use Rattle.std.specs.Prelude.{length}
+use Rattle.std.specs.Prelude.{length, Option, Some, None}
 use Rattle.std.proofs.Common.{sym, ap, ◌∙◌, arith, inl, inr, ⊎_elim, eq-eqb, ne_eqb, le-leb, le-ltb, eqb-true, leb-true, ltb-false}
 use Rattle.std.proofs.lemmas.Bool.{eqb-false}
 use Rattle.below.specs.Below.{holds_not}
@@ -11,8 +11,6 @@ use Rattle.sound.specs.rule.Rows.{length_of, rows_of}
 use Rattle.faults.specs.declared.Fault.{Fault}
 use Rattle.records.specs.rule.First.{first_from, bad_row, row_fault}
 use Rattle.records.specs.rule.Verdict.{Verdict, sound, refused, bad_field, row_verdict, byte_verdict, rows_verdict}
-use Rattle.records.specs.declared.Found.{Found}
-use Rattle.records.specs.declared.Found.TheVariants.{At, Nothing}
 use Rattle.files.specs.rule.File.{FileVerdict, bad_table, record_verdict, go_on, first_length, records_verdict, file_verdict}
 use Rattle.mends.specs.rule.Mend.{bytes_in}
 use Rattle.mend_laws.specs.rule.Mended.{NoneLow, nothing, plain, Shaped, all_ended, ended, SoundLines, none_of_three, NoneOfFour}
@@ -24,7 +22,7 @@ plain_at nothing j h = absurd (omega arith)
 plain_at (plain {b} {r} m p) zero h = le-ltb b 32 m
 plain_at (plain m p) (suc j) h = plain_at p j (omega arith)
 
-none_found : (f : ℕ → Bool) (n i : ℕ) → ((j : ℕ) → i ≤ j → j < i + n → f j ≡ false) → first_from f i n ≡ Nothing
+none_found : (f : ℕ → Bool) (n i : ℕ) → ((j : ℕ) → i ≤ j → j < i + n → f j ≡ false) → first_from f i n ≡ None
 unfolding first_from
 none_found f zero i h = refl
 none_found f (suc n) i h = rw (h i (omega arith) (omega arith)) (none_found f n (suc i) (λ j a b. h j (omega arith) (omega arith)))
@@ -34,10 +32,10 @@ data Fielded : Verdict → Type 0 where
   is_sound_lem : Fielded sound
   is_field : {i : ℕ} {x : Fault} → Fielded (bad_field i x)
 
-by_rows : (fault : ℕ → Fault) (x : Found) → Fielded (row_verdict fault x)
+by_rows : (fault : ℕ → Fault) (x : Option ℕ) → Fielded (row_verdict fault x)
 unfolding row_verdict
-by_rows fault (At i) = is_field
-by_rows fault Nothing = is_sound_lem
+by_rows fault (Some i) = is_field
+by_rows fault None = is_sound_lem
 
 fielded : (t : List ℤ) (n : ℕ) {r : List ℕ} → length r ≡ n → length_of t ≤ n → NoneLow r → Fielded (record_verdict t n r)
 unfolding record_verdict rows_verdict byte_verdict
@@ -93,9 +91,9 @@ shaped_none t all_ended = no_more_records
 shaped_none t {n} (ended {r} {rs} l h p s) = judged_by_fields (fielded_none (fielded t n l h p)) (shaped_none t s)
 
 -- where none is found the test fails at each
-is_at : Found → Bool
-is_at (At i) = true
-is_at Nothing = false
+is_at : Option ℕ → Bool
+is_at (Some i) = true
+is_at None = false
 
 from_on : (i j : ℕ) → i ≤ j → (i ≡ j) ⊎ (suc i ≤ j)
 from_on i j h = go (eqb i j) refl
@@ -104,13 +102,13 @@ from_on i j h = go (eqb i j) refl
     go true e = inl (eqb-true i j e)
     go false e = let n = eqb-false i j e in inr (omega arith)
 
-none_at : (f : ℕ → Bool) (n i : ℕ) → first_from f i n ≡ Nothing → (j : ℕ) → i ≤ j → j < i + n → f j ≡ false
+none_at : (f : ℕ → Bool) (n i : ℕ) → first_from f i n ≡ None → (j : ℕ) → i ≤ j → j < i + n → f j ≡ false
 unfolding first_from is_at
 none_at f zero i e j a b = absurd (omega arith)
 none_at f (suc n) i e j a b = go (f i) refl e (λ z g. none_at f n (suc i) z j g (omega arith))
   where
-    go : (q : Bool) → f i ≡ q → cond q (At i) (first_from f (suc i) n) ≡ Nothing
-        → (first_from f (suc i) n ≡ Nothing → suc i ≤ j → f j ≡ false)
+    go : (q : Bool) → f i ≡ q → cond q (Some i) (first_from f (suc i) n) ≡ None
+        → (first_from f (suc i) n ≡ None → suc i ≤ j → f j ≡ false)
         → f j ≡ false
     go true h z rest = holds_not {b = true} refl (ap is_at z)
     go false h z rest = ⊎_elim (λ g. ap f (sym g) ∙ h) (rest z) (from_on i j a)
@@ -119,11 +117,11 @@ plain_of : (r : List ℕ) → ((j : ℕ) → j < length r → low_at r j ≡ fal
 plain_of [] f = nothing
 plain_of (b ∷ r) f = plain (ltb-false b 32 (f 0 (omega arith))) (plain_of r (λ j h. f (suc j) (omega arith)))
 
-bytes_plain : (r : List ℕ) (x : Found) (v : Verdict) → first_from (low_at r) 0 (length r) ≡ x → none_of_three (byte_verdict x v) ≡ true
+bytes_plain : (r : List ℕ) (x : Option ℕ) (v : Verdict) → first_from (low_at r) 0 (length r) ≡ x → none_of_three (byte_verdict x v) ≡ true
     → NoneLow r
 unfolding byte_verdict none_of_three
-bytes_plain r (At p) v e h = holds_not h refl
-bytes_plain r Nothing v e h = plain_of r (λ j l. none_at (low_at r) (length r) 0 e j (omega arith) (omega arith))
+bytes_plain r (Some p) v e h = holds_not h refl
+bytes_plain r None v e h = plain_of r (λ j l. none_at (low_at r) (length r) 0 e j (omega arith) (omega arith))
 
 rows_plain : (t : List ℤ) (v : ℕ) (r : List ℕ) → none_of_three (rows_verdict t v r) ≡ true → NoneLow r
 unfolding rows_verdict

@@ -63,20 +63,6 @@ fn same(e: Terminator, b: Terminator) -> bool
     e.second == b.second
 }
 
-// 1 where the record needs another terminator.
-fn other(ended: bool) -> usize
-    ensures { result ≡ cond ended 0 1 }
-{
-    if ended { 0 } else { 1 }
-}
-
-// 1 where the record is shorter.
-fn shorter(long: usize, width: usize) -> usize
-    ensures { result ≡ cond (ltb long width) 1 0 }
-{
-    if long < width { 1 } else { 0 }
-}
-
 // One record more.
 fn tally(z: Sizes, long: usize, lows: usize, ended: bool) -> Sizes
     requires { (z.short ≤ z.kept) × (z.kept < 9223372036854775808) × (z.others + lows < 18446744073709551614) }
@@ -90,7 +76,7 @@ fn tally(z: Sizes, long: usize, lows: usize, ended: bool) -> Sizes
             others: z.others + 1,
         };
     }
-    let others = z.others + lows + other(ended);
+    let others = z.others + lows + usize::from(!ended);
     if z.width < long {
         return Sizes {
             kept: z.kept + 1,
@@ -99,7 +85,7 @@ fn tally(z: Sizes, long: usize, lows: usize, ended: bool) -> Sizes
             others,
         };
     }
-    let short = z.short + shorter(long, z.width);
+    let short = z.short + usize::from(long < z.width);
     Sizes {
         kept: z.kept + 1,
         width: z.width,
@@ -249,34 +235,20 @@ fn lay_few(d: &[u8], from: usize, stop: usize, out: &mut [u8], at: usize)
     ensures { Stored out.old out.new at (map plain_byte (part d.now from stop))
         (at + (stop - from)) }
 {
-    let mut j = from;
-    let mut o = at;
-    while j < stop {
-        let b = plain(d[j]);
-        out[o] = b;
-        j += 1;
-        o += 1;
+    for j in from..stop {
+        let o = at + (j - from);
+        out[o] = plain(d[j]);
     }
 }
 
-// Sixteen of them, by way of a room of their own: the compiler need not ask whether input and output overlap.
-fn lay_sixteen(d: &[u8], from: usize, out: &mut [u8], at: usize)
-    requires { (from + 16 ≤ length d.now) × (at + 16 ≤ length out.old) }
-    ensures { Stored out.old out.new at (map plain_byte (part d.now from (from + 16))) (at + 16) }
+// N of them, by way of a room of their own: the compiler need not ask whether input and output overlap.
+fn lay_some<const N: usize>(d: &[u8], from: usize, out: &mut [u8], at: usize)
+    requires { (from + N ≤ length d.now) × (at + N ≤ length out.old) }
+    ensures { Stored out.old out.new at (map plain_byte (part d.now from (from + N))) (at + N) }
 {
-    let mut room = [0u8; 16];
-    lay_few(d, from, from + 16, &mut room, 0);
-    runs::copy_in(out, at, &room, 16);
-}
-
-// Sixty-four.
-fn lay_many(d: &[u8], from: usize, out: &mut [u8], at: usize)
-    requires { (from + 64 ≤ length d.now) × (at + 64 ≤ length out.old) }
-    ensures { Stored out.old out.new at (map plain_byte (part d.now from (from + 64))) (at + 64) }
-{
-    let mut room = [0u8; 64];
-    lay_few(d, from, from + 64, &mut room, 0);
-    runs::copy_in(out, at, &room, 64);
+    let mut room = [0u8; N];
+    lay_few(d, from, from + N, &mut room, 0);
+    runs::copy_in(out, at, &room, N);
 }
 
 // By sixty-four, as many of n bytes as there are so. Answers how many.
@@ -286,8 +258,9 @@ fn lay_far(d: &[u8], from: usize, n: usize, out: &mut [u8], at: usize) -> usize
     ensures stored { Stored out.old out.new at (map plain_byte (part d.now from (from + result))) (at + result) }
 {
     let mut j: usize = 0;
+    // no `for`: the place where it stops is the answer
     while n - j >= 64 {
-        lay_many(d, from + j, out, at + j);
+        lay_some::<64>(d, from + j, out, at + j);
         j += 64;
     }
     j
@@ -306,11 +279,12 @@ fn lay_bytes(d: &[u8], from: usize, stop: usize, out: &mut [u8], at: usize)
     }
     let last = n - 16;
     let mut j = lay_far(d, from, n, out, at);
+    // no `step_by`: it looks twice in a turn whether another follows, and so ends at two places
     while j < last {
-        lay_sixteen(d, from + j, out, at + j);
+        lay_some::<16>(d, from + j, out, at + j);
         j += 16;
     }
-    lay_sixteen(d, from + last, out, at + last);
+    lay_some::<16>(d, from + last, out, at + last);
 }
 
 // The file's terminator, at a place of the output.
@@ -421,6 +395,7 @@ fn copy_all(d: &[u8], out: &mut [u8])
 {
     let n = d.len();
     let mut j: usize = 0;
+    // no `for`: the rest is copied from the place where it stops
     while n - j >= 64 {
         copy_some(d, j, out);
         j += 64;

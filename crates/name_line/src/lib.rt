@@ -253,13 +253,11 @@ pub fn send_names(
 {
     let s = scripts::script_of(d);
     let mut end = at;
-    let mut i: usize = 0;
-    while i < rows {
+    for i in 0..rows {
         end = commas::send_comma(bound, out, end, i);
         let place = place_at(t, i);
         let long = long_at(t, i);
         end = send_name(classes, d, s, place, long, bound, out, end);
-        i += 1;
     }
     commas::send_end(bound, out, end)
 }

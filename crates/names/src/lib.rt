@@ -33,10 +33,9 @@ fn plain_key(classes: &[u8; 256], d: &[u8], at: usize) -> Key
     requires { Classes classes.now }
     ensures { result.sure ≡ true → result.key ≡ key_of 0 0 (decode_of Inside.Plain 0 (text d.now at)) }
 {
-    let mut n = at;
     let mut count: usize = 0;
     let mut key: u64 = 0;
-    while n < d.len() {
+    for n in at..d.len() {
         let b = d[n];
         if b == 34 {
             return Key { key, sure: true };
@@ -47,9 +46,8 @@ fn plain_key(classes: &[u8; 256], d: &[u8], at: usize) -> Key
         if !may_stand(classes, count, b) {
             return Key { key, sure: false };
         }
-        key = key * 256 + wide(ascii::upper(b));
+        key = key * 256 + u64::from(ascii::upper(b));
         count += 1;
-        n += 1;
     }
     Key { key, sure: false }
 }
@@ -61,9 +59,8 @@ fn spelled_key(classes: &[u8; 256], d: &[u8], at: usize) -> u64
 {
     let mut n = at;
     let mut s = Inside::Plain;
-    let mut count: usize = 0;
     let mut key: u64 = 0;
-    while count < 9 {
+    for count in 0..9 {
         match marks::next_part(classes, d, n, s) {
             Part::Said { sign, next, inside } => match sign {
                 Sign::Byte(byte) => {
@@ -73,8 +70,7 @@ fn spelled_key(classes: &[u8; 256], d: &[u8], at: usize) -> u64
                     if count == 8 {
                         return 0;
                     }
-                    key = key * 256 + wide(ascii::upper(byte));
-                    count += 1;
+                    key = key * 256 + u64::from(ascii::upper(byte));
                     n = next;
                     s = inside;
                 }
@@ -102,12 +98,6 @@ pub fn name_key(classes: &[u8; 256], d: &[u8], at: usize) -> u64
     spelled_key(classes, d, at)
 }
 
-fn wide(b: u8) -> u64
-    ensures { (result ≡ b) × (result ≤ 255) }
-{
-    b as u64
-}
-
 // The first row that a row's name is held against: row 0, or none where no earlier name has left a mark at its place.
 fn held_from(mark: u8, row: usize) -> usize
     ensures { result ≡ cond (eqb mark 0) row 0 }
@@ -122,25 +112,18 @@ pub fn first_fault(keys: &[u64; 512], count: usize) -> usize
     ensures { result ≡ fault_of keys.now count }
 {
     let mut marks = [0u8; 2048];
-    let mut found = count;
-    let mut j: usize = 0;
-    'rows: while j < count {
+    for j in 0..count {
         let key = keys[j];
         if key == 0 {
-            found = j;
-            break 'rows;
+            return j;
         }
         let place = (key % 2_039) as usize;
-        let mut i = held_from(marks[place], j);
-        while i < j {
+        for i in held_from(marks[place], j)..j {
             if keys[i] == key {
-                found = j;
-                break 'rows;
+                return j;
             }
-            i += 1;
         }
         marks[place] = 1;
-        j += 1;
     }
-    found
+    count
 }

@@ -1,8 +1,8 @@
 -- A row written back: what was read, what it gives, and the rows one after the other.
 use mathlib.Core.Path.{◌≡◌, refl, sym, ap, subst, ◌∙◌}
-use mathlib.Core.Bool.{Bool, true, false, cond}
-use mathlib.Core.List.{List, [], ◌∷◌}
-use Prim.Native.Nat.{ℕ, zero, suc, ◌+◌, ◌-◌, ◌≤◌, ◌<◌}
+use mathlib.Core.Bool.{Bool, true, false}
+use mathlib.Core.List.{List}
+use Prim.Native.Nat.{ℕ, ◌+◌, ◌≤◌, ◌<◌}
 use native.Mathlib.Numerals.{add-one}
 use native.Mathlib.Omega.{arith}
 use borrow.Author.Tests.{le-leb, lt-leb}
@@ -20,7 +20,7 @@ use Rattle.layout.specs.declared.Kind.TheVariants.{Single, Multiple, Quantity, C
 use Rattle.layout.specs.declared.Spread.TheVariants.{Bits, Fields}
 use Rattle.fields.specs.rule.Field.{Value, missing, number, members, text, truth, Field, holds, illegal}
 use Rattle.fields.specs.rule.Legal.{legal}
-use Rattle.fields.specs.rule.Row.{reading_of, written_of, places_by, bytes_by, fits, other_type, fits_by, fit_of}
+use Rattle.fields.specs.rule.Row.{reading_of, written_of, places_by, bytes_by, fits, fits_by}
 use Rattle.places.specs.rule.Places.{put}
 use Rattle.fieldlaws.specs.BackLaws.{fit_legal}
 use Rattle.fieldlaws.specs.Corrections.{Plain, bitstring, character, logical, read_fits, writes_back_bytes}

@@ -1,7 +1,7 @@
 -- What the code keeps: which rows stand as they would be written, and what a row must give to be written back.
-use Rattle.std.specs.Prelude.{◌≡◌, refl, ◌⊎◌, Bool, true, false, cond, List, [], ◌∷◌, ℕ, zero, suc, ◌+◌, ◌-◌, ◌*◌, ◌^◌, ◌≤◌, ◌<◌, ltb, ℤ}
+use Rattle.std.specs.Prelude.{◌≡◌, refl, ◌⊎◌, Bool, true, false, List, ℕ, ◌+◌, ◌*◌, ◌^◌, ◌≤◌, ◌<◌, ltb, ℤ}
 use Rattle.std.specs.Prelude.{length, take}
-use Rattle.std.proofs.Common.{sym, ap, subst, ◌∙◌, inl, inr, ⊎_elim, le-mul_of_pos_right, arith, ltb-false}
+use Rattle.std.proofs.Common.{⊎_elim, le-mul_of_pos_right, arith, ltb-false}
 use Rattle.std.proofs.Math.Nat.{pow-le-pow_right}
 use Rattle.below.specs.Below.{holds_not}
 use Rattle.layout.specs.rule.Layout.{most_rows, lines_base}
@@ -13,7 +13,7 @@ use Rattle.layout.specs.declared.Spread.TheVariants.{Bits, Fields}
 use Rattle.fields.specs.rule.Field.{missing, number, members, holds, set_fits}
 use Rattle.fields.specs.rule.Legal.{legal}
 use Rattle.fields.specs.rule.Row.{reading_of, fits, other_type, fits_by}
-use Rattle.fields.specs.Facts.{KindFacts, RowFacts}
+use Rattle.fields.specs.Facts.{RowFacts}
 use Rattle.fieldlaws.specs.BackLaws.{Limits, limits, fit_set, spread_members}
 use Rattle.fieldlaws.specs.RisingLaws.{Rising, none, skip, keep}
 use Rattle.fieldlaws.specs.Corrections.{read_fits}

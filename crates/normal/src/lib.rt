@@ -7,7 +7,6 @@ ghost use Rattle.layout.specs.rule.Layout.{most_rows, row_base, row_size};
 ghost use Rattle.layout.specs.rule.Row.{row_at};
 ghost use Rattle.records.specs.rule.Verdict.{judged_as, rows_verdict};
 ghost use Rattle.records.specs.Tables.{TableReady};
-ghost use Rattle.files.specs.rule.File.{is_sound};
 ghost use Rattle.writes.specs.Write.{Ready};
 ghost use Rattle.sharing.specs.Known.{TableKnown};
 ghost use Rattle.normal.specs.rule.Normal.{back_of, settled_row, normal_said, Normalised};
@@ -142,10 +141,8 @@ fn settle_rows(powers: &[u64; 16], t: &[i64], rows: usize, list: &mut [i64], byt
     requires table_settles { TableSettles t.now rows (length bytes.old) (length list.old) }
     ensures { bytes.new ≡ settled_row t.now rows rows bytes.old }
 {
-    let mut i: usize = 0;
-    while i < rows {
+    for i in 0..rows {
         settle_at(powers, t, rows, i, list, bytes);
-        i += 1;
     }
 }
 
@@ -183,18 +180,6 @@ fn judge(t: &[i64], rows: usize, lines: usize, bytes: &[u8]) -> Judged
     records::judge_rows(t, rows, bytes, &mut many)
 }
 
-fn is_sound(j: Judged) -> bool
-    ensures { result ≡ is_sound (judged_as j) }
-{
-    match j {
-        Judged::Sound => true,
-        Judged::BadTable => false,
-        Judged::ShortRecord => false,
-        Judged::LowByte(_) => false,
-        Judged::Faulty(_, _) => false,
-    }
-}
-
 // THE CALL that gives a record its normal form in place. Refused, it keeps the record.
 pub fn normalise(t: &[i64], bytes: &mut [u8]) -> Normal
     ensures { Normalised t.now bytes.old bytes.new (normal_said result) }
@@ -212,7 +197,7 @@ pub fn normalise(t: &[i64], bytes: &mut [u8]) -> Normal
         return Normal::As(Judged::ShortRecord);
     }
     let j = judge(t, rows, h.lines, bytes);
-    if !is_sound(j) {
+    if !files::is_sound(j) {
         return Normal::As(j);
     }
     settle_all(t, rows, len, bytes);

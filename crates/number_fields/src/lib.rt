@@ -48,8 +48,7 @@ fn digits_from(d: &[u8], from: usize, m: u64) -> Whole
     ensures { Digits d.now from m result.n result.at }
 {
     let mut n = m;
-    let mut i = from;
-    while i < d.len() {
+    for i in from..d.len() {
         let b = d[i];
         if !is_digit(b) {
             return Whole { n, at: i };
@@ -58,9 +57,8 @@ fn digits_from(d: &[u8], from: usize, m: u64) -> Whole
             return Whole { n, at: i };
         }
         n = n * 10 + (b - 48) as u64;
-        i += 1;
     }
-    Whole { n, at: i }
+    Whole { n, at: d.len() }
 }
 
 // The count from a place on: a 0, or digits of which the first is none.

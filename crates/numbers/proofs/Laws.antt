@@ -15,36 +15,36 @@ use lib.Seq.{length-take-le, take_all, take-length, drop-length, drop-cons}
 use Rattle.cells.specs.rule.Cell.{number_of}
 use Rattle.layout.specs.declared.Format.{Format}
 use Rattle.widths.specs.rule.Width.{tail_of, least_whole}
-use Rattle.widths.specs.Width.{tail_point, least_one}
+use Rattle.widths.specs.Width.{tail_point}
 use Rattle.fields.specs.rule.Number.{blank, says, wrong, digits_only, decimal_from, decimal, unspaced, code_after, code_of, amount_form}
 use Rattle.fields.specs.rule.Number.{amount_size, amount_of, quantity_after, quantity_of}
 use Rattle.numbers.specs.Numeral.{digits_read, decimals_read}
 use Rattle.numbers.specs.Room.{decimal_room}
-use Rattle.numbers.specs.declared.Digits.TheVariants as digits
+use Rattle.std.specs.Prelude.{Some, None}
 
 -- ---- digits that were read
 module _ (n : ℕ) (x : List ℕ) where
-  pub value_only : (m : ℕ) → digits_read n x ≡ digits.Value m → digits_only x ≡ true
+  pub value_only : (m : ℕ) → digits_read n x ≡ Some m → digits_only x ≡ true
   unfolding digits_read
   value_only m e = go (digits_only x) e
     where
-      go : (b : Bool) → cond b (digits.Value (decimal_from n x)) digits.Wrong ≡ digits.Value m → b ≡ true
+      go : (b : Bool) → cond b (Some (decimal_from n x)) None ≡ Some m → b ≡ true
       go true q = refl
       go false q = let z : ◌≡◌ {A = ℕ} 0 1 = cc in absurd (omega arith)
 
-  pub value_is : (m : ℕ) → digits_read n x ≡ digits.Value m → decimal_from n x ≡ m
+  pub value_is : (m : ℕ) → digits_read n x ≡ Some m → decimal_from n x ≡ m
   unfolding digits_read
-  value_is m e = let q : digits.Value (decimal_from n x) ≡ digits.Value m = rw (value_only m e) at e in cc
+  value_is m e = let q : Some (decimal_from n x) ≡ Some m = rw (value_only m e) at e in cc
 
-  pub wrong_only : digits_read n x ≡ digits.Wrong → digits_only x ≡ false
+  pub wrong_only : digits_read n x ≡ None → digits_only x ≡ false
   unfolding digits_read
   wrong_only e = go (digits_only x) e
     where
-      go : (b : Bool) → cond b (digits.Value (decimal_from n x)) digits.Wrong ≡ digits.Wrong → b ≡ false
+      go : (b : Bool) → cond b (Some (decimal_from n x)) None ≡ None → b ≡ false
       go false q = refl
       go true q = let z : ◌≡◌ {A = ℕ} 0 1 = cc in absurd (omega arith)
 
-  pub value_room : (m : ℕ) → digits_read n x ≡ digits.Value m → m + 1 ≤ (n + 1) * 10 ^ length x
+  pub value_room : (m : ℕ) → digits_read n x ≡ Some m → m + 1 ≤ (n + 1) * 10 ^ length x
   value_room m e = rw (value_is m e) at (decimal_room n x (value_only m e))
 
 -- ---- parts of a slice
@@ -60,11 +60,11 @@ few_digits x h = rw one-mul (pow-le-pow_right {n = 10} (omega arith) h)
 pub few_rest : (s : List ℕ) (p : ℕ) → p ≤ length s → length s ≤ 17 → (0 + 1) * 10 ^ length (take (length s - p) (drop p s)) ≤ 10 ^ 18
 few_rest s p h l = few_digits (take (length s - p) (drop p s)) (rw (rest_is s p h) (simp length-drop (omega arith)))
 
-pub value_small : (x : List ℕ) (m : ℕ) → length x ≤ 17 → digits_read 0 x ≡ digits.Value m → m < 10 ^ 18
+pub value_small : (x : List ℕ) (m : ℕ) → length x ≤ 17 → digits_read 0 x ≡ Some m → m < 10 ^ 18
 value_small x m l e = le_trans (rw add-one at (value_room 0 x m e)) (few_digits x (omega arith))
 
 -- digits before the point leave room for those after it
-pub decimals_room : (s : List ℕ) (k n : ℕ) → k + 1 ≤ length s → length s ≤ 17 → digits_read 0 (take k s) ≡ digits.Value n
+pub decimals_room : (s : List ℕ) (k n : ℕ) → k + 1 ≤ length s → length s ≤ 17 → digits_read 0 (take k s) ≡ Some n
     → (n + 1) * 10 ^ length (take (length s - (k + 1)) (drop (k + 1) s)) ≤ 10 ^ 18
 decimals_room s k n h l e =
     let d : length (take (length s - (k + 1)) (drop (k + 1) s)) ≡ length s - (k + 1) = rw (rest_is s (k + 1) h) (length-drop (k + 1) s) in
@@ -87,11 +87,11 @@ module _ (s : List ℕ) (p : ℕ) (skip : unspaced s ≡ drop p s) where
   left : p < length s → 0 < length (drop p s)
   left h = simp length-drop (omega arith)
 
-  pub code_says : (n : ℕ) → p < length s → digits_read 0 (drop p s) ≡ digits.Value n → code_of s ≡ says (pos n)
+  pub code_says : (n : ℕ) → p < length s → digits_read 0 (drop p s) ≡ Some n → code_of s ≡ says (pos n)
   unfolding code_of
   code_says n h e = rw skip (code_nonempty (drop p s) (left h) ∙ rw (value_only 0 (drop p s) n e, value_is 0 (drop p s) n e))
 
-  pub code_wrong : p < length s → digits_read 0 (drop p s) ≡ digits.Wrong → code_of s ≡ wrong
+  pub code_wrong : p < length s → digits_read 0 (drop p s) ≡ None → code_of s ≡ wrong
   unfolding code_of
   code_wrong h e = rw skip (code_nonempty (drop p s) (left h) ∙ rw (wrong_only 0 (drop p s) e))
 
@@ -125,11 +125,11 @@ module _ (f : Format) (minus : Bool) (s : List ℕ) where
 
   module _ (k : ℕ) (at : k ≡ length s - tail_of f) (room : least_whole f + tail_of f ≤ length s) where
     -- before the whole part is judged nothing else counts
-    pub amount_bad : digits_read 0 (take k s) ≡ digits.Wrong → amount_of f minus s ≡ wrong
+    pub amount_bad : digits_read 0 (take k s) ≡ None → amount_of f minus s ≡ wrong
     unfolding amount_of amount_form
     amount_bad e = rw (le-leb _ _ room, ← at, wrong_only 0 (take k s) e)
 
-    module _ (n : ℕ) (whole : digits_read 0 (take k s) ≡ digits.Value n) where
+    module _ (n : ℕ) (whole : digits_read 0 (take k s) ≡ Some n) where
       pub amount_plain : f.point ≡ 0 → f.decimals ≡ 0 → amount_of f minus s ≡ says (number_of minus n)
       unfolding amount_of amount_form amount_size tail_of digits_only
       amount_plain p d =

@@ -19,52 +19,34 @@ pub enum Numeral {
     Wrong,
 }
 
-// What digits say: a number, or that they aren't all digits.
-#[derive(Clone, Copy)]
-enum Digits {
-    Value(u64),
-    Wrong,
-}
-
-fn wide(b: u8) -> u64
-    ensures { result ≡ b }
-{
-    b as u64
-}
-
 // How many spaces stand in front.
 fn leading_spaces(s: &[u8]) -> usize
     ensures { (result ≤ length s.now) × (unspaced s.now ≡ drop result s.now) }
 {
-    let mut p: usize = 0;
-    while p < s.len() {
-        if s[p] != 32 {
+    for (p, b) in s.iter().enumerate() {
+        if *b != 32 {
             return p;
         }
-        p += 1;
     }
-    p
+    s.len()
 }
 
-// The number that digits say after the number n.
-fn digits_after(n: u64, s: &[u8]) -> Digits
+// The number that digits say after the number n, unless they aren't all digits.
+fn digits_after(n: u64, s: &[u8]) -> Option<u64>
     requires { (n + 1) * 10 ^ length s.now ≤ 10 ^ 18 }
     ensures { result ≡ digits_read n s.now }
 {
     let mut value = n;
-    let mut i: usize = 0;
-    while i < s.len() {
-        let b = s[i];
+    for &b in s {
         if b < 48 {
-            return Digits::Wrong;
+            return None;
         }
         if 57 < b {
-            return Digits::Wrong;
+            return None;
         }
-        value = value * 10 + wide(b) - 48;
-        i += 1;
+        value = value * 10 + u64::from(b) - 48;
     }
-    Digits::Value(value)
+    Some(value)
 }
 
 fn signed(minus: bool, size: u64) -> i64
@@ -88,8 +70,8 @@ pub fn code(s: &[u8]) -> Numeral
         return Numeral::Blank;
     }
     match digits_after(0, &s[p..]) {
-        Digits::Value(n) => Numeral::Says(signed(false, n)),
-        Digits::Wrong => Numeral::Wrong,
+        Some(n) => Numeral::Says(signed(false, n)),
+        None => Numeral::Wrong,
     }
 }
 
@@ -99,8 +81,8 @@ fn decimals_after(minus: bool, whole: u64, s: &[u8]) -> Numeral
     ensures { said_of result ≡ decimals_read minus whole s.now }
 {
     match digits_after(whole, s) {
-        Digits::Value(n) => Numeral::Says(signed(minus, n)),
-        Digits::Wrong => Numeral::Wrong,
+        Some(n) => Numeral::Says(signed(minus, n)),
+        None => Numeral::Wrong,
     }
 }
 
@@ -128,7 +110,7 @@ fn amount(f: Format, minus: bool, s: &[u8]) -> Numeral
     }
     let k = n - tail;
     match digits_after(0, &s[..k]) {
-        Digits::Value(whole) => {
+        Some(whole) => {
             if f.point == 0 {
                 return Numeral::Says(signed(minus, whole));
             }
@@ -138,7 +120,7 @@ fn amount(f: Format, minus: bool, s: &[u8]) -> Numeral
             let d = k + 1;
             decimals_after(minus, whole, &s[d..])
         }
-        Digits::Wrong => Numeral::Wrong,
+        None => Numeral::Wrong,
     }
 }
 

@@ -1,5 +1,5 @@
 -- Digits put into a room of their own.
-use Rattle.std.specs.Prelude.{◌≡◌, refl, List, ℕ, ◌+◌, ◌≤◌, length, take}
+use Rattle.std.specs.Prelude.{◌≡◌, List, ℕ, ◌+◌, ◌≤◌, length, take}
 use Rattle.std.proofs.Common.{sym, ap, ◌∙◌, arith, length-take-le}
 use Rattle.places.specs.rule.Places.{put, run}
 use Rattle.places.specs.Laws.{pick_run, length_put, back, once_run, below_run, length_run}

@@ -1,15 +1,15 @@
 -- Pages one behind the other, and what the loops keep.
-use Rattle.std.specs.Prelude.{◌≡◌, refl, Bool, true, false, cond, List, [], ◌∷◌, ◌++◌, eqb, ltb, length, get_or}
-use Rattle.std.proofs.Common.{sym, ap, ◌∙◌, div-add-mod', mul-le-mul_left, mul-one, ltb-false, ne_eqb, le-leb}
-use Prim.Native.Nat.{ℕ, zero, suc, ◌+◌, ◌-◌, ◌*◌, ◌/◌, ◌^◌, ◌≤◌, ◌<◌}
+use Rattle.std.specs.Prelude.{◌≡◌, refl, Bool, true, false, cond, List, [], ◌∷◌, ◌++◌, eqb, ltb, get_or}
+use Rattle.std.proofs.Common.{ap, ◌∙◌, div-add-mod', mul-le-mul_left, mul-one, ltb-false, ne_eqb, le-leb}
+use Prim.Native.Nat.{ℕ, suc, ◌+◌, ◌-◌, ◌*◌, ◌/◌, ◌^◌, ◌≤◌, ◌<◌}
 use native.Mathlib.Omega.{arith}
 use Rattle.std.proofs.lemmas.Bool.{eqb-false, lt-leb}
 use Rattle.ascii.specs.rule.Class.{upper_of}
-use Rattle.scan.specs.rule.Text.{Text, stop, sign, text}
+use Rattle.scan.specs.rule.Text.{Text, stop, sign}
 use Rattle.scan.specs.rule.Word.{word_of, word_at}
 use Rattle.scan.proofs.Texts.{text_kept, kept_byte}
 use Rattle.scan.proofs.Words.{upper_miss}
-use Rattle.clean_text.specs.rule.Span.{up_to, span_of}
+use Rattle.clean_text.specs.rule.Span.{up_to}
 use Rattle.sink.specs.rule.Sent.{Sent}
 use Rattle.sink.specs.Sent as sent
 use Rattle.sink.specs.Sent.{sent_as}

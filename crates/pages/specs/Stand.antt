@@ -1,5 +1,5 @@
 -- What stands in the definition byte for byte as it is to be sent: it is sent at once, from there.
-use Rattle.std.specs.Prelude.{◌≡◌, Bool, false, cond, not, ◌||◌, List, [], ◌∷◌, ◌++◌, ℕ, zero, suc, ◌+◌, ◌-◌, ◌≤◌, ◌<◌, length, get_or}
+use Rattle.std.specs.Prelude.{◌≡◌, Bool, false, cond, not, ◌||◌, List, [], ◌∷◌, ◌++◌, ℕ, suc, ◌+◌, ◌-◌, ◌≤◌, ◌<◌, length, get_or}
 use Rattle.std.specs.Prelude.{take, drop}
 use Rattle.std.proofs.Math.Path.{refl, ap}
 use Rattle.std.proofs.Common.{sym, ◌∙◌, append_assoc, append-nil, arith}
@@ -12,7 +12,7 @@ use Rattle.sink.specs.rule.Sent.{Sent}
 use Rattle.sink.specs.Sent as sent
 use Rattle.sink.specs.Sent.{sent_as}
 use Rattle.steps.specs.declared.Span.{Span}
-use Rattle.steps.specs.Step.{span, word_found, statement_found, statement_past, keyword_past, number_span, value_span, gap_past}
+use Rattle.steps.specs.Step.{span, word_found, statement_past, keyword_past, number_span}
 use Rattle.steps.specs.Law.{found}
 use Rattle.steps.specs.Quiet.{Quiet, quiet_byte, notes_to}
 use Rattle.looks.specs.Plain.{Plain}
@@ -24,7 +24,6 @@ use Rattle.looks.specs.Look.{opens, letters, Lined, Opened, ValueLine, SpecialLi
 use Rattle.looks.proofs.Words.{opens_quiet, statement_stands, found_stands}
 use Rattle.looks.proofs.Words.{first_past, first_found, second_past, second_found, second_other}
 use Rattle.pages.specs.declared.LineParts.{LineParts}
-use Rattle.pages.specs.declared.Places.{Places}
 use Rattle.pages.specs.declared.Position.{Position}
 use Rattle.pages.specs.declared.Run.{Run}
 use Rattle.pages.specs.Page.{Page, page, before, Paged, stretch_page, framed, sort, type_line, type_at, line_at, line_text, lines_page}

@@ -712,8 +712,7 @@ fn send_run(
 {
     let mut n = start;
     let mut p = at;
-    let mut k = count;
-    while k < 4096 {
+    for k in count..4096 {
         let e = looks::value_line(classes, d, n);
         let h = tokens::pass_blanks(d, e);
         if (e == 0) | !value_at(classes, d, h) {
@@ -721,12 +720,11 @@ fn send_run(
         }
         p = sink::send_bytes(bound, out, p, &d[n..e]);
         n = h;
-        k += 1;
     }
     Run {
         at: p,
         next: n,
-        count: k,
+        count: 4096,
         over: false,
     }
 }
@@ -1053,8 +1051,7 @@ pub fn send_variables(
 {
     let mut n = start;
     let mut p = at;
-    let mut k: usize = 0;
-    while k < 512 {
+    for _ in 0..512usize {
         let v = send_variable(classes, powers, d, n, bound, out, p);
         p = v.at;
         n = v.next;
@@ -1062,7 +1059,6 @@ pub fn send_variables(
         if e.there {
             return Walked { at: p, next: n };
         }
-        k += 1;
     }
     Walked { at: p, next: n }
 }

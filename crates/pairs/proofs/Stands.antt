@@ -7,11 +7,10 @@ use native.Mathlib.Omega.{arith}
 use lib.Dec.{leb, eqb}
 use lib.ListN.{length, drop, get_or, length-append, length-drop}
 use borrow.Author.Tests.{leb-false, eqb-true}
+use Rattle.std.proofs.Common.{Option, Some, None}
 use Rattle.markup.specs.rule.Bytes.{of_kind, is_name, starts_name, run_of, bytes_while, rest_of, stands, end_fault}
 use Rattle.markup.specs.rule.Reference.{reference_of}
 use Rattle.markup.specs.rule.Gap.{gap_of}
-use Rattle.markup.specs.declared.Char.{Char}
-use Rattle.markup.specs.declared.Char.TheVariants.{Is, Bad}
 use Rattle.markup.specs.declared.Skip.{Skip}
 use Rattle.markup.specs.declared.Skip.TheVariants as skip
 use Rattle.markup.proofs.Runs.{run_next, run_long, run_splits}
@@ -131,9 +130,9 @@ is_tag (Broken p) = 0
 text_none : (d : List ℕ) (p : ℕ) → is_tag (text_stand d p) ≡ 0
 unfolding text_stand
 text_none d p = by (eqb (get_or d p 0) 38) (reference_of p (drop (p + 1) d)) where
-  by : (x : Bool) (r : Char) → is_tag (cond x (on_text_char p r) (Text p)) ≡ 0
-  by true (Is c n) = refl
-  by true Bad = refl
+  by : (x : Bool) (r : Option (ℕ × ℕ)) → is_tag (cond x (on_text_char p r) (Text p)) ≡ 0
+  by true (Some (c, n)) = refl
+  by true None = refl
   by false r = refl
 
 module _ (bad : Bool) (d : List ℕ) (at p e : ℕ) where

@@ -7,7 +7,7 @@ ghost use Rattle.pairs.specs.rule.Stand.{text_stand, stand_at, stand_of, shut_of
 ghost use Rattle.pairs.specs.rule.Pair.{missed_of, closed_of, pair_of};
 
 use angles::Angle;
-use markup::{Char, Skip};
+use markup::Skip;
 use tags::Tag;
 
 // A start tag or an end tag, with the place of its < and the place where its name ends; the < of what document 000 doesn't name; the
@@ -28,10 +28,10 @@ fn stand_text(d: &[u8], n: usize) -> Stand
 {
     if d[n] == 38 {
         match markup::reference(d, n) {
-            Char::Is { code: _, next: _ } => {
+            Some(_) => {
                 return Stand::Text(n);
             }
-            Char::Bad => {
+            None => {
                 return Stand::Broken(n);
             }
         }

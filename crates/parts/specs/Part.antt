@@ -1,5 +1,5 @@
 -- What follows from rule/Part.antt, and what the code keeps: a part is judged as if one record of the known length stood before it.
-use Rattle.std.specs.Prelude.{◌≡◌, refl, Bool, cond, not, ◌&&◌, List, ℕ, ◌+◌, ◌-◌, ◌≤◌, eqb, leb, ℤ, length}
+use Rattle.std.specs.Prelude.{◌≡◌, refl, Bool, cond, not, ◌&&◌, List, ℕ, ◌+◌, ◌-◌, ◌≤◌, eqb, leb, ℤ, length, Option, Some, None}
 use Rattle.std.proofs.Math.Bool.{true, false}
 use native.Mathlib.Omega.{arith}
 use borrow.Author.Tests.{eq-eqb, ne_eqb}
@@ -10,8 +10,6 @@ use Rattle.cuts.specs.Cut.{Ending}
 use Rattle.cuts.specs.rule.Records.{Records, over, unended, record_and, records_from}
 use Rattle.sound.specs.rule.Sound.{well_formed}
 use Rattle.sound.specs.rule.Rows.{rows_of, length_of}
-use Rattle.records.specs.declared.Found.{Found}
-use Rattle.records.specs.declared.Found.TheVariants.{At, Nothing}
 use Rattle.records.specs.declared.Judged.{Judged}
 use Rattle.records.specs.declared.Judged.TheVariants as J
 use Rattle.records.specs.rule.First.{first_from, bad_row, row_fault}
@@ -53,10 +51,10 @@ rows_ended : (t : List ℤ) (v : ℕ) (r : List ℕ) → is_unended (rows_verdic
 unfolding is_unended rows_verdict row_verdict byte_verdict
 rows_ended t v r = go (first_from (low_at r) 0 (length r)) (first_from (bad_row t v r) 0 v)
   where
-    go : (a b : Found) → is_unended (byte_verdict a (row_verdict (row_fault t v r) b)) ≡ false
-    go (At p) b = refl
-    go Nothing (At i) = refl
-    go Nothing Nothing = refl
+    go : (a b : Option ℕ) → is_unended (byte_verdict a (row_verdict (row_fault t v r) b)) ≡ false
+    go (Some p) b = refl
+    go None (Some i) = refl
+    go None None = refl
 
 record_ended : (t : List ℤ) (first : ℕ) (r : List ℕ) → is_unended (record_verdict t first r) ≡ false
 unfolding record_verdict is_unended

@@ -4,7 +4,6 @@
 ghost use Rattle.std.specs.Prelude.{◌≡◌, false, cond, ◌+◌, ◌≤◌, ◌<◌, ltb, length, drop};
 ghost use Rattle.std.specs.Int.Count.{count_trailing_zeros};
 ghost use Rattle.lows.specs.Lows.{Clear};
-ghost use Rattle.cuts.specs.rule.Cut.{terminator_at};
 ghost use Rattle.pieces.specs.rule.Pieces.{boundary_at};
 ghost use Rattle.pieces.specs.Scan.{Under, low_bits};
 ghost use Rattle.pieces.specs.Pieces.{LowFrom, Spans};
@@ -19,28 +18,6 @@ pub struct Span {
     pub boundary: Terminator,
 }
 
-// The boundary that starts with the CR or LF at i: a pair if the other adjoins it.
-fn boundary_of(d: &[u8], i: usize, first: u8, second: u8) -> Terminator
-    requires { i < length d.now }
-    ensures { result ≡ terminator_at first second (drop (i + 1) d.now) }
-{
-    let j = i + 1;
-    if j < d.len() {
-        if d[j] == second {
-            return Terminator {
-                first,
-                second,
-                size: 2,
-            };
-        }
-    }
-    Terminator {
-        first,
-        second,
-        size: 1,
-    }
-}
-
 // The boundary that stands at i, of no size where none does.
 pub fn boundary_at(d: &[u8], i: usize) -> Terminator
     requires { i < length d.now }
@@ -48,10 +25,10 @@ pub fn boundary_at(d: &[u8], i: usize) -> Terminator
 {
     let b = d[i];
     if b == 13 {
-        return boundary_of(d, i, 13, 10);
+        return cuts::terminator_at(d, i, 13, 10);
     }
     if b == 10 {
-        return boundary_of(d, i, 10, 13);
+        return cuts::terminator_at(d, i, 10, 13);
     }
     Terminator {
         first: 0,
@@ -64,7 +41,7 @@ pub fn boundary_at(d: &[u8], i: usize) -> Terminator
 fn flag(b: u8) -> u32
     ensures { (result ≡ cond (ltb b 32) 1 0) × (result ≤ 1) }
 {
-    if b < 32 { 1 } else { 0 }
+    u32::from(b < 32)
 }
 
 // The sixteen bytes from i on as bits, the first the lowest: 1 where a byte is below 32. Two in a turn: the compiler then compares all of
@@ -74,9 +51,7 @@ fn lows_of(d: &[u8], i: usize) -> u32
     ensures { result ≡ low_bits d.now i 16 }
 {
     let mut bits: u32 = 0;
-    let mut h: usize = 8;
-    while 0 < h {
-        h -= 1;
+    for h in (0..8).rev() {
         let k = i + 2 * h;
         let low = flag(d[k]);
         let next = flag(d[k + 1]);
@@ -93,21 +68,14 @@ fn first_at(i: usize, bits: u32) -> usize
     i + (u32::trailing_zeros(bits) as usize)
 }
 
-// The lesser of two bytes.
-fn lesser(a: u8, b: u8) -> u8
-    ensures { (result ≤ a) × (result ≤ b) }
-{
-    if b < a { b } else { a }
-}
-
 // The least of four bytes, sixteen apart.
 fn least_of_four(d: &[u8], i: usize) -> u8
     requires { i + 49 ≤ length d.now }
     ensures { Under d.now i 4 result }
 {
-    let a = lesser(d[i], d[i + 16]);
-    let b = lesser(d[i + 32], d[i + 48]);
-    lesser(a, b)
+    let a = d[i].min(d[i + 16]);
+    let b = d[i + 32].min(d[i + 48]);
+    a.min(b)
 }
 
 // The least of sixteen bytes, sixteen apart.
@@ -115,9 +83,9 @@ fn least_of_many(d: &[u8], i: usize) -> u8
     requires { i + 241 ≤ length d.now }
     ensures { Under d.now i 16 result }
 {
-    let a = lesser(least_of_four(d, i), least_of_four(d, i + 64));
-    let b = lesser(least_of_four(d, i + 128), least_of_four(d, i + 192));
-    lesser(a, b)
+    let a = least_of_four(d, i).min(least_of_four(d, i + 64));
+    let b = least_of_four(d, i + 128).min(least_of_four(d, i + 192));
+    a.min(b)
 }
 
 // Is one of the 64 bytes from i on below 32? Only the least of each four, sixteen apart, is compared, and nothing leaves the loop early:
@@ -127,10 +95,8 @@ fn low_among_some(d: &[u8], i: usize) -> bool
     ensures { result ≡ false → Clear d.now i (i + 64) }
 {
     let mut low = false;
-    let mut k: usize = 0;
-    while k < 16 {
+    for k in 0..16 {
         low = low | (least_of_four(d, i + k) < 32);
-        k += 1;
     }
     low
 }
@@ -141,10 +107,8 @@ fn low_among_many(d: &[u8], i: usize) -> bool
     ensures { result ≡ false → Clear d.now i (i + 256) }
 {
     let mut low = false;
-    let mut k: usize = 0;
-    while k < 16 {
+    for k in 0..16 {
         low = low | (least_of_many(d, i + k) < 32);
-        k += 1;
     }
     low
 }
@@ -156,6 +120,7 @@ fn plain_most(d: &[u8], from: usize) -> usize
 {
     let n = d.len();
     let mut i = from;
+    // no `for`: the place where it stops is the answer
     while n - i >= 256 {
         if low_among_many(d, i) {
             return i;
@@ -173,6 +138,7 @@ fn plain_far(d: &[u8], from: usize) -> usize
     let n = d.len();
     let mark = from + 128;
     let mut i = from;
+    // no `for`: the same, and a call inside moves the place
     while n - i >= 64 {
         if low_among_some(d, i) {
             return i;
@@ -191,6 +157,7 @@ fn plain_near(d: &[u8], from: usize, last: usize) -> usize
     ensures { Clear d.now from result }
 {
     let mut i = from;
+    // no `for`: the place where it stops is the answer
     while i <= last {
         let bits = lows_of(d, i);
         if bits != 0 {
@@ -228,14 +195,12 @@ pub fn low_from(d: &[u8], from: usize) -> usize
     requires { from ≤ length d.now }
     ensures { LowFrom d.now from result }
 {
-    let mut i = plain_from(d, from);
-    while i < d.len() {
+    for i in plain_from(d, from)..d.len() {
         if d[i] < 32 {
             return i;
         }
-        i += 1;
     }
-    i
+    d.len()
 }
 
 // The piece from a place on. Only bytes below 32 are looked at: no other is a boundary's.

@@ -7,11 +7,10 @@ use native.Mathlib.Omega.{arith}
 use lib.Dec.{leb, eqb}
 use lib.ListN.{length, drop, get_or}
 use borrow.Author.Tests.{leb-false}
+use Rattle.std.proofs.Common.{Option, Some, None}
 use Rattle.markup.specs.rule.Gap.{gap_of}
 use Rattle.markup.specs.rule.Grammar.{none}
 use Rattle.markup.specs.rule.Reference.{reference_of}
-use Rattle.markup.specs.declared.Char.{Char}
-use Rattle.markup.specs.declared.Char.TheVariants as char
 use Rattle.markup.specs.declared.Skip.{Skip}
 use Rattle.markup.specs.declared.Skip.TheVariants as skip
 use Rattle.markup.proofs.Gaps.{Gapped, gap_exactly}
@@ -51,9 +50,9 @@ is_foreign (stand.Broken p) = 0
 text_none : (d : List ℕ) (p : ℕ) → is_foreign (text_stand d p) ≡ 0
 unfolding text_stand
 text_none d p = by (eqb (get_or d p 0) 38) (reference_of p (drop (p + 1) d)) where
-  by : (x : Bool) (r : Char) → is_foreign (cond x (on_text_char p r) (stand.Text p)) ≡ 0
-  by true (char.Is c n) = refl
-  by true char.Bad = refl
+  by : (x : Bool) (r : Option (ℕ × ℕ)) → is_foreign (cond x (on_text_char p r) (stand.Text p)) ≡ 0
+  by true (Some (c, n)) = refl
+  by true None = refl
   by false r = refl
 
 pub foreign_in : (bad : Bool) (d : List ℕ) (at p : ℕ) → stand_of bad d at ≡ stand.Foreign p → p ≤ length d

@@ -88,15 +88,12 @@ fn run_inside(public: bool, quote: u8, d: &[u8], at: usize) -> usize
     requires { at ≤ length d.now }
     ensures { (result ≡ run_of (between_quotes public quote) at (drop at d.now)) × (result ≤ length d.now) }
 {
-    let mut i = at;
-    while i < d.len() {
-        if is_inside(public, quote, d[i]) {
-            i += 1;
-        } else {
+    for i in at..d.len() {
+        if !is_inside(public, quote, d[i]) {
             return i;
         }
     }
-    i
+    d.len()
 }
 
 // Where a string that opens at n and breaks off at the text's end is at fault.
@@ -154,15 +151,13 @@ fn is_alike(d: &[u8], at: usize, w: &[u8]) -> bool
     requires { at ≤ length d.now }
     ensures { result ≡ alikes w.now (drop at d.now) }
 {
-    let mut i: usize = 0;
-    while i < w.len() {
+    for (i, b) in w.iter().enumerate() {
         if d.len() - at <= i {
             return false;
         }
-        if ascii::upper(d[at + i]) != w[i] {
+        if ascii::upper(d[at + i]) != *b {
             return false;
         }
-        i += 1;
     }
     true
 }

@@ -1,5 +1,5 @@
 -- Bytes that are marks, and stretches with none.
-use Rattle.std.specs.Prelude.{◌≡◌, refl, Bool, true, false, ◌||◌, List, ◌⊎◌, ℕ, zero, suc, ◌+◌, ◌-◌, ◌≤◌, ◌<◌, eqb, length, get_or}
+use Rattle.std.specs.Prelude.{◌≡◌, refl, Bool, true, false, ◌||◌, List, ℕ, zero, suc, ◌+◌, ◌-◌, ◌≤◌, ◌<◌, eqb, length, get_or}
 use Rattle.std.proofs.Common.{sym, ap, ◌∙◌, ⊎_elim, arith}
 use Rattle.below.specs.rule.Below.{any_below}
 use Rattle.below.specs.Below.{any_none, any_next, any_holds, lt_or_le}
@@ -47,27 +47,6 @@ among_three x y z s i n a b c e =
       by false false true false true r = refl
       by false false false false true r = refl
       by false false c false false r = refl
-
-pub among_two : (x y : ℕ) (s : List ℕ) (i n : ℕ) (a b : Bool) → (a || b) ≡ mark_among (is_mark x y y) s i n
-    → let k = get_or s (i + n) 0 in ((a || eqb k x) || (b || eqb k y)) ≡ mark_among (is_mark x y y) s i (n + 1)
-among_two x y s i n a b e =
-    let k = get_or s (i + n) 0 in
-    by a b (eqb k x) (eqb k y) ∙ among_more (is_mark x y y) s i n (a || b) e where
-      by : (a b p q : Bool) → ((a || p) || (b || q)) ≡ ((a || b) || (p || (q || q)))
-      by true b p q = refl
-      by false true true q = refl
-      by false true false q = refl
-      by false false true q = refl
-      by false false false true = refl
-      by false false false false = refl
-
--- a byte that is neither of two
-pub neither : (b x y : ℕ) → (eqb b x || eqb b y) ≡ false → is_mark x y y b ≡ false
-neither b x y = by (eqb b x) (eqb b y) where
-  by : (p q : Bool) → (p || q) ≡ false → (p || (q || q)) ≡ false
-  by true q e = e
-  by false true e = e
-  by false false e = e
 
 pub unmarked_none : (f : ℕ → Bool) (s : List ℕ) (from : ℕ) → Unmarked f s from from
 unmarked_none f s from = record { on = omega arith; within = λ j a b. absurd (omega arith); plain = λ j a b. absurd (omega arith) }

@@ -2,7 +2,7 @@
 use Rattle.std.proofs.Math.Path.{◌≡◌, refl, sym, ap}
 use Rattle.std.proofs.Common.{◌∙◌, eq-or-lt_of_le, arith}
 use Rattle.std.proofs.Math.Logic.{⊎_elim}
-use Rattle.std.specs.Prelude.{Bool, List, leb, ℤ, length}
+use Rattle.std.specs.Prelude.{Bool, List, leb, ℤ, length, Option, Some, None}
 use Rattle.std.proofs.Math.Bool.{true, false, cond}
 use Prim.Native.Nat.{ℕ, zero, suc, ◌+◌, ◌≤◌, ◌<◌}
 use borrow.Author.Tests.{le-leb, leb-true, leb-false, lt-leb, le-ltb, ltb-false}
@@ -12,35 +12,33 @@ use Rattle.lows.specs.rule.Lows.{low_at}
 use Rattle.records.specs.rule.First.{first_from, bad_row, row_fault}
 use Rattle.records.specs.rule.Verdict.{Verdict, sound, refused, low_byte, bad_field, row_verdict, byte_verdict, rows_verdict}
 use Rattle.records.specs.rule.Verdict.{verdict_of, RecordJudged}
-use Rattle.records.specs.declared.Found.{Found}
-use Rattle.records.specs.declared.Found.TheVariants.{At, Nothing}
 use Rattle.records.proofs.Laws.{first_nowhere}
 use Rattle.read_laws.specs.rule.Refused.{IsFirst, Passes, NoLow, RecordOutcome, not_formed, too_short, low_byte_lem, bad_field_lem}
 use Rattle.read_laws.specs.rule.Refused.{no_fault}
 
 module _ (f : ℕ → Bool) where
-  pub none_found : (n i : ℕ) → first_from f i n ≡ Nothing → (j : ℕ) → i ≤ j → j < i + n → f j ≡ false
+  pub none_found : (n i : ℕ) → first_from f i n ≡ None → (j : ℕ) → i ≤ j → j < i + n → f j ≡ false
   unfolding first_from
   none_found zero i e j a b = absurd (omega arith)
   none_found (suc n) i e j a b = go (f i) refl e (λ q. none_found n (suc i) q)
     where
-      go : (c : Bool) → f i ≡ c → cond c (At i) (first_from f (suc i) n) ≡ Nothing
-          → (first_from f (suc i) n ≡ Nothing → (j : ℕ) → suc i ≤ j → j < suc i + n → f j ≡ false) → f j ≡ false
+      go : (c : Bool) → f i ≡ c → cond c (Some i) (first_from f (suc i) n) ≡ None
+          → (first_from f (suc i) n ≡ None → (j : ℕ) → suc i ≤ j → j < suc i + n → f j ≡ false) → f j ≡ false
       go true q p ih = let z : ◌≡◌ {A = ℕ} 0 1 = cc in absurd (omega arith)
       go false q p ih = ⊎_elim (λ s. ap f (sym s) ∙ q) (λ l. ih p j l (omega arith)) (eq-or-lt_of_le a)
 
-  pub nothing_found : (n i : ℕ) → ((j : ℕ) → i ≤ j → j < i + n → f j ≡ false) → first_from f i n ≡ Nothing
+  pub nothing_found : (n i : ℕ) → ((j : ℕ) → i ≤ j → j < i + n → f j ≡ false) → first_from f i n ≡ None
   unfolding first_from
   nothing_found zero i h = refl
   nothing_found (suc n) i h = rw (h i (omega arith) (omega arith)) (nothing_found n (suc i) (λ j a b. h j (omega arith) (omega arith)))
 
-  pub first_is : (n i k : ℕ) → first_from f i n ≡ At k → IsFirst f i n k
+  pub first_is : (n i k : ℕ) → first_from f i n ≡ Some k → IsFirst f i n k
   unfolding first_from
   first_is zero i k e = let z : ◌≡◌ {A = ℕ} 0 1 = cc in absurd (omega arith)
   first_is (suc n) i k e = go (f i) refl e (λ q. first_is n (suc i) k q)
     where
-      go : (c : Bool) → f i ≡ c → cond c (At i) (first_from f (suc i) n) ≡ At k
-          → (first_from f (suc i) n ≡ At k → IsFirst f (suc i) n k) → IsFirst f i (suc n) k
+      go : (c : Bool) → f i ≡ c → cond c (Some i) (first_from f (suc i) n) ≡ Some k
+          → (first_from f (suc i) n ≡ Some k → IsFirst f (suc i) n k) → IsFirst f i (suc n) k
       go true q p ih =
           let s : i ≡ k = cc in
           record { from = omega arith; below = omega arith; passes = ap f (sym s) ∙ q; none = λ j a b. absurd (omega arith) }
@@ -68,23 +66,23 @@ module _ (t : List ℤ) (good : well_formed t ≡ true) (bytes : List ℕ) where
         nothing_found (bad_row t (rows_of t) bytes) (rows_of t) 0 (λ j a b. p.legal_rows j (omega arith)),
       )
 
-  by_rows : length_of t ≤ length bytes → first_from (low_at bytes) 0 (length bytes) ≡ Nothing → (x : Found)
+  by_rows : length_of t ≤ length bytes → first_from (low_at bytes) 0 (length bytes) ≡ None → (x : Option ℕ)
       → first_from (bad_row t (rows_of t) bytes) 0 (rows_of t) ≡ x
       → row_verdict (row_fault t (rows_of t) bytes) x ≡ sound → Passes t good bytes
   unfolding row_verdict
-  by_rows l q (At i) r v = let z : ◌≡◌ {A = ℕ} 0 1 = cc in absurd (omega arith)
-  by_rows l q Nothing r v = record {
+  by_rows l q (Some i) r v = let z : ◌≡◌ {A = ℕ} 0 1 = cc in absurd (omega arith)
+  by_rows l q None r v = record {
     long = l;
     plain = λ p h. ltb-false _ _ (first_nowhere (low_at bytes) (length bytes) 0 q p (omega arith) (omega arith));
     legal_rows = λ i h. first_nowhere (bad_row t (rows_of t) bytes) (rows_of t) 0 r i (omega arith) (omega arith);
   }
 
-  by_bytes : length_of t ≤ length bytes → (x : Found) → first_from (low_at bytes) 0 (length bytes) ≡ x
+  by_bytes : length_of t ≤ length bytes → (x : Option ℕ) → first_from (low_at bytes) 0 (length bytes) ≡ x
       → byte_verdict x (row_verdict (row_fault t (rows_of t) bytes) (first_from (bad_row t (rows_of t) bytes) 0 (rows_of t))) ≡ sound
       → Passes t good bytes
   unfolding byte_verdict
-  by_bytes l (At p) q v = let z : ◌≡◌ {A = ℕ} 0 1 = cc in absurd (omega arith)
-  by_bytes l Nothing q v = by_rows l q (first_from (bad_row t (rows_of t) bytes) 0 (rows_of t)) refl v
+  by_bytes l (Some p) q v = let z : ◌≡◌ {A = ℕ} 0 1 = cc in absurd (omega arith)
+  by_bytes l None q v = by_rows l q (first_from (bad_row t (rows_of t) bytes) 0 (rows_of t)) refl v
 
   by_length : (c : Bool) → leb (length_of t) (length bytes) ≡ c → cond c (rows_verdict t (rows_of t) bytes) (refused 22) ≡ sound
       → Passes t good bytes
@@ -104,38 +102,38 @@ module _ (t : List ℤ) (good : well_formed t ≡ true) (bytes : List ℕ) where
 
   module _ (long : length_of t ≤ length bytes) where
     -- 23 with the first byte below 32
-    pub low_refused : (p : ℕ) → first_from (low_at bytes) 0 (length bytes) ≡ At p → verdict_of t bytes ≡ low_byte p
+    pub low_refused : (p : ℕ) → first_from (low_at bytes) 0 (length bytes) ≡ Some p → verdict_of t bytes ≡ low_byte p
     unfolding verdict_of rows_verdict byte_verdict
     low_refused p e = rw (good, le-leb _ _ long, e)
 
-    pub low_first : (p : ℕ) → first_from (low_at bytes) 0 (length bytes) ≡ At p → IsFirst (low_at bytes) 0 (length bytes) p
+    pub low_first : (p : ℕ) → first_from (low_at bytes) 0 (length bytes) ≡ Some p → IsFirst (low_at bytes) 0 (length bytes) p
     low_first p e = first_is (low_at bytes) (length bytes) 0 p e
 
     -- the lowest illegal row with what is wrong with it, where no byte is below 32
-    pub row_refused : (i : ℕ) → first_from (low_at bytes) 0 (length bytes) ≡ Nothing
-        → first_from (bad_row t (rows_of t) bytes) 0 (rows_of t) ≡ At i
+    pub row_refused : (i : ℕ) → first_from (low_at bytes) 0 (length bytes) ≡ None
+        → first_from (bad_row t (rows_of t) bytes) 0 (rows_of t) ≡ Some i
         → verdict_of t bytes ≡ bad_field i (row_fault t (rows_of t) bytes i)
     unfolding verdict_of rows_verdict byte_verdict row_verdict
     row_refused i q e = rw (good, le-leb _ _ long, q, e)
 
-    pub row_first : (i : ℕ) → first_from (bad_row t (rows_of t) bytes) 0 (rows_of t) ≡ At i
+    pub row_first : (i : ℕ) → first_from (bad_row t (rows_of t) bytes) 0 (rows_of t) ≡ Some i
         → IsFirst (bad_row t (rows_of t) bytes) 0 (rows_of t) i
     row_first i e = first_is (bad_row t (rows_of t) bytes) (rows_of t) 0 i e
 
 -- ---- EXACTLY WHEN, as one theorem: what is judged of a record, each verdict with what it says
 -- the first number that passes is found
-pub first_found : (f : ℕ → Bool) (n i k : ℕ) → IsFirst f i n k → first_from f i n ≡ At k
+pub first_found : (f : ℕ → Bool) (n i k : ℕ) → IsFirst f i n k → first_from f i n ≡ Some k
 unfolding first_from
 first_found f zero i k h = absurd (omega (arith, h.from, h.below))
 first_found f (suc n) i k h =
-    ⊎_elim (λ e. let p : f i ≡ true = ap f e ∙ h.passes in rw p (ap At e))
+    ⊎_elim (λ e. let p : f i ≡ true = ap f e ∙ h.passes in rw p (ap Some e))
     (λ l. rw (h.none i (omega arith) l)
     (first_found f n (suc i) k
     (record { from = l; below = omega (arith, h.below); passes = h.passes; none = λ j a b. h.none j (omega arith) b })))
     (eq-or-lt_of_le h.from)
 
 module _ (t : List ℤ) (bytes : List ℕ) where
-  none_low : NoLow bytes → first_from (low_at bytes) 0 (length bytes) ≡ Nothing
+  none_low : NoLow bytes → first_from (low_at bytes) 0 (length bytes) ≡ None
   none_low h = nothing_found (low_at bytes) (length bytes) 0 (λ j a b. h j (omega arith))
 
   -- what is so has its verdict
@@ -154,23 +152,23 @@ module _ (t : List ℤ) (bytes : List ℕ) where
   unfolding verdict_of rows_verdict byte_verdict row_verdict
   verdict_named = formed (well_formed t) refl
     where
-      lows : Found
+      lows : Option ℕ
       lows = first_from (low_at bytes) 0 (length bytes)
 
-      rows : Found
+      rows : Option ℕ
       rows = first_from (bad_row t (rows_of t) bytes) 0 (rows_of t)
 
-      rowed : well_formed t ≡ true → length_of t ≤ length bytes → lows ≡ Nothing → (x : Found) → rows ≡ x
+      rowed : well_formed t ≡ true → length_of t ≤ length bytes → lows ≡ None → (x : Option ℕ) → rows ≡ x
           → RecordOutcome t bytes (row_verdict (row_fault t (rows_of t) bytes) x)
-      rowed g l q (At i) e =
+      rowed g l q (Some i) e =
           bad_field_lem g l (λ p h. first_nowhere (low_at bytes) (length bytes) 0 q p (omega arith) (omega arith))
           (first_is (bad_row t (rows_of t) bytes) (rows_of t) 0 i e)
-      rowed g l q Nothing e = no_fault g (by_rows t g bytes l q Nothing e refl)
+      rowed g l q None e = no_fault g (by_rows t g bytes l q None e refl)
 
-      byted : well_formed t ≡ true → length_of t ≤ length bytes → (x : Found) → lows ≡ x
+      byted : well_formed t ≡ true → length_of t ≤ length bytes → (x : Option ℕ) → lows ≡ x
           → RecordOutcome t bytes (byte_verdict x (row_verdict (row_fault t (rows_of t) bytes) rows))
-      byted g l (At p) e = low_byte_lem g l (first_is (low_at bytes) (length bytes) 0 p e)
-      byted g l Nothing e = rowed g l e rows refl
+      byted g l (Some p) e = low_byte_lem g l (first_is (low_at bytes) (length bytes) 0 p e)
+      byted g l None e = rowed g l e rows refl
 
       longer : well_formed t ≡ true → (b : Bool) → leb (length_of t) (length bytes) ≡ b
           → RecordOutcome t bytes (cond b (byte_verdict lows (row_verdict (row_fault t (rows_of t) bytes) rows)) (refused 22))

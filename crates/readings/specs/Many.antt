@@ -1,6 +1,6 @@
 -- Many records of one length, one behind the other: where each stands, and that a row is legal in all of them.
 use Rattle.std.specs.Prelude.{◌≡◌, false, List, ℕ, ◌+◌, ◌-◌, ◌*◌, ◌≤◌, ◌<◌, ℤ, length, get_or, take, drop}
-use Rattle.std.proofs.Common.{ap, ◌∙◌, zero-mul, suc-mul, add-one, arith, below_more, length-take, length-drop, get_or-take}
+use Rattle.std.proofs.Common.{ap, ◌∙◌, suc-mul, add-one, arith, below_more, length-take, length-drop, get_or-take}
 use Rattle.std.proofs.Common.{get_or-drop}
 use Rattle.layout.specs.declared.Row.{Row}
 use Rattle.fields.specs.rule.Row.{reading_of}
@@ -35,9 +35,6 @@ abbrev pub LegalIn : List ℤ → ℕ → Row → List ℕ → Batch → Type 0
 LegalIn t v r d b = LegalTo t v r d b b.count
 
 -- ---- laws
-pub begin_none : (b : Batch) → b.from ≡ begin b 0
-begin_none b = rw (zero-mul b.step) (omega arith)
-
 pub begin_more : (b : Batch) (k : ℕ) → begin b k + b.step ≡ begin b (k + 1)
 begin_more b k = rw (add-one k, suc-mul k b.step) (omega arith)
 
@@ -58,9 +55,6 @@ pub record Passed (t : List ℤ) (v : ℕ) (r : Row) (d : List ℕ) (b : Batch) 
   pub legal : LegalTo t v r d b k
 
 module _ {t : List ℤ} {v : ℕ} {r : Row} {d : List ℕ} {b : Batch} where
-  pub none_passed : Passed t v r d b b.from 0
-  none_passed = record { stands = begin_none b; legal = λ k l. absurd (omega arith) }
-
   module _ {at k : ℕ} (p : Passed t v r d b at k) where
     -- the next lies in the data
     pub next_inside : Standing d b → k < b.count → at + b.size < length d

@@ -188,18 +188,7 @@ pub fn read_row(t: &[i64], rows: usize, row: Row, bytes: &[u8], list: &mut [i64]
 pub fn is_illegal(a: Answer) -> bool
     ensures { result ≡ illegal_answer a }
 {
-    match a {
-        Answer::Illegal => true,
-        Answer::Missing => false,
-        Answer::Number(_) => false,
-        Answer::Set(_) => false,
-        Answer::Text(_, _) => false,
-        Answer::Truth(_) => false,
-        Answer::BadTable => false,
-        Answer::NoRow => false,
-        Answer::ShortRecord => false,
-        Answer::ShortList => false,
-    }
+    matches!(a, Answer::Illegal)
 }
 
 // Whether a quantity is illegal. It asks for the number by itself: so only what is read of the row need be at hand, and no whole row.

@@ -29,14 +29,12 @@ fn singles_legal(t: &[i64], rows: usize, row: Row, d: &[u8], batch: Batch) -> bo
     ensures { result ≡ true → LegalIn t.now rows row d.now batch }
 {
     let mut at = batch.from;
-    let mut k: usize = 0;
-    while k < batch.count {
+    for _ in 0..batch.count {
         let end = at + batch.size;
         if is_illegal(single(t, rows, row, &d[at..end])) {
             return false;
         }
         at += batch.step;
-        k += 1;
     }
     true
 }
@@ -48,14 +46,12 @@ fn quantities_legal(t: &[i64], rows: usize, row: Row, f: Format, d: &[u8], batch
     ensures { result ≡ true → LegalIn t.now rows row d.now batch }
 {
     let mut at = batch.from;
-    let mut k: usize = 0;
-    while k < batch.count {
+    for _ in 0..batch.count {
         let end = at + batch.size;
         if quantity_illegal(t, rows, row, f, &d[at..end]) {
             return false;
         }
         at += batch.step;
-        k += 1;
     }
     true
 }
@@ -68,14 +64,12 @@ fn bits_legal(t: &[i64], rows: usize, row: Row, d: &[u8], batch: Batch) -> bool
     ensures { result ≡ true → LegalIn t.now rows row d.now batch }
 {
     let mut at = batch.from;
-    let mut k: usize = 0;
-    while k < batch.count {
+    for _ in 0..batch.count {
         let end = at + batch.size;
         if !sets::bits::position_alike(&d[at..end], row.start - 1, row.width, row.width) {
             return false;
         }
         at += batch.step;
-        k += 1;
     }
     true
 }
@@ -100,14 +94,12 @@ fn entries_legal(
     let first = row.start - 1;
     let w = row.width;
     let mut at = batch.from;
-    let mut k: usize = 0;
-    while k < batch.count {
+    for _ in 0..batch.count {
         let end = at + batch.size;
         if !sets::spread::spread_good(t, rows, row, marks, &d[at..end], first, b, w, n) {
             return false;
         }
         at += batch.step;
-        k += 1;
     }
     true
 }
@@ -160,14 +152,12 @@ fn truths_legal(t: &[i64], rows: usize, row: Row, d: &[u8], batch: Batch) -> boo
     ensures { result ≡ true → LegalIn t.now rows row d.now batch }
 {
     let mut at = batch.from;
-    let mut k: usize = 0;
-    while k < batch.count {
+    for _ in 0..batch.count {
         let last = at + (row.finish - 1);
         if is_illegal(truth(d[last])) {
             return false;
         }
         at += batch.step;
-        k += 1;
     }
     true
 }

@@ -48,12 +48,8 @@ fn table(
 // A record with the data from byte 21 on.
 fn record_of(data: &[u8]) -> [u8; 40] {
     let mut r = [120u8; 40];
-    let mut i: usize = 0;
-    while i < 20 {
-        if i < data.len() {
-            r[20 + i] = data[i];
-        }
-        i += 1;
+    for (place, b) in r[20..].iter_mut().zip(data) {
+        *place = *b;
     }
     r
 }

@@ -1,6 +1,6 @@
 -- What follows from rule/Lines.antt, and what the code keeps.
 use Rattle.std.proofs.Common.{eq-or-lt_of_le}
-use Rattle.std.specs.Prelude.{◌≡◌, Bool, cond, List, [], ◌++◌, ℕ, zero, suc, ◌+◌, ◌-◌, ◌≤◌, ◌<◌, eqb, ℤ, length}
+use Rattle.std.specs.Prelude.{◌≡◌, Bool, cond, List, [], ◌++◌, ℕ, zero, suc, ◌+◌, ◌-◌, ◌≤◌, ◌<◌, eqb, ℤ, length, Option, Some, None}
 use Rattle.std.proofs.Math.Path.{refl}
 use Rattle.std.proofs.Common.{⊎_elim, sym, ap, ◌∙◌, arith}
 use Rattle.std.proofs.Math.Bool.{true, false}
@@ -10,8 +10,6 @@ use Rattle.below.specs.Below.{holds_not}
 use Rattle.sound.specs.rule.Rows.{rows_of, length_of}
 use Rattle.cuts.specs.rule.Records.{Records, over, unended, record_and}
 use Rattle.sets.specs.rule.Sets.{is_illegal}
-use Rattle.records.specs.declared.Found.{Found}
-use Rattle.records.specs.declared.Found.TheVariants.{At, Nothing}
 use Rattle.records.proofs.Laws.{first_nowhere}
 use Rattle.records.specs.rule.First.{first_from, bad_row, row_fault}
 use Rattle.records.specs.rule.Value.{reading_at}
@@ -76,13 +74,13 @@ lines_none k t rs e = rw e
 -- ---- THE RECORDS BEFORE THE FIRST FAULT are sound
 -- a record whose judgement found no fault
 module _ (t : List ℤ) (r : List ℕ) where
-  rows_legal : (b : Found) (f : Found) → first_from (bad_row t (rows_of t) r) 0 (rows_of t) ≡ f
+  rows_legal : (b : Option ℕ) (f : Option ℕ) → first_from (bad_row t (rows_of t) r) 0 (rows_of t) ≡ f
       → is_sound (byte_verdict b (row_verdict (row_fault t (rows_of t) r) f)) ≡ true
       → (i : ℕ) → i < rows_of t → is_illegal (reading_at t i r) ≡ false
   unfolding byte_verdict row_verdict is_sound
-  rows_legal (At p) f e g = holds_not g refl
-  rows_legal Nothing (At i) e g = holds_not g refl
-  rows_legal Nothing Nothing e g = λ i h. first_nowhere (bad_row t (rows_of t) r) (rows_of t) 0 e i (omega arith) (omega arith)
+  rows_legal (Some p) f e g = holds_not g refl
+  rows_legal None (Some i) e g = holds_not g refl
+  rows_legal None None e g = λ i h. first_nowhere (bad_row t (rows_of t) r) (rows_of t) 0 e i (omega arith) (omega arith)
 
   legal_rows : is_sound (rows_verdict t (rows_of t) r) ≡ true → (i : ℕ) → i < rows_of t → is_illegal (reading_at t i r) ≡ false
   unfolding rows_verdict
@@ -127,12 +125,12 @@ verdict_sound t (record_and r rs) n first =
     go (bad_field i x) rest e h = stop (n + 1 - 1) refl
 
 -- where nothing is found, each holds not
-none_found : (f : ℕ → Bool) (n i : ℕ) → first_from f i n ≡ Nothing → (j : ℕ) → i ≤ j → j < i + n → f j ≡ false
+none_found : (f : ℕ → Bool) (n i : ℕ) → first_from f i n ≡ None → (j : ℕ) → i ≤ j → j < i + n → f j ≡ false
 unfolding first_from
 none_found f zero i e j a b = absurd (omega arith)
 none_found f (suc n) i e j a b = go (f i) refl e (λ q. none_found f n (suc i) q)
   where
-    go : (c : Bool) → f i ≡ c → cond c (At i) (first_from f (suc i) n) ≡ Nothing
-        → (first_from f (suc i) n ≡ Nothing → (j : ℕ) → suc i ≤ j → j < suc i + n → f j ≡ false) → f j ≡ false
+    go : (c : Bool) → f i ≡ c → cond c (Some i) (first_from f (suc i) n) ≡ None
+        → (first_from f (suc i) n ≡ None → (j : ℕ) → suc i ≤ j → j < suc i + n → f j ≡ false) → f j ≡ false
     go true q p ih = let z : ◌≡◌ {A = ℕ} 0 1 = cc in absurd (omega arith)
     go false q p ih = ⊎_elim (λ s. ap f (sym s) ∙ q) (λ l. ih p j l (omega arith)) (eq-or-lt_of_le a)

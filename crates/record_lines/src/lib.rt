@@ -53,11 +53,9 @@ pub fn send_line(
     ensures { Sent bound out.old at (line_bytes (record_line t.now bytes.now)) out.new result }
 {
     let mut end = at;
-    let mut i: usize = 0;
-    while i < h.rows {
+    for i in 0..h.rows {
         end = commas::send_comma(bound, out, end, i);
         end = value_fields::send_row(powers, t, h, full, i, bytes, list, bound, out, end);
-        i += 1;
     }
     commas::send_end(bound, out, end)
 }
@@ -84,8 +82,7 @@ pub fn send_lines(
     let mut full = [0u8; 512];
     value_fields::mark_full(t, h, &mut full);
     let mut from: usize = 0;
-    let mut k = n;
-    while 0 < k {
+    for _ in 0..n {
         match cuts::next_from(d, w, from) {
             Next::Ended {
                 start,
@@ -94,7 +91,6 @@ pub fn send_lines(
             } => {
                 end = send_line(powers, t, h, &full, &d[start..stop], list, bound, out, end);
                 from = next;
-                k -= 1;
             }
             Next::Unended { start: _, end: _ } => {
                 return end;

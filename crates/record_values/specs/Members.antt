@@ -13,7 +13,7 @@ use Rattle.fields.specs.rule.Number.{Said, blank, says, wrong, all_spaces, code_
 use Rattle.fields.specs.rule.Field.{missing, number, members, text, truth, holds, illegal, number_field, single_says, quantity_says}
 use Rattle.fields.specs.rule.Field.{all_bits, set_bits, bits_field, entry_is, all_entries, some_entry, passing, spread_set, spread_field}
 use Rattle.fields.specs.rule.Field.{all_plain, unended, text_field, truth_field}
-use Rattle.fields.specs.rule.Row.{defined, categories, field_by, places_of, reading_of}
+use Rattle.fields.specs.rule.Row.{defined, field_by, places_of, reading_of}
 use Rattle.fields.specs.Facts.{KindFacts}
 use Rattle.readings.specs.Ready.{RowReady}
 use Rattle.record_values.specs.rule.Record.{members_of}

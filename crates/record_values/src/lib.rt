@@ -39,17 +39,13 @@ pub struct Tally {
 fn cell(n: usize) -> i64
     ensures { result ≡ cell_of n }
 {
-    if n < 9_223_372_036_854_775_807 {
-        n as i64
-    } else {
-        9_223_372_036_854_775_807
-    }
+    i64::try_from(n).unwrap_or(i64::MAX)
 }
 
 fn flag(b: bool) -> i64
     ensures { result ≡ flag_of b }
 {
-    if b { 1 } else { 0 }
+    i64::from(b)
 }
 
 // What comes with a fault: its place in the record, or the number that is not legal.
@@ -112,7 +108,7 @@ fn members_in(a: Answer) -> usize
 fn refusals_in(a: Answer) -> usize
     ensures { result ≡ refusals_in a }
 {
-    if readings::is_illegal(a) { 1 } else { 0 }
+    usize::from(readings::is_illegal(a))
 }
 
 // The rows of a record that is long enough, by a table that was tested, where there is room for all.
@@ -125,15 +121,13 @@ pub fn read_rows(t: &[i64], rows: usize, bytes: &[u8], out: &mut [i64], list: &m
 {
     let mut at: usize = 0;
     let mut refused: usize = 0;
-    let mut i: usize = 0;
-    while i < rows {
+    for i in 0..rows {
         let row = Row::read(t, i);
         let a = readings::read_row(t, rows, row, bytes, &mut list[at..]);
         let numbers = row_numbers(t, rows, row, bytes, a, at);
         cells::paste(out, 4 * i, &numbers);
         at += members_in(a);
         refused += refusals_in(a);
-        i += 1;
     }
     Tally {
         members: at,
@@ -164,14 +158,12 @@ fn always_fits(t: &[i64], rows: usize, room: usize) -> bool
     ensures { result ≡ true → (bytes : List ℕ) → length (members_below (row_reading t.now rows bytes) rows) ≤ room }
 {
     let mut left = room;
-    let mut i: usize = 0;
-    while i < rows {
+    for i in 0..rows {
         let most = most_of(Row::read(t, i));
         if left < most {
             return false;
         }
         left -= most;
-        i += 1;
     }
     true
 }
@@ -206,14 +198,12 @@ fn counted_fits(t: &[i64], rows: usize, bytes: &[u8], room: usize) -> bool
     ensures { result ≡ leb (length (members_below (row_reading t.now rows bytes.now) rows)) room }
 {
     let mut left = room;
-    let mut i: usize = 0;
-    while i < rows {
+    for i in 0..rows {
         let n = count_row(t, rows, Row::read(t, i), bytes);
         if left < n {
             return false;
         }
         left -= n;
-        i += 1;
     }
     true
 }

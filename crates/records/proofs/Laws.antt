@@ -10,6 +10,7 @@ use native.Mathlib.Omega.{arith}
 use borrow.Author.Tests.{lt-ltb, le-ltb, le-leb, lt-leb}
 use lib.IntN.{ℤ}
 use lib.ListN.{length}
+use Rattle.std.specs.Prelude.{Some, None}
 use native.Mathlib.Nat.{eq-or-lt_of_le, sub-eq-zero_of_le}
 use Rattle.layout.specs.rule.Layout.{header_of}
 use Rattle.layout.specs.rule.Row.{row_at}
@@ -28,7 +29,6 @@ use Rattle.records.specs.rule.Value.{said, read_as, list_as, reading_at, ValueRe
 use Rattle.records.specs.Value.{said_by, said_answer}
 use Rattle.records.specs.rule.Verdict.{Verdict, rows_verdict, row_verdict, byte_verdict, verdict_of, sound, refused, RecordJudged}
 use Rattle.records.specs.Tables.{TableReady, table_ready}
-use Rattle.records.specs.declared.Found.TheVariants.{At, Nothing}
 use Rattle.records.specs.declared.Reading.{Reading}
 use Rattle.records.specs.declared.Reading.TheVariants as reading
 
@@ -37,7 +37,7 @@ module _ (f : ℕ → Bool) (n i : ℕ) (h : i < n) where
   more : n - i ≡ suc (n - (i + 1))
   more = omega arith
 
-  pub first_here : f i ≡ true → first_from f i (n - i) ≡ At i
+  pub first_here : f i ≡ true → first_from f i (n - i) ≡ Some i
   unfolding first_from
   first_here e = rw (more, e)
 
@@ -45,27 +45,27 @@ module _ (f : ℕ → Bool) (n i : ℕ) (h : i < n) where
   unfolding first_from
   first_on e = rw (more, e, add-one i)
 
-pub first_none : (f : ℕ → Bool) (n i : ℕ) → n ≤ i → first_from f i (n - i) ≡ Nothing
+pub first_none : (f : ℕ → Bool) (n i : ℕ) → n ≤ i → first_from f i (n - i) ≡ None
 unfolding first_from
 first_none f n i h = rw (sub-eq-zero_of_le h)
 
-pub first_nowhere : (f : ℕ → Bool) (n i : ℕ) → first_from f i n ≡ Nothing → (j : ℕ) → i ≤ j → j < i + n → f j ≡ false
+pub first_nowhere : (f : ℕ → Bool) (n i : ℕ) → first_from f i n ≡ None → (j : ℕ) → i ≤ j → j < i + n → f j ≡ false
 unfolding first_from
 first_nowhere f zero i e j a b = absurd (omega arith)
 first_nowhere f (suc n) i e j a b = go (f i) refl e (λ q l. first_nowhere f n (suc i) q j l (omega arith))
   where
-    go : (c : Bool) → f i ≡ c → cond c (At i) (first_from f (suc i) n) ≡ Nothing
-        → (first_from f (suc i) n ≡ Nothing → suc i ≤ j → f j ≡ false) → f j ≡ false
+    go : (c : Bool) → f i ≡ c → cond c (Some i) (first_from f (suc i) n) ≡ None
+        → (first_from f (suc i) n ≡ None → suc i ≤ j → f j ≡ false) → f j ≡ false
     go true z q h = let o : ◌≡◌ {A = ℕ} 0 1 = cc in absurd (omega arith)
     go false z q h = ⊎_elim (λ m. ap f (sym m) ∙ z) (λ m. h q (omega arith)) (eq-or-lt_of_le a)
 
 -- it is one of them
-pub first_inside : (f : ℕ → Bool) (n i k : ℕ) → first_from f i n ≡ At k → k < i + n
+pub first_inside : (f : ℕ → Bool) (n i k : ℕ) → first_from f i n ≡ Some k → k < i + n
 unfolding first_from
 first_inside f zero i k e = let o : ◌≡◌ {A = ℕ} 0 1 = cc in absurd (omega arith)
 first_inside f (suc n) i k e = go (f i) e (first_inside f n (suc i) k)
   where
-    go : (c : Bool) → cond c (At i) (first_from f (suc i) n) ≡ At k → (first_from f (suc i) n ≡ At k → k < suc i + n) → k < i + suc n
+    go : (c : Bool) → cond c (Some i) (first_from f (suc i) n) ≡ Some k → (first_from f (suc i) n ≡ Some k → k < suc i + n) → k < i + suc n
     go true q h = let o : i ≡ k = cc in omega arith
     go false q h = let l = h q in omega arith
 
@@ -86,10 +86,10 @@ module _ (f : ℕ → Bool) (n : ℕ) where
       sym (rw (e, z) at (first_past to 0 (rw e h) (λ j a b. g j a (rw e at b))))
 
 -- a record has no byte below 32 where none is found
-pub plain_found : (bytes : List ℕ) → first_from (low_at bytes) 0 (length bytes) ≡ Nothing → Plain bytes
+pub plain_found : (bytes : List ℕ) → first_from (low_at bytes) 0 (length bytes) ≡ None → Plain bytes
 plain_found bytes e j h = first_nowhere (low_at bytes) (length bytes) 0 e j (omega arith) (omega arith)
 
-pub first_of_plain : (bytes : List ℕ) → Plain bytes → first_from (low_at bytes) 0 (length bytes) ≡ Nothing
+pub first_of_plain : (bytes : List ℕ) → Plain bytes → first_from (low_at bytes) 0 (length bytes) ≡ None
 first_of_plain bytes h =
     let n = length bytes in
     sym (first_clear (low_at bytes) n n (omega arith) (λ j a b. h j b)) ∙ first_none (low_at bytes) n n (omega arith)
@@ -99,7 +99,7 @@ pub all_legal : (t : List ℤ) (v : ℕ) (bytes : List ℕ) → Plain bytes → 
     → rows_verdict t v bytes ≡ sound
 unfolding rows_verdict byte_verdict row_verdict
 all_legal t v bytes p h =
-    let e : first_from (bad_row t v bytes) 0 v ≡ Nothing =
+    let e : first_from (bad_row t v bytes) 0 v ≡ None =
     sym (first_clear (bad_row t v bytes) v v (omega arith) (λ j a b. h j b)) ∙ first_none (bad_row t v bytes) v v (omega arith) in
     rw (first_of_plain bytes p, e)
 

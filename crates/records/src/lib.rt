@@ -44,41 +44,31 @@ pub enum Reading {
     Faulty(Fault),
 }
 
-#[derive(Clone, Copy)]
-pub enum Found {
-    At(usize),
-    Nothing,
-}
-
 // The first byte below 32.
-pub fn low_byte(bytes: &[u8]) -> Found
+pub fn low_byte(bytes: &[u8]) -> Option<usize>
     ensures { result ≡ first_from (low_at bytes.now) 0 (length bytes.now) }
 {
-    let mut i = lows::plain_to(bytes, 0);
-    while i < bytes.len() {
+    for i in lows::plain_to(bytes, 0)..bytes.len() {
         if bytes[i] < 32 {
-            return Found::At(i);
+            return Some(i);
         }
-        i += 1;
     }
-    Found::Nothing
+    None
 }
 
 // The lowest row that is illegal, in a record without a byte below 32.
-pub fn illegal_row(t: &[i64], rows: usize, bytes: &[u8], scratch: &mut [u8]) -> Found
+pub fn illegal_row(t: &[i64], rows: usize, bytes: &[u8], scratch: &mut [u8]) -> Option<usize>
     requires table_ready { TableReady t.now rows (length bytes.now) }
     requires plain { Plain bytes.now }
     requires scratch_len_bound { length scratch.old ≤ 10000 }
     ensures { result ≡ first_from (bad_row t.now rows bytes.now) 0 rows }
 {
-    let mut i: usize = 0;
-    while i < rows {
+    for i in 0..rows {
         if readings::row_illegal(t, rows, i, bytes, scratch) {
-            return Found::At(i);
+            return Some(i);
         }
-        i += 1;
     }
-    Found::Nothing
+    None
 }
 
 // Whether such a record is sound, for whoever need not know what is wrong with it. The scratch is room for marks.
@@ -89,8 +79,8 @@ pub fn plain_sound(t: &[i64], rows: usize, bytes: &[u8], scratch: &mut [u8]) -> 
     ensures { result ≡ true → rows_verdict t.now rows bytes.now ≡ sound }
 {
     match illegal_row(t, rows, bytes, scratch) {
-        Found::At(_) => false,
-        Found::Nothing => true,
+        Some(_) => false,
+        None => true,
     }
 }
 
@@ -102,12 +92,10 @@ pub fn batch_sound(t: &[i64], rows: usize, d: &[u8], batch: Batch, scratch: &mut
     ensures { result ≡ true → (k : ℕ) → k < batch.count → rows_verdict t.now rows (bytes_of d.now batch k)
         ≡ sound }
 {
-    let mut i: usize = 0;
-    while i < rows {
+    for i in 0..rows {
         if !readings::many::row_legal(t, rows, i, d, batch, scratch) {
             return false;
         }
-        i += 1;
     }
     true
 }
@@ -121,8 +109,8 @@ pub fn judge_plain(t: &[i64], rows: usize, bytes: &[u8], scratch: &mut [u8]) -> 
     ensures { judged_as result ≡ rows_verdict t.now rows bytes.now }
 {
     match illegal_row(t, rows, bytes, scratch) {
-        Found::At(i) => Judged::Faulty(i, faults::row_fault(t, rows, Row::read(t, i), bytes)),
-        Found::Nothing => Judged::Sound,
+        Some(i) => Judged::Faulty(i, faults::row_fault(t, rows, Row::read(t, i), bytes)),
+        None => Judged::Sound,
     }
 }
 
@@ -133,8 +121,8 @@ pub fn judge_rows(t: &[i64], rows: usize, bytes: &[u8], scratch: &mut [u8]) -> J
     ensures { judged_as result ≡ rows_verdict t.now rows bytes.now }
 {
     match low_byte(bytes) {
-        Found::At(p) => Judged::LowByte(p),
-        Found::Nothing => judge_plain(t, rows, bytes, scratch),
+        Some(p) => Judged::LowByte(p),
+        None => judge_plain(t, rows, bytes, scratch),
     }
 }
 

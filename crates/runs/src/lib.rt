@@ -10,11 +10,8 @@ pub fn copy_in(out: &mut [u8], at: usize, src: &[u8], k: usize)
     requires { (k ≤ length src.now) × (at + k ≤ length out.old) }
     ensures { out.new ≡ put out.old (run at k) (take k src.now) }
 {
-    let mut j: usize = 0;
-    while j < k {
-        let b = src[j];
-        out[at + j] = b;
-        j += 1;
+    for j in 0..k {
+        out[at + j] = src[j];
     }
 }
 
@@ -23,11 +20,7 @@ pub fn blank(out: &mut [u8], at: usize, k: usize)
     requires { at + k ≤ length out.old }
     ensures { out.new ≡ put out.old (run at k) (spaces k) }
 {
-    let mut p = at;
-    let mut left = k;
-    while 0 < left {
+    for p in at..at + k {
         out[p] = 32;
-        p += 1;
-        left -= 1;
     }
 }

@@ -25,8 +25,7 @@ pub fn next_byte(classes: &[u8; 256], d: &[u8], at: usize) -> Step
     requires { Classes classes.now }
     ensures { result ≡ step_of (text d.now at) }
 {
-    let mut i = at;
-    while i < d.len() {
+    for i in at..d.len() {
         let b = d[i];
         if ascii::class_of(classes, b) != ascii::DROPPED {
             return Step::Byte {
@@ -35,9 +34,10 @@ pub fn next_byte(classes: &[u8; 256], d: &[u8], at: usize) -> Step
                 next: i + 1,
             };
         }
-        i += 1;
     }
-    Step::End { place: i }
+    Step::End {
+        place: at.max(d.len()),
+    }
 }
 
 // The place of the next byte that is not dropped, or of the end.
@@ -95,11 +95,8 @@ fn spelled(d: &[u8], at: usize, w: &[u8]) -> bool
     ensures { result ≡ true → word_at d.now at w.now ≡ Word.Matched (at + length w.now) }
 {
     let mut same = true;
-    let mut i: usize = 0;
-    while i < w.len() {
-        let x = w[i];
-        same = same & ((d[at + i] == x) & ((32 <= x) & (x < 97)));
-        i += 1;
+    for (i, x) in w.iter().enumerate() {
+        same = same & ((d[at + i] == *x) & ((32 <= *x) & (*x < 97)));
     }
     same
 }
@@ -110,15 +107,14 @@ fn letters(classes: &[u8; 256], d: &[u8], at: usize, w: &[u8]) -> Word
     ensures { result ≡ word_at d.now at w.now }
 {
     let mut n = at;
-    let mut i = 0;
-    while i < w.len() {
+    for x in w {
         match next_byte(classes, d, n) {
             Step::Byte {
                 byte,
                 place: _,
                 next,
             } => {
-                if ascii::upper(byte) != w[i] {
+                if ascii::upper(byte) != *x {
                     return Word::Not;
                 }
                 n = next;
@@ -127,7 +123,6 @@ fn letters(classes: &[u8; 256], d: &[u8], at: usize, w: &[u8]) -> Word
                 return Word::Not;
             }
         }
-        i += 1;
     }
     Word::Matched(n)
 }

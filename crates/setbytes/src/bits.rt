@@ -25,16 +25,11 @@ fn next_is(list: &[i64], j: usize, c: usize) -> bool
     }
 }
 
-fn bit_of(b: bool) -> u8
+// A truth as a byte, `1` or `0`.
+pub fn bit_of(b: bool) -> u8
     ensures { result ≡ cond b 49 48 }
 {
     if b { 49 } else { 48 }
-}
-
-fn step_of(b: bool) -> usize
-    ensures { result ≡ cond b 1 0 }
-{
-    if b { 1 } else { 0 }
 }
 
 // `1` for each category that is a member, `0` for each other: categories and members are walked together.
@@ -55,14 +50,11 @@ pub fn put_bits(
         (bit_bytes list.now (defined (legal t.now rows row) 1 w)) }
 {
     let mut j: usize = 0;
-    let mut i: usize = 0;
-    while i < w {
-        let k = i;
-        i += 1;
-        let yes = next_is(list, j, i);
-        j += step_of(yes);
-        if allows(t, rows, row, marks, i) {
-            bytes[at + k] = bit_of(yes);
+    for i in 0..w {
+        let yes = next_is(list, j, i + 1);
+        j += usize::from(yes);
+        if allows(t, rows, row, marks, i + 1) {
+            bytes[at + i] = bit_of(yes);
         }
     }
 }
@@ -83,11 +75,8 @@ pub fn blank_bits(
     ensures { bytes.new ≡ put bytes.old (bit_places at (defined (legal t.now rows row) 1 w))
         (spaces (length (bit_places at (defined (legal t.now rows row) 1 w)))) }
 {
-    let mut c: usize = 0;
-    while c < w {
-        let k = c;
-        c += 1;
-        if allows(t, rows, row, marks, c) {
+    for k in 0..w {
+        if allows(t, rows, row, marks, k + 1) {
             bytes[at + k] = 32;
         }
     }
@@ -98,10 +87,8 @@ fn clear_each(bytes: &mut [u8], at: usize, w: usize)
     requires { Bitstring at w (length bytes.old) }
     ensures { bytes.new ≡ put bytes.old (bit_places at (defined always 1 w)) (bit_bytes [] (defined always 1 w)) }
 {
-    let mut i: usize = 0;
-    while i < w {
+    for i in 0..w {
         bytes[at + i] = 48;
-        i += 1;
     }
 }
 
@@ -110,11 +97,9 @@ fn set_members(bytes: &mut [u8], at: usize, w: usize, list: &[i64])
     requires { Bitstring at w (length bytes.old) × Rising 1 w list.now }
     ensures { bytes.new ≡ with_members bytes.old at list.now }
 {
-    let mut j: usize = 0;
-    while j < list.len() {
-        let c = cells::count_of(list[j]);
+    for &m in list {
+        let c = cells::count_of(m);
         bytes[at + (c - 1)] = 49;
-        j += 1;
     }
 }
 

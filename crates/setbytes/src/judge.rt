@@ -38,12 +38,10 @@ pub fn set_fits(t: &[i64], rows: usize, row: Row, marks: &[u8], list: &[i64]) ->
     if !allows_number(t, rows, row, marks, list[0]) {
         return false;
     }
-    let mut i: usize = 1;
-    while i < list.len() {
+    for i in 1..list.len() {
         if !next_good(t, rows, row, marks, list, i) {
             return false;
         }
-        i += 1;
     }
     true
 }
@@ -78,12 +76,10 @@ pub fn fits_in(from: i64, to: i64, list: &[i64]) -> bool
     if !lies_in(from, to, list[0]) {
         return false;
     }
-    let mut i: usize = 1;
-    while i < list.len() {
+    for i in 1..list.len() {
         if !next_in(from, to, list, i) {
             return false;
         }
-        i += 1;
     }
     true
 }

@@ -23,13 +23,9 @@ pub fn put_spread(
 {
     let gap = b - w;
     let mut at = start;
-    let mut i: usize = 0;
-    let mut left = n;
-    while 0 < left {
+    for i in 0..n {
         digits::put_code(powers, bytes, at + gap, w, cells::number(list, i));
         at += b;
-        i += 1;
-        left -= 1;
     }
 }
 
@@ -41,10 +37,8 @@ pub fn blank_spread(bytes: &mut [u8], start: usize, b: usize, w: usize, n: usize
 {
     let gap = b - w;
     let mut at = start;
-    let mut left = n;
-    while 0 < left {
+    for _ in 0..n {
         runs::blank(bytes, at + gap, w);
         at += b;
-        left -= 1;
     }
 }

@@ -29,10 +29,8 @@ pub fn run_is(bytes: &[u8], a: usize, n: usize, x: u8, y: u8) -> bool
         return false;
     }
     let mut good = true;
-    let mut k: usize = 1;
-    while k < n {
+    for k in 1..n {
         good = good & is_one(bytes[a + k], x, y);
-        k += 1;
     }
     good
 }
@@ -108,13 +106,11 @@ fn lines_are(
 {
     let before = row.before;
     let lines = row.lines;
-    let mut k: usize = 0;
-    while k < lines {
+    for k in 0..lines {
         let place = Line::base(rows, before + k);
         if !line_is(t[place], bytes, at, w, x, y) {
             return false;
         }
-        k += 1;
     }
     true
 }
@@ -151,13 +147,11 @@ pub fn lines_count(t: &[i64], rows: usize, row: Row, w: usize) -> bool
         return false;
     }
     let before = row.before;
-    let mut k: usize = 0;
-    while k < w {
+    for k in 0..w {
         let place = Line::base(rows, before + k);
         if !cells::same(t[place], cells::cell_of(k + 1)) {
             return false;
         }
-        k += 1;
     }
     true
 }

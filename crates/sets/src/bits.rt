@@ -36,12 +36,9 @@ fn count_set(
     ensures { result ≡ length (set_bits_at (codes_to t.now rows row w) at bytes.now) }
 {
     let mut n: usize = 0;
-    let mut i: usize = 0;
-    while i < w {
-        let k = i;
-        i += 1;
-        if allows(t, rows, row, marks, i) {
-            n += bit_of(bytes[at + k]);
+    for i in 0..w {
+        if allows(t, rows, row, marks, i + 1) {
+            n += bit_of(bytes[at + i]);
         }
     }
     n
@@ -53,10 +50,8 @@ fn count_each(bytes: &[u8], at: usize, w: usize) -> usize
     ensures { result ≡ length (set_bits_at (defined always 1 w) at bytes.now) }
 {
     let mut n: usize = 0;
-    let mut i: usize = 0;
-    while i < w {
+    for i in 0..w {
         n += bit_of(bytes[at + i]);
-        i += 1;
     }
     n
 }
@@ -80,13 +75,10 @@ fn bits_fill(
         list.old }
 {
     let mut n: usize = 0;
-    let mut i: usize = 0;
-    while i < w {
-        let k = i;
-        i += 1;
-        if allows(t, rows, row, marks, i) {
-            if bytes[at + k] == 49 {
-                list[n] = cells::cell_of(i);
+    for i in 0..w {
+        if allows(t, rows, row, marks, i + 1) {
+            if bytes[at + i] == 49 {
+                list[n] = cells::cell_of(i + 1);
                 n += 1;
             }
         }
@@ -100,12 +92,9 @@ fn fill_each(bytes: &[u8], at: usize, w: usize, list: &mut [i64])
     ensures { list.new ≡ filled_of (set_bits_at (defined always 1 w) at bytes.now) list.old }
 {
     let mut n: usize = 0;
-    let mut i: usize = 0;
-    while i < w {
-        let k = i;
-        i += 1;
-        if bytes[at + k] == 49 {
-            list[n] = cells::cell_of(i);
+    for i in 0..w {
+        if bytes[at + i] == 49 {
+            list[n] = cells::cell_of(i + 1);
             n += 1;
         }
     }

@@ -25,13 +25,6 @@ pub enum SetRead {
     Short,
 }
 
-// How many members, or that a byte stands there that cannot.
-#[derive(Clone, Copy)]
-pub enum Counted {
-    Members(usize),
-    Wrong,
-}
-
 // How many of the first `size` numbers to mark: none where there is no room for them, or where searching the lines at each of so
 // many tests costs no more. To mark a number costs about as much as looking at four lines.
 fn marks_worth(lines: usize, tests: usize, size: usize, room: usize) -> usize
@@ -193,7 +186,7 @@ pub fn read_few(
         return SetRead::Missing;
     }
     match few::gather(t, rows, row, bytes, at, b, w, n, room) {
-        Counted::Members(count) => few::list_kept(room, count, list),
-        Counted::Wrong => SetRead::Illegal,
+        Some(count) => few::list_kept(room, count, list),
+        None => SetRead::Illegal,
     }
 }

@@ -2,7 +2,7 @@
 use mathlib.Core.Path.{◌≡◌}
 use mathlib.Core.Bool.{Bool, true, false}
 use mathlib.Core.List.{List, [], ◌∷◌, ◌++◌}
-use Prim.Native.Nat.{ℕ, zero, suc, ◌+◌, ◌-◌, ◌*◌, ◌≤◌, ◌<◌}
+use Prim.Native.Nat.{ℕ, suc, ◌+◌, ◌-◌, ◌*◌, ◌≤◌, ◌<◌}
 use native.Mathlib.Nat.{sub-eq-zero_of_le, suc-mul}
 use native.Mathlib.Numerals.{add-one}
 use native.Mathlib.Omega.{arith}
@@ -38,26 +38,25 @@ pub refused : {own : ℕ} {ps s s₁ : List ℕ} {b : Bool} (qs : List ℕ) → 
 refused qs c y = claim_stop qs (rw y at c)
 
 -- ---- the first of the places left, and the others
-pub run_next : (p n : ℕ) → 0 < n → run p n ≡ (p ∷ []) ++ run (p + 1) (n - 1)
-run_next p zero h = absurd (omega arith)
-run_next p (suc n) h = let e : suc n - 1 ≡ n = omega arith in rw (e, add-one p)
+pub run_next : (p n : ℕ) → p < n → run p (n - p) ≡ (p ∷ []) ++ run (p + 1) (n - (p + 1))
+run_next p n h = let e : n - p ≡ suc (n - (p + 1)) = omega arith in rw (e, add-one p)
 
-pub run_end : (p n : ℕ) → n ≤ 0 → run p n ≡ []
-run_end p n h = let e : n ≡ 0 = omega arith in rw e
+pub run_end : (p n : ℕ) → n ≤ p → run p (n - p) ≡ []
+run_end p n h = rw (sub-eq-zero_of_le h)
 
-pub spread_next : (q b w n : ℕ) → 0 < n → spread_places q b w n ≡ run (q + (b - w)) w ++ spread_places (q + b) b w (n - 1)
+pub spread_next : (q b w k n : ℕ) → k < n → spread_places q b w (n - k) ≡ run (q + (b - w)) w ++ spread_places (q + b) b w (n - (k + 1))
 unfolding spread_places
-spread_next q b w zero h = absurd (omega arith)
-spread_next q b w (suc n) h = let e : suc n - 1 ≡ n = omega arith in rw e
+spread_next q b w k n h = let e : n - k ≡ suc (n - (k + 1)) = omega arith in rw e
 
 -- the subfields behind the first lie inside too
-pub spread_left : (q b n m : ℕ) → 0 < n → q + n * b ≤ m → q + b + (n - 1) * b ≤ m
-spread_left q b zero m h l = absurd (omega arith)
-spread_left q b (suc n) m h l = let e : suc n - 1 ≡ n = omega arith in rw e (omega (arith, suc-mul n b))
+pub spread_left : (q b k n m : ℕ) → k < n → q + (n - k) * b ≤ m → q + b + (n - (k + 1)) * b ≤ m
+spread_left q b k n m h l =
+    let e : n - k ≡ suc (n - (k + 1)) = omega arith in
+    omega (arith, suc-mul (n - (k + 1)) b, rw e at l)
 
-pub spread_end : (q b w n : ℕ) → n ≤ 0 → spread_places q b w n ≡ []
+pub spread_end : (q b w k n : ℕ) → n ≤ k → spread_places q b w (n - k) ≡ []
 unfolding spread_places
-spread_end q b w n h = let e : n ≡ 0 = omega arith in rw e
+spread_end q b w k n h = rw (sub-eq-zero_of_le h)
 
 module _ (p : ℕ) (t : List ℤ) (v before n : ℕ) where
   pub lines_next : (k : ℕ) → k < n

@@ -40,14 +40,10 @@ fn claim_run(stamps: &mut [u16], at: usize, n: usize, own: u16) -> bool
     requires { at + n ≤ length stamps.old }
     ensures { Claimed own (run at n) stamps.old stamps.new result }
 {
-    let mut p = at;
-    let mut left = n;
-    while 0 < left {
+    for p in at..at + n {
         if !claim_one(stamps, p, own) {
             return false;
         }
-        p += 1;
-        left -= 1;
     }
     true
 }
@@ -59,13 +55,11 @@ fn claim_spread(stamps: &mut [u16], at: usize, b: usize, w: usize, n: usize, own
 {
     let gap = b - w;
     let mut q = at;
-    let mut left = n;
-    while 0 < left {
+    for _ in 0..n {
         if !claim_run(stamps, q + gap, w, own) {
             return false;
         }
         q += b;
-        left -= 1;
     }
     true
 }
@@ -94,14 +88,12 @@ fn claim_lines(t: &[i64], rows: usize, row: Row, stamps: &mut [u16], own: u16) -
     let at = row.start - 1;
     let before = row.before;
     let lines = row.lines;
-    let mut k: usize = 0;
-    while k < lines {
+    for k in 0..lines {
         let base = Line::base(rows, before + k);
         let c = cells::count_at(t, base);
         if !claim_one(stamps, at + (c - 1), own) {
             return false;
         }
-        k += 1;
     }
     true
 }
@@ -145,13 +137,11 @@ fn rows_apart(t: &[i64], rows: usize, len: usize, stamps: &mut [u16]) -> bool
     requires by_index { (q : ℕ) → get_or stamps.old q 0 ≡ 0 }
     ensures { result ≡ shares_none t.now rows }
 {
-    let mut i: usize = 0;
-    while i < rows {
+    for i in 0..rows {
         let own = (i + 1) as u16;
         if !claim_row(t, rows, len, Row::read(t, i), stamps, own) {
             return false;
         }
-        i += 1;
     }
     true
 }
@@ -162,14 +152,12 @@ fn rows_follow(t: &[i64], rows: usize, len: usize) -> bool
     ensures { result ≡ true → shares_none t.now rows ≡ true }
 {
     let mut last: usize = 0;
-    let mut i: usize = 0;
-    while i < rows {
+    for i in 0..rows {
         let row = Row::read(t, i);
         if row.start <= last {
             return false;
         }
         last = row.finish;
-        i += 1;
     }
     true
 }

@@ -16,13 +16,7 @@ pub fn number_of(s: Sign) -> usize
     ensures { (result ≡ sign_number s) × (result ≤ 256) }
 {
     match s {
-        Sign::Byte(b) => wide(b),
+        Sign::Byte(b) => usize::from(b),
         Sign::Break => 256,
     }
-}
-
-fn wide(b: u8) -> usize
-    ensures { (result ≡ b) × (result ≤ 256) }
-{
-    b as usize
 }

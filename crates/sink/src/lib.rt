@@ -44,6 +44,7 @@ fn store_fours(out: &mut [u8], at: usize, s: &[u8]) -> usize
         × (sets out.new (at + result) (drop result s.now) ≡ sets out.old at s.now) }
 {
     let mut i: usize = 0;
+    // No `for`: the steps are of four, and the place where they stop is the answer.
     while 4 <= s.len() - i {
         store_four(out, at, s, i);
         i += 4;
@@ -56,15 +57,13 @@ fn store_left(out: &mut [u8], at: usize, s: &[u8], i: usize)
     requires { (i ≤ length s.now) × (length s.now ≤ i + 3) × (at + length s.now ≤ length out.old) }
     ensures { out.new ≡ sets out.old (at + i) (drop i s.now) }
 {
-    let mut k: usize = 0;
-    while k < 3 {
+    for k in 0..3 {
         let j = i + k;
         if s.len() <= j {
             return;
         }
         let b = s[j];
         out[at + j] = b;
-        k += 1;
     }
 }
 

@@ -208,10 +208,8 @@ fn lines_low(t: &[i64], v: usize, e: usize) -> bool
         text_len: 0,
     };
     let fours = e / 4;
-    let mut k: usize = 0;
-    while k < fours {
+    for k in 0..fours {
         laid = with_four(t, v, 4 * k, laid);
-        k += 1;
     }
     rest_low(t, v, e, 4 * fours, laid)
 }
@@ -225,12 +223,10 @@ fn lines_plain(t: &[i64], v: usize, b: usize, n: usize, low: bool) -> bool
     if low {
         return true;
     }
-    let mut k: usize = 0;
-    while k < n {
+    for k in 0..n {
         if !line_plain(Line::read(t, Line::base(v, b + k))) {
             return false;
         }
-        k += 1;
     }
     true
 }
@@ -246,7 +242,7 @@ fn block_of(t: &[i64], v: usize, b: usize, n: usize) -> Block
 pub fn larger(a: usize, b: usize) -> usize
     ensures { result ≡ max a b }
 {
-    if a <= b { b } else { a }
+    a.max(b)
 }
 
 // The bytes that the wider of two numbers takes.
@@ -595,10 +591,9 @@ fn rows_good(t: &[i64], powers: &[u64; 16], h: Header, low: bool) -> bool
 {
     let v = h.rows;
     let e = h.lines;
-    let mut i: usize = 0;
     let mut sum: usize = 0;
     let mut high: usize = 0;
-    while i < v {
+    for i in 0..v {
         let at = Row::base(i);
         if !whole_row_good(t, powers, v, e, sum, at, low) {
             return false;
@@ -606,7 +601,6 @@ fn rows_good(t: &[i64], powers: &[u64; 16], h: Header, low: bool) -> bool
         let c = Columns::read(t, at);
         sum += c.lines;
         high = larger(high, c.finish);
-        i += 1;
     }
     (sum == e) & (high == h.length)
 }

@@ -8,14 +8,13 @@ use native.Mathlib.Omega.{arith}
 use lib.Dec.{leb, eqb}
 use lib.ListN.{length, drop, get_or, length-append, length-drop, drop_of_length-le}
 use borrow.Author.Tests.{ne_eqb, eqb-true, eqb-false, le-leb, lt-leb, leb-true, leb-false}
+use Rattle.std.proofs.Common.{Option, Some, None}
 use Rattle.scan.specs.rule.Loop.{Next, Again}
 use Rattle.scan.proofs.Loops.{loop_again, loop_done}
 use Rattle.utf.proofs.Strides.{drop_1}
 use Rattle.markup.specs.rule.Bytes.{stands}
 use Rattle.markup.specs.rule.Reference.{reference_of}
 use Rattle.markup.specs.rule.Gap.{xml_comment}
-use Rattle.markup.specs.declared.Char.{Char}
-use Rattle.markup.specs.declared.Char.TheVariants.{Is, Bad}
 use Rattle.markup.specs.declared.Skip.{Skip}
 use Rattle.markup.specs.declared.Skip.TheVariants.{Past, Broken}
 use Rattle.markup.proofs.Runs.{first_at, onward}
@@ -89,13 +88,13 @@ module _ (s : List ℕ) where
   part_one : (p c n : ℕ) → part_of s p ≡ Stop (One c n) → Step s p n (c ∷ [])
   unfolding part_of noted_of
   part_one p c n e = by (leb (length s) p) (eqb (get_or s p 0) 38) (eqb (get_or s p 0) 60) refl refl refl e where
-    char : (k : Char) → reference_of p (drop (p + 1) s) ≡ k → p < length s → get_or s p 0 ≡ 38 → Stop (of_char k) ≡ Stop (One c n)
+    char : (k : Option (ℕ × ℕ)) → reference_of p (drop (p + 1) s) ≡ k → p < length s → get_or s p 0 ≡ 38 → Stop (of_char k) ≡ Stop (One c n)
         → Step s p n (c ∷ [])
-    char (Is x m) g h i e =
+    char (Some (x, m)) g h i e =
         let j : x ≡ c = cc in
         let k : m ≡ n = cc in
         with_ref p c n h i (reference_sound p c n (drop (p + 1) s) (g ∙ rw (j, k)))
-    char Bad g h i e = let z : ◌≡◌ {A = ℕ} 0 1 = cc in absurd (omega arith)
+    char None g h i e = let z : ◌≡◌ {A = ℕ} 0 1 = cc in absurd (omega arith)
 
     noted : (r : Bool) (k : Skip) → cond r (of_note k) (Stop Not) ≡ Stop (One c n) → Step s p n (c ∷ [])
     noted true (Past m) e = let z : ◌≡◌ {A = ℕ} 0 1 = cc in absurd (omega arith)
@@ -121,9 +120,9 @@ module _ (s : List ℕ) where
   part_end : (p : ℕ) → part_of s p ≡ Stop End → length s ≤ p
   unfolding part_of noted_of
   part_end p e = by (leb (length s) p) (eqb (get_or s p 0) 38) (eqb (get_or s p 0) 60) refl e where
-    char : (k : Char) → Stop (of_char k) ≡ Stop End → length s ≤ p
-    char (Is x m) e = let z : ◌≡◌ {A = ℕ} 0 1 = cc in absurd (omega arith)
-    char Bad e = let z : ◌≡◌ {A = ℕ} 0 1 = cc in absurd (omega arith)
+    char : (k : Option (ℕ × ℕ)) → Stop (of_char k) ≡ Stop End → length s ≤ p
+    char (Some (x, m)) e = let z : ◌≡◌ {A = ℕ} 0 1 = cc in absurd (omega arith)
+    char None e = let z : ◌≡◌ {A = ℕ} 0 1 = cc in absurd (omega arith)
 
     noted : (r : Bool) (k : Skip) → cond r (of_note k) (Stop Not) ≡ Stop End → length s ≤ p
     noted true (Past m) e = let z : ◌≡◌ {A = ℕ} 0 1 = cc in absurd (omega arith)
@@ -298,7 +297,7 @@ module _ (s : List ℕ) where
   complete (refer {c} {u} {s = t} {cs} w v) p e =
       let r = first_at s p 38 (u ++ t) e in
       let o : drop (p + 1) s ≡ u ++ t = onward s p 1 (38 ∷ []) (u ++ t) e refl in
-      let i : reference_of p (drop (p + 1) s) ≡ Is c (p + 1 + length u) = rw o (reference_complete p w t) in
+      let i : reference_of p (drop (p + 1) s) ≡ Some (c, p + 1 + length u) = rw o (reference_complete p w t) in
       heard_one p c (p + 1 + length u) (first_stop p (One c (p + 1 + length u)) (rw (r.1, lt-leb (length s) p r.0, i)))
       ∙ ap (after c) (complete v (p + 1 + length u) (onward s (p + 1) (length u) u t o refl))
   complete (note {u} {s = t} {cs} w v) p e =

@@ -10,7 +10,7 @@ ghost use Rattle.spans.specs.rule.Heard.{All};
 ghost use Rattle.spans.specs.Figures.{figures_after, figures_of};
 ghost use Rattle.spans.specs.rule.Says.{is_letter, is_value, of_class, heard_count, heard_word};
 
-use markup::{Char, Skip};
+use markup::Skip;
 
 // The first character of what is left, with the place after it; or nothing is left; or what stands there says nothing.
 #[derive(Clone, Copy)]
@@ -44,12 +44,6 @@ fn comment_in(s: &[u8], at: usize) -> Part
     Part::Stop(First::Not)
 }
 
-fn wide(b: u8) -> u64
-    ensures { (result ≡ b) × (result ≤ 255) }
-{
-    b as u64
-}
-
 fn part_in(s: &[u8], at: usize) -> Part
     ensures { result ≡ part_of s.now at }
 {
@@ -59,10 +53,10 @@ fn part_in(s: &[u8], at: usize) -> Part
     let b = s[at];
     if b == 38 {
         match markup::reference(s, at) {
-            Char::Is { code, next } => {
+            Some((code, next)) => {
                 return Part::Stop(First::One { code, next });
             }
-            Char::Bad => {
+            None => {
                 return Part::Stop(First::Not);
             }
         }
@@ -70,7 +64,7 @@ fn part_in(s: &[u8], at: usize) -> Part
     if b == 60 {
         return comment_in(s, at);
     }
-    let code = wide(b);
+    let code = b as u64;
     Part::Stop(First::One { code, next: at + 1 })
 }
 
@@ -107,15 +101,8 @@ pub fn next_char(s: &[u8], at: usize) -> First
     if b == 60 {
         return marked_char(s, at);
     }
-    let code = wide(b);
+    let code = b as u64;
     First::One { code, next: at + 1 }
-}
-
-// The number that digits say, at most 10 ^ 15, and how many they are; or that there is another character, or none.
-#[derive(Clone, Copy)]
-pub enum Figures {
-    Good { size: u64, count: usize },
-    Wrong,
 }
 
 pub fn is_digit(c: u64) -> bool
@@ -138,18 +125,19 @@ pub fn push(v: u64, c: u64) -> u64
     }
 }
 
-fn figures_end(size: u64, count: usize) -> Figures
+fn figures_end(size: u64, count: usize) -> Option<(u64, usize)>
     requires { size ≤ 1000000000000000 }
     ensures { result ≡ figures_after size count (All []) }
 {
     if count == 0 {
-        return Figures::Wrong;
+        return None;
     }
-    Figures::Good { size, count }
+    Some((size, count))
 }
 
-// The number of a whole stretch.
-pub fn figures_in(s: &[u8]) -> Figures
+// The number that the digits of a whole stretch say, at most 10 ^ 15, and how many they are; none where there is another character, or
+// none.
+pub fn figures_in(s: &[u8]) -> Option<(u64, usize)>
     ensures { result ≡ figures_of (heard s.now 0) }
 {
     let mut n: usize = 0;
@@ -159,7 +147,7 @@ pub fn figures_in(s: &[u8]) -> Figures
         match next_char(s, n) {
             First::One { code, next } => {
                 if !is_digit(code) {
-                    return Figures::Wrong;
+                    return None;
                 }
                 size = push(size, code);
                 count += 1;
@@ -169,7 +157,7 @@ pub fn figures_in(s: &[u8]) -> Figures
                 return figures_end(size, count);
             }
             First::Not => {
-                return Figures::Wrong;
+                return None;
             }
         }
     }
@@ -230,25 +218,21 @@ pub fn is_word(s: &[u8], w: &[u8]) -> bool
     ensures { result ≡ heard_word w.now (heard s.now 0) }
 {
     let mut n: usize = 0;
-    let mut i: usize = 0;
-    loop {
+    for x in w {
         match next_char(s, n) {
             First::One { code, next } => {
-                if w.len() <= i {
+                if *x as u64 != code {
                     return false;
                 }
-                if wide(w[i]) != code {
-                    return false;
-                }
-                i += 1;
                 n = next;
             }
-            First::End => {
-                return w.len() <= i;
-            }
-            First::Not => {
-                return false;
-            }
+            First::End => return false,
+            First::Not => return false,
         }
+    }
+    match next_char(s, n) {
+        First::One { code: _, next: _ } => false,
+        First::End => true,
+        First::Not => false,
     }
 }

@@ -10,6 +10,7 @@ use lib.IntN.{ℤ}
 use lib.ListN.{length, drop}
 use lib.Seq.{length-take-le}
 use borrow.Author.Tests.{le-leb, lt-leb, leb-true, lt-ltb, le-ltb, ltb-false}
+use Rattle.std.proofs.Common.{Option, Some, None}
 use Rattle.below.specs.Below.{and_left, and_right}
 use Rattle.signs.specs.declared.Sign.{Sign}
 use Rattle.utf.specs.rule.Chars.{encode}
@@ -25,8 +26,6 @@ use Rattle.contents.specs.declared.Part.TheVariants as part
 use Rattle.contents.proofs.Exactly.{TextAt, text_exactly, text_says}
 use Rattle.stretches.specs.rule.Stretch.{stretch_text, stretch_signs, stretch_as, StretchDecoded}
 use Rattle.stretches.specs.Room.{room_of}
-use Rattle.stretches.specs.declared.Room.{Room}
-use Rattle.stretches.specs.declared.Room.TheVariants.{Signs, Short}
 
 -- ---- sign by sign
 pub start_signs : (l : Bool) (d : List ℕ) (at : ℕ) → content_signs l d (start_of at) ≡ signs_from l d (begun at)
@@ -56,11 +55,11 @@ told_one {l} {d} s c' t e =
 pub told_over : {l : Bool} {d : List ℕ} {c : Cursor} {r : Part} → Tells l d c r → r ≡ part.Over → content_signs l d c ≡ []
 told_over {l} {d} t e = t.signs ∙ ap (part_signs l d) e
 
-pub room_short : (room n : ℕ) → room < n → Short ≡ room_of room n
+pub room_short : (room n : ℕ) → room < n → None ≡ room_of room n
 unfolding room_of
 room_short room n h = rw (lt-ltb room n h)
 
-pub room_fits : (room n m : ℕ) → n ≤ room → m ≡ n → Signs m ≡ room_of room n
+pub room_fits : (room n m : ℕ) → n ≤ room → m ≡ n → Some m ≡ room_of room n
 unfolding room_of
 room_fits room n m h e = rw (le-ltb room n h, e)
 
@@ -83,39 +82,40 @@ module _ (l : Bool) (d : List ℕ) (place long : ℕ) (list : List ℤ) where
     unfolding stretch_text
     is_text_lem e = rw (le-leb (place + long) (length d) h, e)
 
-    short_is : (r : Room) → r ≡ room_of (length list) (length (stretch_signs l d place long)) → r ≡ Short
+    short_is : (r : Option ℕ) → r ≡ room_of (length list) (length (stretch_signs l d place long)) → r ≡ None
         → ltb (length list) (length (stretch_signs l d place long)) ≡ true
     unfolding room_of
     short_is r e f = by (ltb (length list) (length (stretch_signs l d place long))) (sym f ∙ e) where
-      by : (q : Bool) → Short ≡ cond q Short (Signs (length (stretch_signs l d place long))) → q ≡ true
+      by : (q : Bool) → None ≡ cond q None (Some (length (stretch_signs l d place long))) → q ≡ true
       by true g = refl
       by false g = let z : ◌≡◌ {A = ℕ} 0 1 = cc in absurd (omega arith)
 
-    fits_is : (r : Room) (n : ℕ) → r ≡ room_of (length list) (length (stretch_signs l d place long)) → r ≡ Signs n
+    fits_is : (r : Option ℕ) (n : ℕ) → r ≡ room_of (length list) (length (stretch_signs l d place long)) → r ≡ Some n
         → (ltb (length list) (length (stretch_signs l d place long)) ≡ false) × (n ≡ length (stretch_signs l d place long))
     unfolding room_of
     fits_is r n e f = by (ltb (length list) (length (stretch_signs l d place long))) refl (sym f ∙ e) where
-      by : (q : Bool) → ltb (length list) (length (stretch_signs l d place long)) ≡ q → Signs n
-          ≡ cond q Short (Signs (length (stretch_signs l d place long)))
+      by : (q : Bool) → ltb (length list) (length (stretch_signs l d place long)) ≡ q → Some n
+          ≡ cond q None (Some (length (stretch_signs l d place long)))
           → (ltb (length list) (length (stretch_signs l d place long)) ≡ false) × (n ≡ length (stretch_signs l d place long))
       by true k g = let z : ◌≡◌ {A = ℕ} 0 1 = cc in absurd (omega arith)
       by false k g = (k, cc)
 
-    pub no_room : is_text l (cut_off d place long) place ≡ true → (r : Room) → r
-        ≡ room_of (length list) (length (signs_from l (cut_off d place long) (begun place))) → r ≡ Short
+    pub no_room : is_text l (cut_off d place long) place ≡ true → (r : Option ℕ) → r
+        ≡ room_of (length list) (length (signs_from l (cut_off d place long) (begun place))) → r ≡ None
         → StretchDecoded l d place long list list decoded.ShortList
     unfolding decode_said stretch_as signs_after decode_fitting stretch_signs
     no_room t r e f = let q = short_is r e f in record { says = rw (is_text_lem t, q); leaves = rw (is_text_lem t, q) }
 
-    pub counted : (r : Room) (n : ℕ) → r ≡ room_of (length list) (length (signs_from l (cut_off d place long) (begun place))) → r ≡ Signs n
+    pub counted : (r : Option ℕ) (n : ℕ) → r ≡ room_of (length list) (length (signs_from l (cut_off d place long) (begun place))) → r
+        ≡ Some n
         → (n ≡ length (signs_from l (cut_off d place long) (begun place))) × (n ≤ length list)
     unfolding stretch_signs
     counted r n e f = let q = fits_is r n e f in let g = ltb-false (length list)
         (length (signs_from l (cut_off d place long) (begun place)))
         q.0 in let k = q.1 in (k, omega arith)
 
-    pub decodes : is_text l (cut_off d place long) place ≡ true → (r : Room) (n : ℕ) (list' : List ℤ) → r
-        ≡ room_of (length list) (length (signs_from l (cut_off d place long) (begun place))) → r ≡ Signs n
+    pub decodes : is_text l (cut_off d place long) place ≡ true → (r : Option ℕ) (n : ℕ) (list' : List ℤ) → r
+        ≡ room_of (length list) (length (signs_from l (cut_off d place long) (begun place))) → r ≡ Some n
         → list' ≡ numbers_of (signs_from l (cut_off d place long) (begun place)) ++ drop n list
         → StretchDecoded l d place long list list' (decoded.Signs n)
     unfolding decode_said stretch_as signs_after decode_fitting stretch_signs

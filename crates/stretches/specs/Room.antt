@@ -1,7 +1,5 @@
 -- Whether n signs fit.
-use Rattle.std.specs.Prelude.{cond, ℕ, ltb}
-use Rattle.stretches.specs.declared.Room.{Room}
-use Rattle.stretches.specs.declared.Room.TheVariants.{Signs, Short}
+use Rattle.std.specs.Prelude.{cond, ℕ, ltb, Option, Some, None}
 
-unfoldable pub room_of : ℕ → ℕ → Room
-room_of room n = cond (ltb room n) Short (Signs n)
+unfoldable pub room_of : ℕ → ℕ → Option ℕ
+room_of room n = cond (ltb room n) None (Some n)

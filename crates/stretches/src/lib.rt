@@ -12,13 +12,7 @@ use contents::Part;
 use texts::Decoded;
 
 // How many signs a text has, where there is room for them.
-#[derive(Clone, Copy)]
-pub enum Room {
-    Signs(usize),
-    Short,
-}
-
-fn count_signs(latin: bool, d: &[u8], at: usize, room: usize) -> Room
+fn count_signs(latin: bool, d: &[u8], at: usize, room: usize) -> Option<usize>
     requires { at ≤ length d.now }
     ensures { result ≡ room_of room (length (signs_from latin d.now (begun at))) }
 {
@@ -28,13 +22,13 @@ fn count_signs(latin: bool, d: &[u8], at: usize, room: usize) -> Room
         match contents::next_sign(latin, d, c) {
             Part::One { sign: _, cursor } => {
                 if n == room {
-                    return Room::Short;
+                    return None;
                 }
                 n += 1;
                 c = cursor;
             }
             Part::Over => {
-                return Room::Signs(n);
+                return Some(n);
             }
         }
     }
@@ -48,12 +42,10 @@ fn write_signs(latin: bool, d: &[u8], at: usize, count: usize, list: &mut [i64])
     ensures { list.new ≡ numbers_of (signs_from latin d.now (begun at)) ++ drop count list.old }
 {
     let mut c = contents::start_at(at);
-    let mut k: usize = 0;
-    while k < count {
+    for k in 0..count {
         match contents::next_sign(latin, d, c) {
             Part::One { sign, cursor } => {
                 list[k] = cells::cell_of(signs::number_of(sign));
-                k += 1;
                 c = cursor;
             }
             Part::Over => {
@@ -80,10 +72,10 @@ pub fn decode_stretch(latin: bool, d: &[u8], place: usize, long: usize, list: &m
     }
     let room = list.len();
     match count_signs(latin, &d[..end], place, room) {
-        Room::Signs(n) => {
+        Some(n) => {
             write_signs(latin, &d[..end], place, n, list);
             Decoded::Signs(n)
         }
-        Room::Short => Decoded::ShortList,
+        None => Decoded::ShortList,
     }
 }

@@ -55,8 +55,7 @@ fn all_rise(t: &[i64], at: usize, step: usize, n: usize) -> bool
         return true;
     }
     let pairs = (n - 1) / 2;
-    let mut j: usize = 0;
-    while j < pairs {
+    for j in 0..pairs {
         let k = 2 * j + 1;
         if !above_last(t, at, step, n, k) {
             return false;
@@ -64,7 +63,6 @@ fn all_rise(t: &[i64], at: usize, step: usize, n: usize) -> bool
         if !above_last(t, at, step, n, k + 1) {
             return false;
         }
-        j += 1;
     }
     if n == 1 {
         return true;
@@ -78,12 +76,10 @@ fn number_new(t: &[i64], at: usize, step: usize, n: usize, k: usize) -> bool
     ensures { result ≡ number_new (stride_at t.now at step) k }
 {
     let x = number_at(t, at, step, n, k);
-    let mut j: usize = 0;
-    while j < k {
+    for j in 0..k {
         if cells::same(x, number_at(t, at, step, n, j)) {
             return false;
         }
-        j += 1;
     }
     true
 }
@@ -112,15 +108,13 @@ fn differ_marked(t: &[i64], at: usize, step: usize, n: usize, marks: &mut [u8]) 
     requires { Strided t.now at step n × (length marks.old ≡ 16384) }
     ensures { result ≡ all_differ (stride_at t.now at step) n }
 {
-    let mut k: usize = 0;
-    while k < n {
+    for k in 0..n {
         let place = mark_of(number_at(t, at, step, n, k));
         let mark = marks[place];
         if !new_by_mark(t, at, step, n, k, mark) {
             return false;
         }
         marks[place] = 1;
-        k += 1;
     }
     true
 }
@@ -138,34 +132,23 @@ fn differ_placed(t: &[i64], at: usize, step: usize, n: usize, marks: &mut [u8]) 
     requires { Strided t.now at step n × ((k : ℕ) → k < n → count_of (stride_at t.now at step k) < length marks.old) }
     ensures { result ≡ all_differ (stride_at t.now at step) n }
 {
-    let mut k: usize = 0;
-    while k < n {
+    for k in 0..n {
         let own = cells::count_of(number_at(t, at, step, n, k));
         let mark = marks[own];
         if !new_by_mark(t, at, step, n, k, mark) {
             return false;
         }
         marks[own] = 1;
-        k += 1;
     }
     true
 }
 
-// Do low numbers differ? Fewer places are soon cleared.
-fn differ_low(t: &[i64], at: usize, step: usize, n: usize) -> bool
-    requires { Strided t.now at step n × ((k : ℕ) → k < n → count_of (stride_at t.now at step k) < 1024) }
+// Do numbers below N differ? Fewer places are soon cleared.
+fn differ_below<const N: usize>(t: &[i64], at: usize, step: usize, n: usize) -> bool
+    requires { (N ≤ 16384) × Strided t.now at step n × ((k : ℕ) → k < n → count_of (stride_at t.now at step k) < N) }
     ensures { result ≡ all_differ (stride_at t.now at step) n }
 {
-    let mut marks = [0u8; 1024];
-    differ_placed(t, at, step, n, &mut marks)
-}
-
-// Do the numbers of categories differ?
-fn differ_middle(t: &[i64], at: usize, step: usize, n: usize) -> bool
-    requires { Strided t.now at step n × ((k : ℕ) → k < n → count_of (stride_at t.now at step k) < 16384) }
-    ensures { result ≡ all_differ (stride_at t.now at step) n }
-{
-    let mut marks = [0u8; 16384];
+    let mut marks = [0u8; N];
     differ_placed(t, at, step, n, &mut marks)
 }
 
@@ -174,12 +157,10 @@ fn differ_pairwise(t: &[i64], at: usize, step: usize, n: usize) -> bool
     requires { Strided t.now at step n }
     ensures { result ≡ all_differ (stride_at t.now at step) n }
 {
-    let mut k: usize = 0;
-    while k < n {
+    for k in 0..n {
         if !number_new(t, at, step, n, k) {
             return false;
         }
-        k += 1;
     }
     true
 }
@@ -188,14 +169,14 @@ fn differ_pairwise(t: &[i64], at: usize, step: usize, n: usize) -> bool
 pub fn lesser(a: i64, b: i64) -> i64
     ensures { result ≡ cond (le_z a b) a b }
 {
-    if a <= b { a } else { b }
+    a.min(b)
 }
 
 // The second number where the first is at most it, else the first.
 pub fn greater(a: i64, b: i64) -> i64
     ensures { result ≡ cond (le_z a b) b a }
 {
-    if a <= b { b } else { a }
+    a.max(b)
 }
 
 // The hull with one number more.
@@ -220,10 +201,8 @@ pub fn hull_of(t: &[i64], at: usize, step: usize, n: usize) -> Hull
         least: first,
         most: first,
     };
-    let mut k: usize = 1;
-    while k < n {
+    for k in 1..n {
         h = hull_with(h, number_at(t, at, step, n, k));
-        k += 1;
     }
     h
 }
@@ -236,10 +215,10 @@ fn differ_many(t: &[i64], at: usize, step: usize, n: usize, h: Hull) -> bool
     let least = h.least;
     let most = h.most;
     if cells::not_above(0, least) & cells::not_above(most, 1_023) {
-        return differ_low(t, at, step, n);
+        return differ_below::<1024>(t, at, step, n);
     }
     if cells::not_above(0, least) & cells::not_above(most, 16_383) {
-        return differ_middle(t, at, step, n);
+        return differ_below::<16384>(t, at, step, n);
     }
     differ_by_marks(t, at, step, n)
 }

@@ -211,15 +211,13 @@ fn is_name_there(d: &[u8], at: usize, w: &[u8]) -> bool
     requires { at + length w.now ≤ length d.now }
     ensures { result ≡ true → (stands w.now (drop at d.now) ≡ true) × Each (of_kind 1) w.now }
 {
-    let mut i: usize = 0;
-    while i < w.len() {
-        if d[at + i] != w[i] {
+    for (i, b) in w.iter().enumerate() {
+        if d[at + i] != *b {
             return false;
         }
-        if !markup::is_name(w[i]) {
+        if !markup::is_name(*b) {
             return false;
         }
-        i += 1;
     }
     true
 }
@@ -253,8 +251,7 @@ fn value_end(d: &[u8], at: usize) -> usize
     requires { at ≤ length d.now }
     ensures { (result ≡ 0 → ⊥) → Valued d.now at result }
 {
-    let mut i = at;
-    while i < d.len() {
+    for i in at..d.len() {
         let b = d[i];
         if b == 34 {
             return i;
@@ -265,7 +262,6 @@ fn value_end(d: &[u8], at: usize) -> usize
         if b == 38 {
             return 0;
         }
-        i += 1;
     }
     0
 }

@@ -25,8 +25,7 @@ use Rattle.marks.specs.declared.Skip.TheVariants.{Past}
 use Rattle.marks.specs.rule.Marks.{is_hex, inside_of, moved, string_of}
 use Rattle.marks.specs.rule.Spelling.{gives_of, gone, decode_of}
 use Rattle.marks.proofs.Complete.{before}
-use Rattle.texts.specs.declared.Extent.{Extent}
-use Rattle.texts.specs.declared.Extent.TheVariants.{Signs, NotText}
+use Rattle.std.specs.Prelude.{Option, Some, None}
 use Rattle.texts.specs.declared.Pace.{Pace}
 use Rattle.texts.specs.declared.Pace.TheVariants.{On}
 use Rattle.texts.specs.rule.Decode.{closes_at, cut_off, inside_text, signs_at, numbers_of}
@@ -90,11 +89,11 @@ module _ (s : Inside) (c : ℕ) {t : Text} where
   unfolding measure_from
   measure_on e f g = rw (e, sym f ∙ g)
 
-  pub measure_closed : {p b : ℕ} {u : Text} {m : Move} → t ≡ sign p b u → m ≡ inside_of s b p → m ≡ Closed → measure_from s c t ≡ NotText
+  pub measure_closed : {p b : ℕ} {u : Text} {m : Move} → t ≡ sign p b u → m ≡ inside_of s b p → m ≡ Closed → measure_from s c t ≡ None
   unfolding measure_from
   measure_closed e f g = rw (e, sym f ∙ g)
 
-  pub measure_wrong : {p b o : ℕ} {u : Text} {m : Move} → t ≡ sign p b u → m ≡ inside_of s b p → m ≡ Wrong o → measure_from s c t ≡ NotText
+  pub measure_wrong : {p b o : ℕ} {u : Text} {m : Move} → t ≡ sign p b u → m ≡ inside_of s b p → m ≡ Wrong o → measure_from s c t ≡ None
   unfolding measure_from
   measure_wrong e f g = rw (e, sym f ∙ g)
 
@@ -122,10 +121,10 @@ gives_count (Pair o) a b = refl
 gives_count (Low o) a b = refl
 
 -- the extent of bytes that start at p, read on from s behind a, where c signs were said before: a quote behind them closes them, or not
-abbrev extent_of : List ℕ → ℕ → Inside → ℕ → ℕ → Extent
+abbrev extent_of : List ℕ → ℕ → Inside → ℕ → ℕ → Option ℕ
 extent_of l p s a c = cond (closes_at (p + length l + 1) (string_of s (kept p (l ++ 34 ∷ []))))
-    (Signs (c + length (decode_of s a (kept p l))))
-    NotText
+    (Some (c + length (decode_of s a (kept p l))))
+    None
 
 over : (p : ℕ) (s : Inside) (a c : ℕ) → ended_in s c ≡ extent_of [] p s a c
 unfolding ended_in kept string_of decode_of inside_of is_hex is_digit upper_of class_of
@@ -146,7 +145,7 @@ extent (x ∷ l) p s a c = by (eqb (class_of x) 0) (λ u y k. extent l (p + 1) u
   at_byte : (m : Move) → ((u : Inside) (y k : ℕ) → measure_from u k (kept (p + 1) l) ≡ extent_of l (p + 1) u y k)
       → measured m (λ u. measure_from u (c + completes s x) (kept (p + 1) l))
       ≡ cond (closes_at (p + suc (length l) + 1) (moved m (λ u. string_of u (kept (p + 1) (l ++ 34 ∷ []))) (Past (p + 1))))
-      (Signs (c + length (gone m (gives_of s a x) (λ u. decode_of u x (kept (p + 1) l))))) NotText
+      (Some (c + length (gone m (gives_of s a x) (λ u. decode_of u x (kept (p + 1) l))))) None
   at_byte (Go u) ih =
       let n : c + length (gives_of s a x ++ decode_of u x (kept (p + 1) l)) ≡ c + completes s x + length (decode_of u x (kept (p + 1) l)) =
       rw (length-append (gives_of s a x) (decode_of u x (kept (p + 1) l)), gives_count s a x) (omega arith) in
@@ -158,13 +157,13 @@ extent (x ∷ l) p s a c = by (eqb (class_of x) 0) (λ u y k. extent l (p + 1) u
       → measure_from s c (cond q (kept (p + 1) l) (sign p x (kept (p + 1) l)))
       ≡ cond (closes_at (p + suc (length l) + 1) (string_of s
       (cond q (kept (p + 1) (l ++ 34 ∷ [])) (sign p x (kept (p + 1) (l ++ 34 ∷ []))))))
-      (Signs (c + length (decode_of s a (cond q (kept (p + 1) l) (sign p x (kept (p + 1) l)))))) NotText
+      (Some (c + length (decode_of s a (cond q (kept (p + 1) l) (sign p x (kept (p + 1) l)))))) None
   by true ih = rw e (ih s a c)
   by false ih = at_byte (inside_of s x p) ih
 
 -- MEASURED: a stretch that lies in the definition measures its signs where it is the inside of a text
 pub measure_is : (d : List ℕ) (place long : ℕ) → place + long ≤ length d → measure_from Plain 0 (text (cut_off d place long) place)
-    ≡ cond (inside_text d place long) (Signs (length (signs_at d place long))) NotText
+    ≡ cond (inside_text d place long) (Some (length (signs_at d place long))) None
 unfolding inside_text signs_at text
 measure_is d place long h =
     let n : length (take (place + long) d) ≡ place + long = length-take-le (place + long) d h in

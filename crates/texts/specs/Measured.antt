@@ -13,8 +13,7 @@ use Rattle.texts.specs.declared.Pace.{Pace}
 use Rattle.texts.specs.declared.Pace.TheVariants.{On}
 use Rattle.texts.specs.declared.Pace.TheVariants as pace
 use Rattle.marks.specs.rule.Spelling.{hex_pair, gives_of, decode_of}
-use Rattle.texts.specs.declared.Extent.{Extent}
-use Rattle.texts.specs.declared.Extent.TheVariants.{Signs, NotText}
+use Rattle.std.specs.Prelude.{Option, Some, None}
 use Rattle.texts.specs.declared.Run.{Run}
 use Rattle.texts.specs.rule.Decode.{numbers_of}
 
@@ -23,25 +22,25 @@ abbrev pub is_mark : ℕ → Bool
 is_mark b = eqb b 34 || eqb b 123
 
 -- a stretch is over: in plain text it is the inside of a text, in a form it is not
-unfoldable pub ended_in : Inside → ℕ → Extent
-ended_in Plain c = Signs c
-ended_in (Opened o) c = NotText
-ended_in (Shut o) c = NotText
-ended_in (Ell o) c = NotText
-ended_in (Pair o) c = NotText
-ended_in (Low o) c = NotText
+unfoldable pub ended_in : Inside → ℕ → Option ℕ
+ended_in Plain c = Some c
+ended_in (Opened o) c = None
+ended_in (Shut o) c = None
+ended_in (Ell o) c = None
+ended_in (Pair o) c = None
+ended_in (Low o) c = None
 
 -- how many signs a byte completes: none or one
 unfoldable pub completes : Inside → ℕ → ℕ
 completes s b = length (gives_of s 0 b)
 
-abbrev pub measured : Move → (Inside → Extent) → Extent
+abbrev pub measured : Move → (Inside → Option ℕ) → Option ℕ
 measured (Go s) k = k s
-measured Closed k = NotText
-measured (Wrong o) k = NotText
+measured Closed k = None
+measured (Wrong o) k = None
 
 -- a stretch read on from s, where c signs were said before
-unfoldable pub measure_from : Inside → ℕ → Text → Extent
+unfoldable pub measure_from : Inside → ℕ → Text → Option ℕ
 measure_from s c (stop p) = ended_in s c
 measure_from s c (sign p b t) = measured (inside_of s b p) (λ u. measure_from u (c + completes s b) t)
 
@@ -53,9 +52,9 @@ pub record Passed (d : List ℕ) (s : Inside) (n : ℕ) (r : Run) : Type 0 where
   pub few : n + r.count ≤ r.next
 
 -- what follows one byte, and how the rest then measures
-unfoldable pub paced_of : List ℕ → ℕ → Inside → Pace → Extent
+unfoldable pub paced_of : List ℕ → ℕ → Inside → Pace → Option ℕ
 paced_of d c s (On k n t) = measure_from t (c + k) (text d n)
-paced_of d c s pace.Wrong = NotText
+paced_of d c s pace.Wrong = None
 paced_of d c s pace.Over = ended_in s c
 
 pub record Paced (d : List ℕ) (s : Inside) (n : ℕ) (r : Pace) : Type 0 where

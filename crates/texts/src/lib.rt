@@ -20,13 +20,6 @@ pub struct Run {
     pub count: usize,
 }
 
-// What a stretch measures: so many signs; or it is not the inside of a text.
-#[derive(Clone, Copy)]
-pub enum Extent {
-    Signs(usize),
-    NotText,
-}
-
 // The answer of the call.
 #[derive(Clone, Copy)]
 pub enum Decoded {
@@ -126,6 +119,7 @@ fn pass_pairs(classes: &[u8; 256], s: &[u8], n: usize, o: usize) -> Run
 {
     let mut i = n;
     let mut count: usize = 0;
+    // A hand-counted loop: the place where the pairs stop is part of the answer.
     while i < s.len() {
         if s.len() - i < 2 {
             return Run { next: i, count };
@@ -176,17 +170,17 @@ fn completed(inside: Inside, b: u8) -> usize
     }
 }
 
-// What a stretch measures that is over.
-fn ended(inside: Inside, count: usize) -> Extent
+// What a stretch measures that is over: so many signs; or none, since it is not the inside of a text.
+fn ended(inside: Inside, count: usize) -> Option<usize>
     ensures { result ≡ ended_in inside count }
 {
     match inside {
-        Inside::Plain => Extent::Signs(count),
-        Inside::Opened(_) => Extent::NotText,
-        Inside::Shut(_) => Extent::NotText,
-        Inside::Ell(_) => Extent::NotText,
-        Inside::Pair(_) => Extent::NotText,
-        Inside::Low(_) => Extent::NotText,
+        Inside::Plain => Some(count),
+        Inside::Opened(_) => None,
+        Inside::Shut(_) => None,
+        Inside::Ell(_) => None,
+        Inside::Pair(_) => None,
+        Inside::Low(_) => None,
     }
 }
 
@@ -227,7 +221,7 @@ fn step(classes: &[u8; 256], s: &[u8], inside: Inside, n: usize) -> Pace
 }
 
 // What the stretch from a place to the end measures.
-fn measure(classes: &[u8; 256], s: &[u8], at: usize) -> Extent
+fn measure(classes: &[u8; 256], s: &[u8], at: usize) -> Option<usize>
     requires classes { Classes classes.now }
     requires at_in_bounds { at ≤ length s.now }
     ensures { result ≡ measure_from Inside.Plain 0 (text s.now at) }
@@ -249,7 +243,7 @@ fn measure(classes: &[u8; 256], s: &[u8], at: usize) -> Extent
                 n = next;
             }
             Pace::Wrong => {
-                return Extent::NotText;
+                return None;
             }
             Pace::Over => {
                 return ended(inside, count);
@@ -296,6 +290,7 @@ fn copy_pairs(classes: &[u8; 256], s: &[u8], n: usize, o: usize, list: &mut [i64
 {
     let mut i = n;
     let mut m = k;
+    // A hand-counted loop: the place where the pairs stop is part of the answer.
     while i < s.len() {
         if s.len() - i < 2 {
             return Run { next: i, count: m };
@@ -379,13 +374,13 @@ pub fn decode_text(d: &[u8], place: usize, long: usize, list: &mut [i64]) -> Dec
     let end = place + long;
     let classes = ascii::classes();
     match measure(&classes, &d[..end], place) {
-        Extent::Signs(n) => {
+        Some(n) => {
             if list.len() < n {
                 return Decoded::ShortList;
             }
             write(&classes, &d[..end], place, n, list);
             Decoded::Signs(n)
         }
-        Extent::NotText => Decoded::NotText,
+        None => Decoded::NotText,
     }
 }

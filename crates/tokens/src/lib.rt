@@ -100,6 +100,7 @@ fn pass_far(d: &[u8], at: usize) -> usize
     }
     let last = d.len() - 8;
     let mut i = at;
+    // A hand-counted loop: the place where the eights stop is the answer.
     while i <= last {
         let x = over_at(d, i);
         if x != 0 {
@@ -131,14 +132,12 @@ fn pass_on(d: &[u8], at: usize) -> usize
     ensures { (gap_at d.now at ≡ gap_at d.now result) × (at ≤ result)
         × (result < length d.now → 32 < get_or d.now result 0) }
 {
-    let mut i = at;
-    while i < d.len() {
+    for i in at..d.len() {
         if 32 < d[i] {
             return i;
         }
-        i += 1;
     }
-    i
+    at.max(d.len())
 }
 
 // Most of a gap: the dropped bytes and spaces from a place on, which are those of 32 and below, in a loop of their own. Numbers alone go in
@@ -290,9 +289,8 @@ fn lead_at(d: &[u8], at: usize) -> Lead
         ≡ digits_from result.size (result.end - at) result.end (text d.now result.end) }
     ensures at_le_end { (at ≤ result.end) × (result.size ≤ 1000000000000000) }
 {
-    let mut i = at;
     let mut v: u64 = 0;
-    while i < d.len() {
+    for i in at..d.len() {
         let b = d[i];
         if b < 48 {
             return Lead { size: v, end: i };
@@ -304,9 +302,11 @@ fn lead_at(d: &[u8], at: usize) -> Lead
             return Lead { size: v, end: i };
         }
         v = v * 10 + ((b as u64) - 48);
-        i += 1;
     }
-    Lead { size: v, end: i }
+    Lead {
+        size: v,
+        end: at.max(d.len()),
+    }
 }
 
 // Whether a byte is a space or above the digits: such a byte is kept, and of no number or value.

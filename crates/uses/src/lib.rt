@@ -52,17 +52,15 @@ fn uses_good(t: &[i64], v: usize) -> bool
     requires { (v ≤ most_rows) × (row_base v ≤ length t.now) }
     ensures { result ≡ uses_good t.now v }
 {
-    let mut i: usize = 0;
     let mut serials: usize = 0;
     let mut weights: usize = 0;
-    while i < v {
+    for i in 0..v {
         let c = Columns::read(t, Row::base(i));
         if !use_good(t, i, c) {
             return false;
         }
         serials += is_use(c.usage, 1);
         weights += is_use(c.usage, 2);
-        i += 1;
     }
     (serials <= 1) & (weights <= 1)
 }
@@ -72,12 +70,10 @@ fn specials_none(t: &[i64], v: usize, e: usize) -> bool
     requires { (v ≤ most_rows) × (e ≤ most_lines) × (line_base v e ≤ length t.now) }
     ensures { result ≡ specials_none t.now v e }
 {
-    let mut j: usize = 0;
-    while j < e {
+    for j in 0..e {
         if Line::read(t, Line::base(v, j)).special != 0 {
             return false;
         }
-        j += 1;
     }
     true
 }
@@ -98,14 +94,12 @@ fn rows_unused(t: &[i64], v: usize) -> bool
     requires { (v ≤ most_rows) × (row_base v ≤ length t.now) }
     ensures { result ≡ rows_unused t.now v }
 {
-    let mut i: usize = 0;
     let mut laid: usize = 0;
-    while i < v {
+    for i in 0..v {
         let c = Columns::read(t, Row::base(i));
         let usage = c.usage;
         let filter = c.filter;
         laid = laid | (usage | filter);
-        i += 1;
     }
     laid == 0
 }

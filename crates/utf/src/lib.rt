@@ -134,10 +134,8 @@ fn all_plain(latin: bool, d: &[u8], i: usize) -> bool
     ensures { result ≡ all_plain latin d.now i 16 }
 {
     let mut plain = true;
-    let mut k: usize = 0;
-    while k < 16 {
+    for k in 0..16 {
         plain = plain & is_plain(latin, d[i + k]);
-        k += 1;
     }
     plain
 }
@@ -148,8 +146,7 @@ fn walk(latin: bool, d: &[u8], at: usize) -> usize
     ensures { Stride latin d.now at result }
 {
     let mut i = at;
-    let mut k: usize = 0;
-    while k < 16 {
+    for _k in 0..16usize {
         if d.len() <= i {
             return i;
         }
@@ -158,7 +155,6 @@ fn walk(latin: bool, d: &[u8], at: usize) -> usize
             return i;
         }
         i += w;
-        k += 1;
     }
     i
 }

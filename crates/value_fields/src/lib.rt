@@ -3,9 +3,9 @@
 // stands the export of a file.
 #![tactic(auto)]
 
-ghost use Rattle.std.specs.Prelude.{◌≡◌, Bool, true, false, cond, [], ◌∷◌, ◌+◌, ◌-◌, ◌*◌, ◌^◌, ◌≤◌, ◌<◌, eqb, ℤ, length, take, drop};
+ghost use Rattle.std.specs.Prelude.{◌≡◌, Bool, true, false, cond, [], ◌∷◌, ℕ, ◌+◌, ◌-◌, ◌*◌, ◌^◌, ◌≤◌, ◌<◌, eqb, ℤ, length, take, drop};
 ghost use Rattle.std.proofs.lemmas.List.Edits.{sets};
-ghost use Rattle.ascii.specs.rule.Tens.{Tens};
+ghost use Rattle.ascii.specs.rule.Tens.{Tens, digits_of};
 ghost use Rattle.cells.specs.rule.Cell.{signed_of};
 ghost use Rattle.places.specs.rule.Places.{pick, run};
 ghost use Rattle.layout.specs.declared.Kind.TheVariants.{Multiple};
@@ -152,11 +152,9 @@ fn send_others(
     ensures { Sent bound out.old at (codes_behind (drop 1 (take n list.now))) out.new result }
 {
     let mut end = at;
-    let mut j: usize = 1;
-    while j < n {
+    for j in 1..n {
         end = sink::send_byte(bound, out, end, 59);
         end = send_code(powers, bound, out, end, cells::number(list, j));
-        j += 1;
     }
     end
 }
@@ -181,7 +179,8 @@ pub fn send_set(
     send_others(powers, bound, out, end, list, n)
 }
 
-fn bit_of(b: bool) -> u8
+// The digit of a truth or a mark.
+pub fn bit_of(b: bool) -> u8
     ensures { result ≡ cond b 49 48 }
 {
     if b { b'1' } else { b'0' }
@@ -358,10 +357,8 @@ fn eight_spaces(s: &[u8], i: usize) -> bool
     ensures { result ≡ true → SpacesFrom s.now i 8 }
 {
     let mut all = true;
-    let mut k: usize = 0;
-    while k < 8 {
+    for k in 0..8 {
         all = all & (s[i + k] == 32);
-        k += 1;
     }
     all
 }
@@ -371,6 +368,7 @@ fn kept_eights(s: &[u8]) -> usize
     ensures { EndsAt s.now result }
 {
     let mut n = s.len();
+    // No `for`: the steps are of eight, and the place where they stop is the answer.
     while 8 <= n {
         let k = n - 8;
         if !eight_spaces(s, k) {
@@ -386,15 +384,12 @@ fn kept_bytes(s: &[u8]) -> usize
     ensures { (result ≤ length s.now) × (unended s.now ≡ take result s.now)
         × (all_spaces s.now ≡ eqb result 0) }
 {
-    let mut n = kept_eights(s);
-    while 0 < n {
-        let k = n - 1;
+    for k in (0..kept_eights(s)).rev() {
         if s[k] != 32 {
-            return n;
+            return k + 1;
         }
-        n = k;
     }
-    n
+    0
 }
 
 // A text that is legal, in the w bytes from the place p on.
@@ -425,14 +420,12 @@ fn first_set(bytes: &[u8], p: usize, w: usize) -> usize
     requires { p + w ≤ length bytes.now }
     ensures { FirstSet w bytes.now p result }
 {
-    let mut i: usize = 0;
-    while i < w {
+    for i in 0..w {
         if bytes[p + i] == 49 {
             return i;
         }
-        i += 1;
     }
-    i
+    w
 }
 
 // From byte c of a bitstring on, all of whose categories are defined, those that are set, each behind a semicolon.
@@ -451,13 +444,10 @@ fn send_set_bits(
     ensures { Sent bound out.old at (codes_behind (bits_from w bytes.now p c)) out.new result }
 {
     let mut end = at;
-    let mut i = c;
-    while i < w {
-        let k = i;
-        i += 1;
-        if bytes[p + k] == 49 {
+    for i in c..w {
+        if bytes[p + i] == 49 {
             end = sink::send_byte(bound, out, end, 59);
-            end = send_count(powers, bound, out, end, i as u64);
+            end = send_count(powers, bound, out, end, (i + 1) as u64);
         }
     }
     end
@@ -496,67 +486,37 @@ fn put_behind(powers: &[u64; 16], out: &mut [u8], at: usize, d: usize, n: u64)
     digits::put_digits(powers, out, at + 1, d, n);
 }
 
-// Of the categories from 1 to 9 those that are set, each behind a semicolon. The compiler writes the nine turns out, so that what is
-// stored are constants; the same goes for the ten turns below.
-fn put_ones(
+// Of the N categories from `first` on, each of D digits, those that are set, each behind a semicolon. The compiler writes the N turns out,
+// so that what is stored are constants.
+fn put_run<const N: usize, const D: usize>(
     powers: &[u64; 16],
     out: &mut [u8],
     at: usize,
     bytes: &[u8],
     p: usize,
     w: usize,
+    first: usize,
 ) -> usize
     requires tens { Tens powers.now }
-    requires w_in_bounds { (p + w ≤ length bytes.now) × (at + 18 ≤ length out.old) }
-    ensures { Stretch 18 w bytes.now p 0 9 out.old at out.new result }
+    requires digits { (1 ≤ first) × (first + N ≤ 100) × ((n : ℕ) → first ≤ n → n < first + N → digits_of n ≡ D) }
+    requires w_in_bounds { (D ≤ 2) × (p + w ≤ length bytes.now) × (at + N * (D + 1) ≤ length out.old) }
+    ensures { Stretch (N * (D + 1)) w bytes.now p (first - 1) (first + N - 1) out.old at out.new result }
 {
     let mut end = at;
-    let mut i: usize = 0;
-    while i < 9 {
-        if w <= i {
-            return end;
-        }
-        let k = i;
-        i += 1;
-        if bytes[p + k] == 49 {
-            put_behind(powers, out, end, 1, i as u64);
-            end += 2;
-        }
-    }
-    end
-}
-
-// The same of the ten categories from 10 * t on.
-fn put_ten(
-    powers: &[u64; 16],
-    out: &mut [u8],
-    at: usize,
-    bytes: &[u8],
-    p: usize,
-    w: usize,
-    t: usize,
-) -> usize
-    requires tens { Tens powers.now }
-    requires w_in_bounds { (p + w ≤ length bytes.now) × (at + 30 ≤ length out.old) × (1 ≤ t) × (t ≤ 9) }
-    ensures { Stretch 30 w bytes.now p (10 * t - 1) (10 * t + 9) out.old at out.new result }
-{
-    let mut end = at;
-    let mut j: usize = 0;
-    while j < 10 {
-        let n = 10 * t + j;
+    for j in 0..N {
+        let n = first + j;
         if w < n {
             return end;
         }
-        j += 1;
         if bytes[p + (n - 1)] == 49 {
-            put_behind(powers, out, end, 2, n as u64);
-            end += 3;
+            put_behind(powers, out, end, D, n as u64);
+            end += D + 1;
         }
     }
     end
 }
 
-// The same of the categories from 10 to 99.
+// The same of the categories from 10 to 99, ten by ten.
 fn put_tens(
     powers: &[u64; 16],
     out: &mut [u8],
@@ -570,13 +530,11 @@ fn put_tens(
     ensures { Stretch 270 w bytes.now p 9 99 out.old at out.new result }
 {
     let mut end = at;
-    let mut t: usize = 1;
-    while t < 10 {
+    for t in 1..10 {
         if w < 10 * t {
             return end;
         }
-        end = put_ten(powers, out, end, bytes, p, w, t);
-        t += 1;
+        end = put_run::<10, 2>(powers, out, end, bytes, p, w, 10 * t);
     }
     end
 }
@@ -619,7 +577,7 @@ fn send_roomy(
 {
     let before = at - 1;
     let was = out[before];
-    let nine = put_ones(powers, out, before, bytes, p, w);
+    let nine = put_run::<9, 1>(powers, out, before, bytes, p, w, 1);
     let many = put_tens(powers, out, nine, bytes, p, w);
     let end = send_hundreds(powers, bound, out, many, bytes, p, w);
     if end == before {
@@ -693,11 +651,9 @@ pub fn mark_full(t: &[i64], h: Header, full: &mut [u8; 512])
     requires { Tested t.now h }
     ensures { Full t.now h.rows h.rows full.new }
 {
-    let mut i: usize = 0;
-    while i < h.rows {
+    for i in 0..h.rows {
         let row = Row::read(t, i);
         full[i] = bit_of(each_legal(t, h.rows, row));
-        i += 1;
     }
 }
 

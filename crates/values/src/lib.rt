@@ -295,13 +295,11 @@ fn repeated(lines: &[i64], first: usize, last: usize, z: i64) -> bool
     requires { (line_size * last ≤ length lines.now) × (first ≤ last) × (last ≤ most_lines) }
     ensures { result ≡ repeated_in (room_at lines.now first) (last - first) z }
 {
-    let mut i: usize = first;
-    while i < last {
+    for i in first..last {
         let x = lines[Line::SIZE * i];
         if cells::same(x, z) {
             return true;
         }
-        i += 1;
     }
     false
 }

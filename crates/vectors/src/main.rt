@@ -19,23 +19,6 @@ const PATTERN: i64 = -7777;
 // What every byte of an output holds before the call.
 const BLANK: u8 = 35;
 
-fn bounded(n: usize, most: usize) -> usize
-    ensures { result ≤ most }
-{
-    if n < most { n } else { most }
-}
-
-// The number, or the nearer end of what it should lie in.
-fn between(low: usize, n: usize, high: usize) -> usize
-    requires { low ≤ high }
-    ensures { (low ≤ result) × (result ≤ high) }
-{
-    if n < low {
-        return low;
-    }
-    if n < high { n } else { high }
-}
-
 // ---- output, gathered in a lent buffer and written where it is full
 fn put(rt: &impl Print, out: &mut [u8], at: usize, b: u8) -> io::Result<usize> {
     if at < out.len() {
@@ -51,10 +34,8 @@ fn put(rt: &impl Print, out: &mut [u8], at: usize, b: u8) -> io::Result<usize> {
 
 fn put_all(rt: &impl Print, out: &mut [u8], at: usize, text: &[u8]) -> io::Result<usize> {
     let mut n = at;
-    let mut i = 0;
-    while i < text.len() {
-        n = put(rt, out, n, text[i])?;
-        i += 1;
+    for b in text {
+        n = put(rt, out, n, *b)?;
     }
     Ok(n)
 }
@@ -62,9 +43,7 @@ fn put_all(rt: &impl Print, out: &mut [u8], at: usize, text: &[u8]) -> io::Resul
 fn put_count(rt: &impl Print, out: &mut [u8], at: usize, n: u64) -> io::Result<usize> {
     let mut digits = [0u8; 20];
     let mut left = n;
-    let mut first: usize = 20;
-    while 0 < first {
-        first -= 1;
+    for first in (0..20usize).rev() {
         digits[first] = b'0' + (left % 10) as u8;
         left = left / 10;
         if left == 0 {
@@ -86,11 +65,9 @@ fn put_number(rt: &impl Print, out: &mut [u8], at: usize, z: i64) -> io::Result<
 // The numbers of a table, parted by spaces, and a line end.
 fn put_table(rt: &impl Print, out: &mut [u8], at: usize, table: &[i64]) -> io::Result<usize> {
     let mut n = at;
-    let mut i = 0;
-    while i < table.len() {
-        n = put_number(rt, out, n, table[i])?;
-        i += 1;
-        n = put(rt, out, n, parting(i < table.len()))?;
+    for (i, z) in table.iter().enumerate() {
+        n = put_number(rt, out, n, *z)?;
+        n = put(rt, out, n, parting(i + 1 < table.len()))?;
     }
     Ok(n)
 }
@@ -100,36 +77,9 @@ fn parting(more: bool) -> u8 {
 }
 
 // ---- the table
-fn fill(table: &mut [i64]) {
-    let mut i = 0;
-    while i < table.len() {
-        table[i] = PATTERN;
-        i += 1;
-    }
-}
-
-// Whether every number from a place on holds what it held.
-fn held(table: &[i64], from: usize) -> bool {
-    let mut i = from;
-    while i < table.len() {
-        if table[i] != PATTERN {
-            return false;
-        }
-        i += 1;
-    }
-    true
-}
-
-// The same of the bytes that a definition is written into.
-fn held_bytes(page: &[u8], from: usize) -> bool {
-    let mut i = from;
-    while i < page.len() {
-        if page[i] != BLANK {
-            return false;
-        }
-        i += 1;
-    }
-    true
+// Whether every number of a table, or byte of an output, from a place on is what it held.
+fn held<T: Copy + PartialEq>(s: &[T], from: usize, was: T) -> bool {
+    s.iter().skip(from).all(|x| *x == was)
 }
 
 fn put_held(rt: &impl Print, out: &mut [u8], at: usize, kept: bool) -> io::Result<usize> {
@@ -142,8 +92,8 @@ fn put_held(rt: &impl Print, out: &mut [u8], at: usize, kept: bool) -> io::Resul
 // The numbers of a table with so many rows and lines, as far as there can be so many.
 fn table_size(rows: usize, lines: usize) -> usize {
     Header::SIZE
-        + Row::SIZE * bounded(rows, Header::MOST_ROWS)
-        + Line::SIZE * bounded(lines, Header::MOST_LINES)
+        + Row::SIZE * rows.min(Header::MOST_ROWS)
+        + Line::SIZE * lines.min(Header::MOST_LINES)
 }
 
 // ---- the cases
@@ -155,12 +105,12 @@ fn put_read(
     rows: usize,
     lines: usize,
 ) -> io::Result<usize> {
-    let used = bounded(table_size(rows, lines), table.len());
+    let used = table_size(rows, lines).min(table.len());
     let mut n = put_all(rt, out, at, b"read ")?;
     n = put_count(rt, out, n, rows as u64)?;
     n = put(rt, out, n, b' ')?;
     n = put_count(rt, out, n, lines as u64)?;
-    n = put_held(rt, out, n, held(table, used))?;
+    n = put_held(rt, out, n, held(table, used, PATTERN))?;
     put_table(rt, out, n, &table[..used])
 }
 
@@ -185,10 +135,10 @@ fn put_signs(
     list: &[i64],
     count: usize,
 ) -> io::Result<usize> {
-    let used = bounded(count, list.len());
+    let used = count.min(list.len());
     let mut n = put_all(rt, out, at, b"text ")?;
     n = put_count(rt, out, n, used as u64)?;
-    n = put_held(rt, out, n, held(list, used))?;
+    n = put_held(rt, out, n, held(list, used, PATTERN))?;
     put_table(rt, out, n, &list[..used])
 }
 
@@ -200,7 +150,7 @@ fn put_no_text(
     number: u64,
 ) -> io::Result<usize> {
     let n = put_count(rt, out, at, number)?;
-    put_held(rt, out, n, held(list, 0))
+    put_held(rt, out, n, held(list, 0, PATTERN))
 }
 
 // A text of the definition decoded, by its place and length.
@@ -212,7 +162,7 @@ fn run_text(
     h: Head,
     list: &mut [i64],
 ) -> io::Result<usize> {
-    fill(list);
+    list.fill(PATTERN);
     match decoding::decode_text(d, h.place, h.long, list) {
         Decoded::Signs(count) => put_signs(rt, out, at, list, count),
         Decoded::NotText => put_no_text(rt, out, at, list, 3),
@@ -227,10 +177,10 @@ fn put_clean(
     page: &[u8],
     count: usize,
 ) -> io::Result<usize> {
-    let used = bounded(count, page.len());
+    let used = count.min(page.len());
     let mut n = put_all(rt, out, at, b"clean ")?;
     n = put_count(rt, out, n, used as u64)?;
-    n = put_held(rt, out, n, held_bytes(page, used))?;
+    n = put_held(rt, out, n, held(page, used, BLANK))?;
     put_all(rt, out, n, &page[..used])
 }
 
@@ -244,7 +194,7 @@ fn run_clean(
     table: &[i64],
 ) -> io::Result<usize> {
     let mut room = [BLANK; 4096];
-    let page = &mut room[..bounded(h.long, 4096)];
+    let page = &mut room[..h.long.min(4096)];
     match clean::write_definition(d, table, page) {
         Written::Done(count) => put_clean(rt, out, at, page, count),
         Written::Refused { number, place } => put_refused(
@@ -253,7 +203,7 @@ fn run_clean(
             at,
             number,
             place,
-            held_bytes(page, 0),
+            held(page, 0, BLANK),
         ),
     }
 }
@@ -266,7 +216,7 @@ fn run_read(
     h: Head,
     table: &mut [i64],
 ) -> io::Result<usize> {
-    fill(table);
+    table.fill(PATTERN);
     let read = kinds::read_definition(d, table);
     if h.clean {
         return run_clean(rt, out, at, d, h, table);
@@ -279,7 +229,7 @@ fn run_read(
             at,
             number,
             place,
-            held(table, 0),
+            held(table, 0, PATTERN),
         ),
     }
 }
@@ -315,21 +265,22 @@ fn with_digit(value: usize, b: u8) -> usize {
 
 // A place so many bytes on; both are far from the limits of a usize.
 fn with_length(start: usize, count: usize) -> usize {
-    bounded(start, 1000000) + bounded(count, 1000000)
+    start.min(1000000) + count.min(1000000)
 }
 
 fn figure_at(text: &[u8], at: usize) -> Figure {
     let mut value: usize = 0;
-    let mut i = at;
-    while i < text.len() {
+    for i in at..text.len() {
         let b = text[i];
-        i += 1;
         if b < b'0' {
-            return Figure { value, next: i };
+            return Figure { value, next: i + 1 };
         }
         value = with_digit(value, b);
     }
-    Figure { value, next: i }
+    Figure {
+        value,
+        next: at.max(text.len()),
+    }
 }
 
 // Where the next case starts, and where output goes on.
@@ -407,10 +358,10 @@ fn one_case(
     ensures { IfOk result (λ p. at < p.at) }
 {
     let head = head_at(text, at);
-    let start = between(at, head.next, text.len());
-    let end = between(start, with_length(start, head.length), text.len());
+    let start = head.next.clamp(at, text.len());
+    let end = with_length(start, head.length).clamp(start, text.len());
     let next = behind(at, end, text.len());
-    let lent = bounded(head.room, table.len());
+    let lent = head.room.min(table.len());
     let a = put_all(rt, out, n, b"case ")?;
     let b = put_count(rt, out, a, case as u64)?;
     let c = put_all(rt, out, b, b": ")?;
@@ -428,7 +379,7 @@ fn run_all(rt: &impl Print, text: &[u8], table: &mut [i64], out: &mut [u8]) -> i
         at = p.at;
         n = p.out;
     }
-    let last = bounded(n, out.len());
+    let last = n.min(out.len());
     io::writer(rt).write_all(&out[..last])
 }
 

@@ -1,5 +1,5 @@
 // Values that stand in one run of places, numbers, texts and truths; and what a missing value leaves.
-ghost use Rattle.std.specs.Prelude.{◌≡◌, true, false, cond, [], length};
+ghost use Rattle.std.specs.Prelude.{◌≡◌, true, false, [], length};
 ghost use Rattle.ascii.specs.rule.Tens.{Tens};
 ghost use Rattle.places.specs.rule.Places.{put};
 ghost use Rattle.fields.specs.rule.Field.{number};
@@ -89,12 +89,6 @@ pub fn write_text(t: &[i64], rows: usize, row: Row, text: &[u8], bytes: &mut [u8
     }
 }
 
-fn truth_byte(b: bool) -> u8
-    ensures { result ≡ cond b 49 48 }
-{
-    if b { 49 } else { 48 }
-}
-
 pub fn write_truth(t: &[i64], rows: usize, row: Row, b: bool, bytes: &mut [u8]) -> Wrote
     requires { Ready row.kind t.now rows (length bytes.old) row }
     ensures { WrittenBy row.kind t.now rows row (given.Truth b) [] [] bytes.old bytes.new result }
@@ -103,7 +97,7 @@ pub fn write_truth(t: &[i64], rows: usize, row: Row, b: bool, bytes: &mut [u8]) 
     let at = row.finish - 1;
     match kind {
         Kind::Logical => {
-            bytes[at] = truth_byte(b);
+            bytes[at] = setbytes::bits::bit_of(b);
             Wrote::Done
         }
         Kind::Single => Wrote::OtherType,

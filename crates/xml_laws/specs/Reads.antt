@@ -1,6 +1,7 @@
 -- What was read and judged with nothing at fault: texts, position, spread, size. Each lies within the file and holds what its charges ask
 -- for.
-use Rattle.std.specs.Prelude.{◌≡◌, Bool, cond, eqb, ltb, leb, take, drop, get_or}
+use Rattle.std.specs.Prelude.{◌≡◌, Bool, cond, eqb, ltb, leb, take, drop, get_or, Some, None}
+use Rattle.std.specs.Prelude as prelude
 use Rattle.std.proofs.Math.Path.{refl}
 use Rattle.std.proofs.Common.{div-add-mod', mul-le-mul_right}
 use Rattle.std.proofs.Math.Bool.{true, false}
@@ -14,8 +15,6 @@ use borrow.Author.Tests.{eqb-true, eqb-false, ltb-false, not-false, le-ltb}
 use Rattle.forms.specs.rule.Form.{fits_of}
 use Rattle.markup.specs.declared.Skip.{Skip}
 use Rattle.markup.specs.declared.Skip.TheVariants as skip
-use Rattle.markup.specs.declared.Char.{Char}
-use Rattle.markup.specs.declared.Char.TheVariants as char
 use Rattle.angles.specs.declared.Angle.{Angle}
 use Rattle.angles.specs.declared.Angle.TheVariants as angle
 use Rattle.contents.specs.declared.Said as said
@@ -323,9 +322,9 @@ module _ (bad : Bool) (d : List ℕ) where
       marked true = noted (xml_comment bad g.next (g.next + 4) (drop (g.next + 4) d))
       marked false = angled (angle_of bad d g.next)
 
-      referred : (c : Char) → Steps g (on_char g c)
-      referred (char.Is c n) = goes e
-      referred char.Bad = breaks
+      referred : (c : prelude.Option (ℕ × ℕ)) → Steps g (on_char g c)
+      referred (Some (c, n)) = goes e
+      referred None = breaks
 
       bracket : (q : Bool) → Steps g (cond q (broken_at g.next) (go_on_saying g (g.next + 1) (saids.Byte 93)))
       bracket true = breaks

@@ -1,7 +1,7 @@
 -- THE BYTES THAT BREAK XML, in words: what a < opens, the rest of an end tag, a comment, a reference, an attribute; each with the place of
 -- its 50. "A `<` or `</` with no name behind it 50 at the `<`; a tag that the file's end cuts, 50 at its `<`. A byte that is no legal
 -- character directly behind `<` or `</` is 50 at that byte": so `end_fault`, by whether a character that is not legal ended the file.
-use Rattle.std.specs.Prelude.{◌≡◌, ◌↔◌, Bool, ◌||◌, length, drop}
+use Rattle.std.specs.Prelude.{◌≡◌, ◌↔◌, Bool, ◌||◌, length, drop, Option, Some, None}
 use Rattle.std.proofs.Math.Path.{refl}
 use Rattle.std.proofs.Common.{◌∙◌}
 use Rattle.std.proofs.Math.Bool.{true, false, cond}
@@ -13,8 +13,6 @@ use borrow.Author.Tests.{eq-eqb, ne_eqb, eqb-true, eqb-false, le-leb, lt-leb, le
 use Rattle.markup.specs.rule.Bytes.{of_kind, starts_name, run_of, stands, end_fault}
 use Rattle.markup.specs.rule.Gap.{xml_comment}
 use Rattle.markup.specs.rule.Reference.{reference_of}
-use Rattle.markup.specs.declared.Char.{Char}
-use Rattle.markup.specs.declared.Char.TheVariants as char
 use Rattle.markup.specs.declared.Skip.{Skip}
 use Rattle.markup.specs.declared.Skip.TheVariants.{Past, Broken}
 use Rattle.markup.proofs.References.{Referred, reference_exactly}
@@ -58,17 +56,17 @@ module _ (bad : Bool) (opened : ℕ) where
   note_refused_exactly p s q = (note_seen p s q, note_halted)
 
 -- ---- REFERENCE: bad exactly when what follows the & is none of the five names and no number of a legal character
-pub reference_bad_exactly : (p : ℕ) (s : List ℕ) → (reference_of p s ≡ char.Bad) ↔ ((c n : ℕ) → Referred s p c n → ⊥)
+pub reference_bad_exactly : (p : ℕ) (s : List ℕ) → (reference_of p s ≡ None) ↔ ((c n : ℕ) → Referred s p c n → ⊥)
 reference_bad_exactly p s = (seen, λ h. by (reference_of p s) refl h) where
-  differ : (c n : ℕ) → reference_of p s ≡ char.Bad → reference_of p s ≡ char.Is c n → ⊥
+  differ : (c n : ℕ) → reference_of p s ≡ None → reference_of p s ≡ Some (c, n) → ⊥
   differ c n e f = never cc
 
-  seen : reference_of p s ≡ char.Bad → (c n : ℕ) → Referred s p c n → ⊥
+  seen : reference_of p s ≡ None → (c n : ℕ) → Referred s p c n → ⊥
   seen e c n r = differ c n e ((reference_exactly p c n s).1 r)
 
-  by : (r : Char) → reference_of p s ≡ r → ((c n : ℕ) → Referred s p c n → ⊥) → reference_of p s ≡ char.Bad
-  by (char.Is c n) e h = absurd (h c n ((reference_exactly p c n s).0 e))
-  by char.Bad e h = e
+  by : (r : Option (ℕ × ℕ)) → reference_of p s ≡ r → ((c n : ℕ) → Referred s p c n → ⊥) → reference_of p s ≡ None
+  by (Some (c, n)) e h = absurd (h c n ((reference_exactly p c n s).0 e))
+  by None e h = e
 
 module _ (bad : Bool) (d : List ℕ) where
   -- ---- what a < at p opens

@@ -1,15 +1,13 @@
 -- NO TAG WHERE ONE IS DUE, inside an element w from n on, in words: "Text where tags are due: 2 at its first byte. Where tags are due, the
 -- first character or reference of a text is read: 50 if it is not legal or bad, else 2." "Processing instructions and CDATA ..: 51 at `<`."
 -- "An end tag where something is due is read whole first; of another name: 50 at its `<`. Where the file ends too early: 50."
-use Rattle.std.specs.Prelude.{◌≡◌, ◌↔◌, Bool, true, false, cond, List, ℕ, ◌+◌, ◌<◌, ◌≤◌, leb, eqb, length, drop}
+use Rattle.std.specs.Prelude.{◌≡◌, ◌↔◌, Bool, true, false, cond, List, ℕ, ◌+◌, ◌<◌, ◌≤◌, leb, eqb, length, drop, Option, Some, None}
 use Rattle.std.proofs.Math.Path.{refl}
 use Rattle.std.proofs.Common.{arith}
 use Rattle.std.proofs.Math.ListN.{get_or}
 use borrow.Author.Tests.{eq-eqb, ne_eqb, eqb-true, eqb-false, le-leb, lt-leb, leb-true, leb-false}
 use Rattle.markup.specs.rule.Gap.{gap_of}
 use Rattle.markup.specs.rule.Reference.{reference_of}
-use Rattle.markup.specs.declared.Char.{Char}
-use Rattle.markup.specs.declared.Char.TheVariants as char
 use Rattle.markup.specs.declared.Skip.{Skip}
 use Rattle.markup.specs.declared.Skip.TheVariants as skip
 use Rattle.markup.proofs.Gaps.{Gapped, gap_exactly}
@@ -38,9 +36,9 @@ module _ (bad : Bool) (d w : List ℕ) (n : ℕ) where
     over : {p : ℕ} → Gapped d n p → length d ≤ p → NoTag (fault 50 p)
     -- a text: a byte that is no < and no &, or a reference, good or bad
     text : {p : ℕ} → Gapped d n p → p < length d → (get_or d p 0 ≡ 60 → ⊥) → (get_or d p 0 ≡ 38 → ⊥) → NoTag (fault 2 p)
-    reference : {p c m : ℕ} → Gapped d n p → p < length d → get_or d p 0 ≡ 38 → reference_of p (drop (p + 1) d) ≡ char.Is c m
+    reference : {p c m : ℕ} → Gapped d n p → p < length d → get_or d p 0 ≡ 38 → reference_of p (drop (p + 1) d) ≡ Some (c, m)
         → NoTag (fault 2 p)
-    bad_reference : {p : ℕ} → Gapped d n p → p < length d → get_or d p 0 ≡ 38 → reference_of p (drop (p + 1) d) ≡ char.Bad
+    bad_reference : {p : ℕ} → Gapped d n p → p < length d → get_or d p 0 ≡ 38 → reference_of p (drop (p + 1) d) ≡ None
         → NoTag (fault 50 p)
     -- <? or <![CDATA[; a < with no name behind it
     foreign : {p : ℕ} → Less p → angle_of bad d p ≡ angle.Foreign → NoTag (fault 51 p)
@@ -58,9 +56,10 @@ module _ (bad : Bool) (d w : List ℕ) (n : ℕ) where
     text_seen : (get_or d p 0 ≡ 60 → ⊥) → opened bad d w (text_stand d p) ≡ Not f → NoTag f
     unfolding text_stand
     text_seen i e = by (eqb (get_or d p 0) 38) refl e where
-      on : get_or d p 0 ≡ 38 → (c : Char) → reference_of p (drop (p + 1) d) ≡ c → opened bad d w (on_text_char p c) ≡ Not f → NoTag f
-      on j (char.Is c m) r e = let z : fault 2 p ≡ f = cc in moved z (reference g h j r)
-      on j char.Bad r e = let z : fault 50 p ≡ f = cc in moved z (bad_reference g h j r)
+      on : get_or d p 0 ≡ 38 → (c : Option (ℕ × ℕ)) → reference_of p (drop (p + 1) d) ≡ c → opened bad d w (on_text_char p c) ≡ Not f
+          → NoTag f
+      on j (Some (c, m)) r e = let z : fault 2 p ≡ f = cc in moved z (reference g h j r)
+      on j None r e = let z : fault 50 p ≡ f = cc in moved z (bad_reference g h j r)
 
       by : (b : Bool) → eqb (get_or d p 0) 38 ≡ b
           → opened bad d w (cond b (on_text_char p (reference_of p (drop (p + 1) d))) (stand.Text p)) ≡ Not f → NoTag f

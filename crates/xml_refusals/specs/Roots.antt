@@ -1,5 +1,5 @@
 -- NO ROOT WHERE IT IS DUE, at k, in words: "Before `<sss`: another start tag 51, a processing instruction 51", anything else 50.
-use Rattle.std.specs.Prelude.{◌≡◌, ◌↔◌, Bool, cond, ℕ, ◌+◌, ◌-◌, ◌<◌, ◌≤◌, leb, eqb, drop, get_or}
+use Rattle.std.specs.Prelude.{◌≡◌, ◌↔◌, Bool, cond, ℕ, ◌+◌, ◌-◌, ◌<◌, ◌≤◌, leb, eqb, drop, get_or, Option, Some, None}
 use Rattle.std.proofs.Math.Path.{refl}
 use Rattle.std.proofs.Math.Bool.{true, false}
 use mathlib.Core.List.{List, [], ◌∷◌}
@@ -8,8 +8,6 @@ use Rattle.std.proofs.Math.ListN.{length}
 use borrow.Author.Tests.{eq-eqb, ne_eqb, eqb-true, eqb-false, le-leb, lt-leb, leb-true, leb-false}
 use Rattle.markup.specs.rule.Bytes.{stands}
 use Rattle.markup.specs.rule.Reference.{reference_of}
-use Rattle.markup.specs.declared.Char.{Char}
-use Rattle.markup.specs.declared.Char.TheVariants as char
 use Rattle.markup.specs.declared.Skip.{Skip}
 use Rattle.markup.specs.declared.Skip.TheVariants as skip
 use Rattle.angles.specs.rule.Angle.{angle_of, end_of}
@@ -96,9 +94,9 @@ module _ (bad : Bool) (d : List ℕ) (k : ℕ) where
   text_refused : rooted bad d (text_stand d k) ≡ Not (fault 50 k)
   unfolding text_stand
   text_refused = by (eqb (get_or d k 0) 38) (reference_of k (drop (k + 1) d)) where
-    by : (b : Bool) (c : Char) → rooted bad d (cond b (on_text_char k c) (stand.Text k)) ≡ Not (fault 50 k)
-    by true (char.Is x n) = refl
-    by true char.Bad = refl
+    by : (b : Bool) (c : Option (ℕ × ℕ)) → rooted bad d (cond b (on_text_char k c) (stand.Text k)) ≡ Not (fault 50 k)
+    by true (Some (x, n)) = refl
+    by true None = refl
     by false c = refl
 
   seen : {f : Fault} → rooted bad d (stand_at bad d k) ≡ Not f → NoRoot f

@@ -1,5 +1,5 @@
 -- COMMENTS BETWEEN TAGS AND VALUES OF ATTRIBUTES THAT ARE BROKEN, in words: behind what was passed stands what breaks them, 50 there.
-use Rattle.std.specs.Prelude.{◌≡◌, ◌↔◌, Bool, true, false, List, [], ◌∷◌, leb, eqb, length, drop}
+use Rattle.std.specs.Prelude.{◌≡◌, ◌↔◌, Bool, true, false, List, [], ◌∷◌, leb, eqb, length, drop, Option, Some, None}
 use Rattle.std.proofs.Math.Path.{refl}
 use Rattle.std.proofs.Common.{sym, ◌∙◌, arith}
 use Prim.Native.Nat.{ℕ, zero, suc, ◌+◌, ◌-◌, ◌<◌, ◌≤◌}
@@ -8,8 +8,6 @@ use borrow.Author.Tests.{eq-eqb, ne_eqb, eqb-true, eqb-false, le-leb, lt-leb, le
 use Rattle.markup.specs.rule.Bytes.{is_white, stands, end_fault}
 use Rattle.markup.specs.rule.Gap.{xml_comment, move_of, gap_of}
 use Rattle.markup.specs.rule.Reference.{reference_of}
-use Rattle.markup.specs.declared.Char.{Char}
-use Rattle.markup.specs.declared.Char.TheVariants as char
 use Rattle.markup.specs.declared.Move.TheVariants.{Go, Stop}
 use Rattle.markup.specs.declared.Skip.{Skip}
 use Rattle.markup.specs.declared.Skip.TheVariants.{Past, Broken}
@@ -75,11 +73,11 @@ module _ (bad : Bool) (d : List ℕ) where
     pub data ValueStops : ℕ → ℕ → Type 0 where
       cut : {p : ℕ} → length d ≤ p → ValueStops p (end_fault bad p o)
       less : {p : ℕ} → p < length d → (get_or d p 0 ≡ quote → ⊥) → get_or d p 0 ≡ 60 → ValueStops p p
-      reference : {p : ℕ} → p < length d → (get_or d p 0 ≡ quote → ⊥) → get_or d p 0 ≡ 38 → reference_of p (drop (p + 1) d) ≡ char.Bad
+      reference : {p : ℕ} → p < length d → (get_or d p 0 ≡ quote → ⊥) → get_or d p 0 ≡ 38 → reference_of p (drop (p + 1) d) ≡ None
           → ValueStops p p
       plain : {p q : ℕ} → p < length d → (get_or d p 0 ≡ quote → ⊥) → (get_or d p 0 ≡ 60 → ⊥) → (get_or d p 0 ≡ 38 → ⊥)
           → ValueStops (p + 1) q → ValueStops p q
-      past : {p c n q : ℕ} → p < length d → (get_or d p 0 ≡ quote → ⊥) → get_or d p 0 ≡ 38 → reference_of p (drop (p + 1) d) ≡ char.Is c n
+      past : {p c n q : ℕ} → p < length d → (get_or d p 0 ≡ quote → ⊥) → get_or d p 0 ≡ 38 → reference_of p (drop (p + 1) d) ≡ Some (c, n)
           → ValueStops n q → ValueStops p q
 
     value_halted : {p q : ℕ} → ValueStops p q → quoted_of bad o quote d p ≡ Broken q
@@ -136,12 +134,12 @@ module _ (bad : Bool) (d : List ℕ) where
               ih n q (omega arith) (sym (value_next bad o quote d p n m) ∙ e)
 
           refers : ((p q : ℕ) → length d - p < u → quoted_of bad o quote d p ≡ Broken q → ValueStops p q) → leb (length d) p ≡ false
-              → eqb b quote ≡ false → eqb b 60 ≡ false → eqb b 38 ≡ true → (c : Char) → reference_of p (drop (p + 1) d) ≡ c
+              → eqb b quote ≡ false → eqb b 60 ≡ false → eqb b 38 ≡ true → (c : Option (ℕ × ℕ)) → reference_of p (drop (p + 1) d) ≡ c
               → ValueStops p q
-          refers ih i j k l (char.Is c n) r =
+          refers ih i j k l (Some (c, n)) r =
               let z = leb-false (length d) p i in
               past z (eqb-false b quote j) (eqb-true b 38 l) r (onward ih z n (rw (i, j, k, l, r)))
-          refers ih i j k l char.Bad r =
+          refers ih i j k l None r =
               at_place (reference (leb-false (length d) p i) (eqb-false b quote j) (eqb-true b 38 l) r)
               (stops (Broken p) (rw (i, j, k, l, r)))
 

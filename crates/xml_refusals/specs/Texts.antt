@@ -2,7 +2,7 @@
 -- at what cuts it, 51 there; or where it is refused, 2 or 50. "`<text>` without a languages attribute: 51. br stands in title, label,
 -- value, text only, else 51. Processing instructions and CDATA: 51 at `<`. An end tag of another name: 50 at its `<`. `]]>` in a text 50.
 -- Where the file ends too early: 50."
-use Rattle.std.specs.Prelude.{◌≡◌, ◌↔◌, Bool, leb, length, drop}
+use Rattle.std.specs.Prelude.{◌≡◌, ◌↔◌, Bool, leb, length, drop, Option, Some, None}
 use Rattle.std.proofs.Math.Path.{refl, ap}
 use Rattle.std.proofs.Common.{◌∙◌}
 use Rattle.std.proofs.Math.Bool.{true, false, cond}
@@ -15,8 +15,6 @@ use Rattle.signs.specs.declared.Sign.{Sign}
 use Rattle.markup.specs.rule.Bytes.{stands}
 use Rattle.markup.specs.rule.Reference.{reference_of}
 use Rattle.markup.specs.rule.Gap.{xml_comment}
-use Rattle.markup.specs.declared.Char.{Char}
-use Rattle.markup.specs.declared.Char.TheVariants as char
 use Rattle.markup.specs.declared.Skip.{Skip}
 use Rattle.markup.specs.declared.Skip.TheVariants as skip
 use Rattle.angles.specs.rule.Angle.{angle_of}
@@ -95,7 +93,7 @@ module _ (bad : Bool) (d : List ℕ) (m : ℕ) (w : List ℕ) where
     over : length d ≤ g.next → Halts g (content.Fault 50 g.next)
     brackets : g.next < length d → get_or d g.next 0 ≡ 93 → stands (93 ∷ 93 ∷ 62 ∷ []) (drop g.next d) ≡ true
         → Halts g (content.Fault 50 g.next)
-    reference : g.next < length d → get_or d g.next 0 ≡ 38 → reference_of g.next (drop (g.next + 1) d) ≡ char.Bad
+    reference : g.next < length d → get_or d g.next 0 ≡ 38 → reference_of g.next (drop (g.next + 1) d) ≡ None
         → Halts g (content.Fault 50 g.next)
     comment : {q : ℕ} → g.next < length d → get_or d g.next 0 ≡ 60 → stands note (drop g.next d) ≡ true
         → xml_comment bad g.next (g.next + 4) (drop (g.next + 4) d) ≡ skip.Broken q → Halts g (content.Fault 50 q)
@@ -220,10 +218,10 @@ module _ (bad : Bool) (d : List ℕ) (m : ℕ) (w : List ℕ) where
           b : ℕ
           b = get_or d g.next 0
 
-          refers : g.next < length d → b ≡ 38 → (r : Char) → reference_of g.next (drop (g.next + 1) d) ≡ r → on_char g r ≡ Over c
+          refers : g.next < length d → b ≡ 38 → (r : Option (ℕ × ℕ)) → reference_of g.next (drop (g.next + 1) d) ≡ r → on_char g r ≡ Over c
               → Halts g c
-          refers h i (char.Is x n) r z = never cc
-          refers h i char.Bad r z = let j : content.Fault 50 g.next ≡ c = cc in moved j (reference h i r)
+          refers h i (Some (x, n)) r z = never cc
+          refers h i None r z = let j : content.Fault 50 g.next ≡ c = cc in moved j (reference h i r)
 
           bracket : g.next < length d → b ≡ 93 → (q : Bool) → stands (93 ∷ 93 ∷ 62 ∷ []) (drop g.next d) ≡ q
               → cond q (broken_at g.next) (go_on_saying g (g.next + 1) (said.Byte 93)) ≡ Over c → Halts g c

@@ -1,7 +1,7 @@
 -- WHAT FOLLOWS THE START TAG OF AN ELEMENT w THAT HOLDS NOTHING, in words: its end tag behind white space and comments, unless it ended
 -- with its start tag; "a start tag that may not stand there ends the statement it stands in", 51 at its <, and so does what document 000
 -- doesn't name; or it is refused there.
-use Rattle.std.specs.Prelude.{◌≡◌, ◌↔◌, Bool, ℕ, ◌+◌, leb, eqb, length, drop, get_or}
+use Rattle.std.specs.Prelude.{◌≡◌, ◌↔◌, Bool, ℕ, ◌+◌, leb, eqb, length, drop, get_or, Option, Some, None}
 use Rattle.std.proofs.Math.Path.{refl}
 use Rattle.std.proofs.Common.{sym, ap, arith}
 use Rattle.std.proofs.Math.Bool.{true, false, cond}
@@ -9,8 +9,6 @@ use mathlib.Core.List.{List, [], ◌∷◌}
 use borrow.Author.Tests.{eq-eqb, eqb-true, lt-leb, leb-false}
 use Rattle.markup.specs.rule.Gap.{gap_of}
 use Rattle.markup.specs.rule.Reference.{reference_of}
-use Rattle.markup.specs.declared.Char.{Char}
-use Rattle.markup.specs.declared.Char.TheVariants as char
 use Rattle.markup.specs.declared.Skip.{Skip}
 use Rattle.markup.specs.declared.Skip.TheVariants as skip
 use Rattle.markup.proofs.Gaps.{Gapped, gap_exactly}
@@ -73,9 +71,9 @@ module _ (bad : Bool) (d w : List ℕ) where
   stands_foreign : (n : ℕ) {p : ℕ} → stand_of bad d n ≡ stand.Foreign p → ForeignAt n p
   unfolding stand_of stand_at text_stand
   stands_foreign n {p} f = on (gap_of bad d n) refl f where
-    text_no : (q : ℕ) (b : Bool) (c : Char) → cond b (on_text_char q c) (stand.Text q) ≡ stand.Foreign p → ForeignAt n p
-    text_no q true (char.Is c m) e = never cc
-    text_no q true char.Bad e = never cc
+    text_no : (q : ℕ) (b : Bool) (c : Option (ℕ × ℕ)) → cond b (on_text_char q c) (stand.Text q) ≡ stand.Foreign p → ForeignAt n p
+    text_no q true (Some (c, m)) e = never cc
+    text_no q true None e = never cc
     text_no q false c e = never cc
 
     on : (r : Skip) → gap_of bad d n ≡ r → on_gap bad d r ≡ stand.Foreign p → ForeignAt n p

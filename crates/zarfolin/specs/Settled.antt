@@ -10,7 +10,6 @@ use Rattle.zarfolin.specs.rule.Face.{Telling, verdict_cells, outcome_cells, file
 use Rattle.zarfolin.specs.rule.Face.{RecordTold, ValueTold, FileTold, DefinitionTold, NextTold}
 use Rattle.zarfolin.specs.rule.Part.{part_cells, PartTold}
 use Rattle.zarfolin.specs.rule.Matrix.{matrix_cells, MatrixTold}
-use Rattle.exports.specs.rule.Text.{ExportVerdict}
 use Rattle.zarfolin.specs.rule.Export.{export_cells, export_length, TellingFive, ExportTold}
 use Rattle.zarfolin.specs.rule.Import.{import_cells, ImportTold}
 use Rattle.zarfolin.specs.rule.Clean.{clean_cells, CleanTold}

@@ -614,10 +614,8 @@ pub fn zarfolin_correct(table: &[i64], list: &mut [Correction], bytes: &mut [u8]
 {
     let answer = corrections::admit(table, bytes.len());
     let n = corrections::turns(answer, list.len());
-    let mut i = 0;
-    while i < n {
+    for i in 0..n {
         list[i] = corrections::correct(table, bytes, list[i]);
-        i += 1;
     }
     answer
 }

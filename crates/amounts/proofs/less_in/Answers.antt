@@ -14,43 +14,43 @@ loop-x-init c = (
 pub next_digit-requires : goal.next_digit-requires
 next_digit-requires c = c.loop-x.invariant.0
 
-pub next_digit-requires-in-One : goal.next_digit-requires-in-One
-next_digit-requires-in-One c = c.loop-x.invariant.1
+pub next_digit-requires-in-Some : goal.next_digit-requires-in-Some
+next_digit-requires-in-Some c = c.loop-x.invariant.1
 
 pub loop-x-smaller : goal.loop-x-smaller
 loop-x-smaller c =
-    let o = c.next_digit.ensures.0 _ _ c.in-One.is in omega (arith, o.0, o.1)
+    let o = c.next_digit.ensures.0 _ _ c.in-Some.is in omega (arith, o.0, o.1)
 
 pub loop-x-preserved : goal.loop-x-preserved
 loop-x-preserved c =
     let args = c.args in (
-      (c.next_digit.ensures.0 _ _ c.in-One.is).1,
-      (c.next_digit-in-One.ensures.0 _ _ c.in-One-next_digit.is).1,
+      (c.next_digit.ensures.0 _ _ c.in-Some.is).1,
+      (c.next_digit-in-Some.ensures.0 _ _ c.in-Some-next_digit.is).1,
       λ x y h k. pairing_next args.a.now args.b.now x y c.loop-x.o (c.loop-x.invariant.2 x y h k)
-          c.next_digit.ensures.1 c.next_digit-in-One.ensures.1 c.in-One.is
-          c.in-One-next_digit.is c.then_order-o.ensures,
+          c.next_digit.ensures.1 c.next_digit-in-Some.ensures.1 c.in-Some.is
+          c.in-Some-next_digit.is c.then_order-o.ensures,
     )
 
-pub returns-in-Nothing-next_digit : goal.returns-in-Nothing-next_digit
-returns-in-Nothing-next_digit c =
+pub returns-in-None-next_digit : goal.returns-in-None-next_digit
+returns-in-None-next_digit c =
     let args = c.args in
     λ x y h k. pairing_longer args.a.now args.b.now x y c.loop-x.o (c.loop-x.invariant.2 x y h k)
-    c.next_digit.ensures.1 c.next_digit-in-One.ensures.1
-    c.in-One.is c.in-Nothing-next_digit.is
+    c.next_digit.ensures.1 c.next_digit-in-Some.ensures.1
+    c.in-Some.is c.in-None-next_digit.is
 
-pub next_digit-requires-in-Nothing : goal.next_digit-requires-in-Nothing
-next_digit-requires-in-Nothing c = c.loop-x.invariant.1
+pub next_digit-requires-in-None : goal.next_digit-requires-in-None
+next_digit-requires-in-None c = c.loop-x.invariant.1
 
-pub returns-in-One-next_digit-2 : goal.returns-in-One-next_digit-2
-returns-in-One-next_digit-2 c =
+pub returns-in-Some-next_digit-2 : goal.returns-in-Some-next_digit-2
+returns-in-Some-next_digit-2 c =
     let args = c.args in
     λ x y h k. pairing_shorter args.a.now args.b.now x y c.loop-x.o (c.loop-x.invariant.2 x y h k)
-    c.next_digit.ensures.1 c.next_digit-in-Nothing.ensures.1
-    c.in-Nothing.is c.in-One-next_digit-2.is
+    c.next_digit.ensures.1 c.next_digit-in-None.ensures.1
+    c.in-None.is c.in-Some-next_digit-2.is
 
-pub returns-in-Nothing-next_digit-2 : goal.returns-in-Nothing-next_digit-2
-returns-in-Nothing-next_digit-2 c =
+pub returns-in-None-next_digit-2 : goal.returns-in-None-next_digit-2
+returns-in-None-next_digit-2 c =
     let args = c.args in
     λ x y h k. c.is_less.ensures ∙ pairing_even args.a.now args.b.now x y c.loop-x.o (c.loop-x.invariant.2 x y h k)
-    c.next_digit.ensures.1 c.next_digit-in-Nothing.ensures.1
-    c.in-Nothing.is c.in-Nothing-next_digit-2.is
+    c.next_digit.ensures.1 c.next_digit-in-None.ensures.1
+    c.in-None.is c.in-None-next_digit-2.is

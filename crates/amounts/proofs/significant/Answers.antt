@@ -14,24 +14,23 @@ returns-then-code-ne48 c = (
   c.loop-code.invariant.0,
   λ cs h. zeros_over c.args.s.now cs
       (c.loop-code.invariant.1 cs h) c.next_digit.ensures.1
-      c.in-One.is c.if-code-ne48.true,
+      c.in-Some.is c.if-code-ne48.true,
 )
 
 pub loop-code-smaller : goal.loop-code-smaller
-loop-code-smaller c = let o = c.next_digit.ensures.0 _ _ c.in-One.is in
+loop-code-smaller c = let o = c.next_digit.ensures.0 _ _ c.in-Some.is in
     omega (arith, o.0, o.1)
 
 pub loop-code-preserved : goal.loop-code-preserved
 loop-code-preserved c = (
-  (c.next_digit.ensures.0 _ _ c.in-One.is).1,
+  (c.next_digit.ensures.0 _ _ c.in-Some.is).1,
   λ cs h. zeros_next c.args.s.now cs
       (c.loop-code.invariant.1 cs h) c.next_digit.ensures.1
-      c.in-One.is c.if-code-ne48.false,
+      c.in-Some.is c.if-code-ne48.false,
 )
 
-pub returns-in-Nothing : goal.returns-in-Nothing
-returns-in-Nothing c = (
+pub returns : goal.returns
+returns c = (
   c.loop-code.invariant.0,
-  λ cs h. zeros_end c.args.s.now cs (c.loop-code.invariant.1 cs h)
-      c.next_digit.ensures.1 c.in-Nothing.is,
+  λ cs h. zeros_end c.args.s.now cs (c.loop-code.invariant.1 cs h) c.next_digit.ensures.1 c.in_default.is,
 )

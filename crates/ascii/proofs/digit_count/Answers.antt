@@ -18,24 +18,19 @@ stop k n p h e l = more k n h ∙ rw (lt-ltb n (10 ^ k) (rw e at l))
 on : (k n p : ℕ) → k < 16 → p ≡ 10 ^ k → p ≤ n → count_from (16 - k) k n ≡ count_from (16 - (k + 1)) (k + 1) n
 on k n p h e l = more k n h ∙ rw (le-ltb n (10 ^ k) (rw e at l))
 
-end : (k n : ℕ) → 16 ≤ k → count_from (16 - k) k n ≡ k
+end : (k n : ℕ) → k ≡ 16 → 16 ≡ count_from (16 - k) k n
 unfolding count_from
-end k n h = let e : 16 - k ≡ 0 = omega arith in rw e
+end k n e = rw e
 
 pub loop-k-init : goal.loop-k-init
 unfolding digits_of
-loop-k-init c = (omega arith, refl)
+loop-k-init c = refl
 
 pub returns-then-n-power : goal.returns-then-n-power
-returns-then-n-power c = sym (stop _ _ _ c.loop-k-test.true c.power.ensures c.if-n-power.true)
-    ∙ c.loop-k.invariant.1
+returns-then-n-power c = sym (stop _ _ _ (omega arith) c.power.ensures c.if-n-power.true) ∙ c.loop-k.invariant
 
 pub loop-k-preserved : goal.loop-k-preserved
-loop-k-preserved c = (
-  omega arith,
-  sym (on _ _ _ c.loop-k-test.true c.power.ensures c.if-n-power.false)
-      ∙ c.loop-k.invariant.1,
-)
+loop-k-preserved c = sym (on _ _ _ (omega arith) c.power.ensures c.if-n-power.false) ∙ c.loop-k.invariant
 
 pub returns : goal.returns
-returns c = sym (end _ _ c.loop-k-test.false) ∙ c.loop-k.invariant.1
+returns c = end _ _ (omega arith) ∙ c.loop-k.invariant

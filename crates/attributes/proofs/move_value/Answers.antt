@@ -29,28 +29,28 @@ returns-then-b-eq60 c = rw (
   eq-eqb _ 60 c.if-b-eq60.true,
 )
 
-pub returns-in-Is : goal.returns-in-Is
+pub returns-in-Some : goal.returns-in-Some
 unfolding value_move
-returns-in-Is c =
+returns-in-Some c =
     let args = c.args in
     rw (
       lt-leb (length args.d.now) args.at (omega arith),
       ne_eqb _ _ c.if-b-quote.false,
       ne_eqb _ 60 c.if-b-eq60.false,
       eq-eqb _ 38 c.if-b-eq38.true,
-      sym c.reference.ensures ∙ c.in-Is.is,
+      sym c.reference.ensures ∙ c.in-Some.is,
     )
 
-pub returns-in-Bad : goal.returns-in-Bad
+pub returns-in-None : goal.returns-in-None
 unfolding value_move
-returns-in-Bad c =
+returns-in-None c =
     let args = c.args in
     rw (
       lt-leb (length args.d.now) args.at (omega arith),
       ne_eqb _ _ c.if-b-quote.false,
       ne_eqb _ 60 c.if-b-eq60.false,
       eq-eqb _ 38 c.if-b-eq38.true,
-      sym c.reference.ensures ∙ c.in-Bad.is,
+      sym c.reference.ensures ∙ c.in-None.is,
     )
 
 pub returns : goal.returns

@@ -1,12 +1,11 @@
 -- The next attribute of a tag: white space, name, =, quoted value; or the tag's end. 62 is >, 47 /, 61 =, 34 and 39 quotes, 60 <, 38 &.
+use Rattle.std.specs.Prelude.{Option, Some, None}
 use Rattle.std.specs.Prelude.{◌≡◌, Bool, true, false, cond, ◌||◌, List, [], ◌∷◌, ◌++◌, ℕ, suc, ◌+◌, ◌-◌, leb, eqb, length, drop, get_or}
 use Rattle.scan.specs.rule.Loop.{loop_of}
 use Rattle.markup.specs.rule.Bytes.{of_kind, run_of, starts_name, end_fault}
 use Rattle.markup.specs.rule.Reference.{reference_of}
 use Rattle.markup.specs.rule.Gap.{next_move}
 use Rattle.markup.specs.rule.Grammar.{Ref}
-use Rattle.markup.specs.declared.Char.{Char}
-use Rattle.markup.specs.declared.Char.TheVariants.{Is, Bad}
 use Rattle.markup.specs.declared.Skip.{Skip}
 use Rattle.markup.specs.declared.Skip.TheVariants.{Past, Broken}
 use Rattle.markup.specs.declared.Move.{Move}
@@ -15,9 +14,9 @@ use Rattle.attributes.specs.declared.Attribute.{Attribute}
 use Rattle.attributes.specs.declared.Attribute.TheVariants.{One, Shut, Faulty}
 
 -- a reference at p: past it, or 50 at its &
-abbrev pub on_value_char : ℕ → Char → Move
-on_value_char p (Is c n) = Go n
-on_value_char p Bad = Stop (Broken p)
+abbrev pub on_value_char : ℕ → Option (ℕ × ℕ) → Move
+on_value_char p (Some (c, n)) = Go n
+on_value_char p None = Stop (Broken p)
 
 -- one step of a value: the quote that ends it, <, a reference, or any other byte
 unfoldable pub value_move : Bool → ℕ → ℕ → List ℕ → ℕ → Move

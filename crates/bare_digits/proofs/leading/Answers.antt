@@ -1,4 +1,4 @@
-use mathlib.Core.Path.{◌≡◌, refl, sym, ◌∙◌}
+use mathlib.Core.Path.{◌≡◌, sym, ◌∙◌}
 use mathlib.Core.List.{List}
 use Prim.Native.Nat.{ℕ, ◌+◌, ◌≤◌, ◌<◌}
 use native.Mathlib.Numerals.{add-one}
@@ -21,14 +21,13 @@ none : (b : ℕ) (s : List ℕ) (p : ℕ) → length s ≤ p → unled b (drop p
 unfolding unled
 none b s p h = rw (drop_of_length-le _ h)
 
-pub loop-p-init : goal.loop-p-init
-loop-p-init c = (omega arith, refl)
-
-pub returns-then-s-p : goal.returns-then-s-p
-returns-then-s-p c = (omega arith, sym c.loop-p.invariant.1 ∙ ends _ _ _ c.loop-p-test.true c.if-s-p.true)
+pub returns-then-x-b : goal.returns-then-x-b
+returns-then-x-b c = (omega arith, sym c.loop-p.invariant ∙ ends _ _ _ c.loop-p-test.true c.if-x-b.true)
 
 pub loop-p-preserved : goal.loop-p-preserved
-loop-p-preserved c = (omega arith, sym (on _ _ _ c.loop-p-test.true c.if-s-p.false) ∙ c.loop-p.invariant.1)
+loop-p-preserved c = sym (on _ _ _ c.loop-p-test.true c.if-x-b.false) ∙ c.loop-p.invariant
 
 pub returns : goal.returns
-returns c = (omega arith, sym c.loop-p.invariant.1 ∙ none _ _ _ c.loop-p-test.false)
+returns c =
+    let e : c.loop-p.p ≡ length c.args.s.now = omega arith in
+    (omega arith, rw e at (sym c.loop-p.invariant ∙ none _ _ _ c.loop-p-test.false))

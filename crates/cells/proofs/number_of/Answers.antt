@@ -8,9 +8,6 @@ use Rattle.cells.specs.rule.Cell.{number_of}
 use Rattle.cells.proofs.Signs.{zero_minus, zero_minus_fits}
 use Rattle.cells.proofs.number_of.Goals as goal
 
-pub overflow_sub-result : goal.overflow_sub-result
-overflow_sub-result c = zero_minus_fits c.args.size (omega arith)
-
 pub returns-then-minus : goal.returns-then-minus
 unfolding number_of
 returns-then-minus c = rw c.if-minus.true (to_z-of_z (zero_minus_fits c.args.size (omega arith))

@@ -8,8 +8,6 @@ use Rattle.columns.specs.Marked.{marked_from, marked_entries}
 use Rattle.columns.proofs.count_marked.Given as goal
 
 abbrev pub invariant-loop-c : goal.invariant-loop-c
-invariant-loop-c l = (l.k ≤ l.c) × (l.c ≤ length l.marks + 1) × (l.k + length (marked_from true l.marks l.marks l.c (length l.marks - l.c))
+invariant-loop-c l = (l.k ≤ l.c)
+    × (l.k + length (marked_from true l.marks l.marks l.c (length l.marks - l.c))
     ≡ length (marked_entries true l.marks l.marks))
-
-abbrev pub decreases-loop-c : goal.decreases-loop-c
-decreases-loop-c l = length l.marks - l.c

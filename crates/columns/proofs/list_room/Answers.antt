@@ -13,7 +13,6 @@ use Rattle.columns.proofs.list_room.Goals as goal
 pub loop-k-init : goal.loop-k-init
 loop-k-init c =
     let a = c.args in (
-      omega arith,
       refl,
       λ x. any_none (λ j. eq_z (cell a.list.now j) (pos x)) ∙ sym (any_none (λ j. eqb (get_or a.room.now j 0) x)),
     )
@@ -23,17 +22,16 @@ loop-k-preserved c =
     let a = c.args in
     let l = c.loop-k in
     let low = c.loop-k-test.true in (
-      omega arith,
-      rw length-set l.invariant.1,
+      rw length-set l.invariant.0,
       λ x. rw (to_z-of_z (sfits_of c.code_of.type_inv))
           (copied_more a.room.now l.list l.k x c.code_of.ensures
-          (omega (arith, l.invariant.1, c.requires)) (l.invariant.2 x)),
+          (omega (arith, l.invariant.0, c.requires)) (l.invariant.1 x)),
     )
 
 pub returns : goal.returns
 returns c =
     let l = c.loop-k in
-    copied_all c.args.room.now l.list l.k l.invariant.2 (omega (arith, c.loop-k-test.false, l.invariant.0))
+    copied_all c.args.room.now l.list l.k l.invariant.1 (omega (arith, c.loop-k-test.false))
 
 pub bounds-room-k : goal.bounds-room-k
 bounds-room-k c = omega (arith, c.loop-k-test.true)
@@ -42,12 +40,9 @@ pub bounds-list-k : goal.bounds-list-k
 bounds-list-k c = omega (
   arith,
   c.loop-k-test.true,
-  c.loop-k.invariant.1,
+  c.loop-k.invariant.0,
   c.requires,
 )
 
-pub loop-k-smaller : goal.loop-k-smaller
-loop-k-smaller c = omega (arith, c.loop-k-test.true)
-
 pub shape_of-list : goal.shape_of-list
-shape_of-list c = c.loop-k.invariant.1
+shape_of-list c = c.loop-k.invariant.0

@@ -1,12 +1,11 @@
 -- `columns::mark_range` meets its contract. The invariant: what is passed of the stretch is marked, and no other.
 use mathlib.Core.Path.{◌≡◌}
-use Prim.Native.Nat.{◌-◌, ◌≤◌}
+use Prim.Native.Nat.{◌≤◌}
 use lib.ListN.{length}
 use Rattle.columns.specs.Stretch.{Run}
 use Rattle.columns.proofs.mark_range.Given as goal
 
 abbrev pub invariant-loop-c : goal.invariant-loop-c
-invariant-loop-c l = (l.initial.c ≤ l.c) × (l.c ≤ l.past) × (length l.marks ≡ length l.initial.marks) × Run l.initial.c l.c l.marks
-
-abbrev pub decreases-loop-c : goal.decreases-loop-c
-decreases-loop-c l = l.past - l.c
+invariant-loop-c l = (l.initial.c ≤ l.c)
+    × (length l.marks ≡ length l.initial.marks)
+    × Run l.initial.c l.c l.marks

@@ -1,11 +1,7 @@
 -- `columns::pass_marked` meets its contract. The invariant: every mark before i is set.
 -- Assumes nothing.
-use Prim.Native.Nat.{◌-◌, ◌≤◌}
 use Rattle.columns.specs.Ones.{Marked}
 use Rattle.columns.proofs.pass_marked.Given as goal
 
 abbrev pub invariant-loop-i : goal.invariant-loop-i
-invariant-loop-i l = (l.i ≤ l.n) × Marked l.marks l.from l.i
-
-abbrev pub decreases-loop-i : goal.decreases-loop-i
-decreases-loop-i l = l.n - l.i
+invariant-loop-i l = Marked l.marks l.from l.i

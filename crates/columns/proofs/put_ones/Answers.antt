@@ -10,7 +10,7 @@ use Rattle.columns.specs.Ones.{one_is, ones_none, ones_more, ones_to}
 use Rattle.columns.proofs.put_ones.Goals as goal
 
 pub loop-k-init : goal.loop-k-init
-loop-k-init c = (omega arith, refl, ones_none _ _ _ _ _)
+loop-k-init c = (refl, ones_none _ _ _ _ _)
 
 pub bounds-list-k : goal.bounds-list-k
 bounds-list-k c = omega (arith, c.loop-k-test.true, c.requires.0)
@@ -18,7 +18,7 @@ bounds-list-k c = omega (arith, c.loop-k-test.true, c.requires.0)
 pub put_one-requires : goal.put_one-requires
 put_one-requires c = (
   c.requires.1,
-  room_on c.loop-k.invariant.1 c.requires.2,
+  room_on c.loop-k.invariant.0 c.requires.2,
 )
 
 pub loop-k-preserved : goal.loop-k-preserved
@@ -27,15 +27,14 @@ loop-k-preserved c =
     let l = c.loop-k in
     let z : to_z w64 (of_z w64 (cell a.list.now l.k))
     ≡ cell a.list.now l.k = rw (to_z-of_z (sfits_of c.put_one-arg-in-loop-k-1.given)) in (
-      omega arith,
-      c.put_one.auto.out ∙ l.invariant.1,
-      ones_more l.invariant.2 (one_is z c.put_one.ensures),
+      c.put_one.auto.out ∙ l.invariant.0,
+      ones_more l.invariant.1 (one_is z c.put_one.ensures),
     )
 
 pub shape_of-out : goal.shape_of-out
-shape_of-out c = c.loop-k.invariant.1
+shape_of-out c = c.loop-k.invariant.0
 
 pub returns : goal.returns
 returns c =
-    let e : c.loop-k.k ≡ c.args.n = omega (arith, c.loop-k-test.false, c.loop-k.invariant.0) in
-    ones_to e c.loop-k.invariant.2
+    let e : c.loop-k.k ≡ c.args.n = omega (arith, c.loop-k-test.false) in
+    ones_to e c.loop-k.invariant.1

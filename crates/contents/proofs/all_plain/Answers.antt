@@ -1,20 +1,14 @@
-use native.Mathlib.Omega.{arith}
-use mathlib.Core.Path.{◌≡◌, sym, ap, ◌∙◌}
+use mathlib.Core.Path.{sym, ◌∙◌}
 use Rattle.below.specs.Below.{all_none, all_next}
 use Rattle.contents.specs.Pass.{all_plain}
 use Rattle.contents.proofs.all_plain.Goals as goal
 
 pub loop-k-init : goal.loop-k-init
 unfolding all_plain
-loop-k-init c = (omega arith, sym (all_none _))
+loop-k-init c = sym (all_none _)
 
 pub loop-k-preserved : goal.loop-k-preserved
 unfolding all_plain
 loop-k-preserved c =
     let l = c.loop-k in
-    (omega arith, sym (all_next _ l.k ∙ rw (← l.invariant.1, ← c.is_plain-plain.ensures)))
-
-pub returns : goal.returns
-returns c =
-    let e : c.loop-k.k ≡ 16 = omega arith in
-    c.loop-k.invariant.1 ∙ ap (all_plain _ _) e
+    sym (all_next _ l.k ∙ rw (← l.invariant, ← c.is_plain-plain.ensures))

@@ -1,10 +1,5 @@
-use Prim.Native.Nat.{◌-◌, ◌≤◌}
-use lib.ListN.{length}
 use Rattle.contents.specs.Pass.{Passes}
 use Rattle.contents.proofs.pass_plain.Given as goal
 
 abbrev pub invariant-loop-i : goal.invariant-loop-i
-invariant-loop-i l = Passes l.d l.at l.i × (l.i ≤ length l.d)
-
-abbrev pub decreases-loop-i : goal.decreases-loop-i
-decreases-loop-i l = length l.d - l.i
+invariant-loop-i l = Passes l.d l.at l.i

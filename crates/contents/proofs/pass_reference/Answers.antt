@@ -4,10 +4,10 @@ use Rattle.contents.proofs.Passing.{passes_none}
 use Rattle.contents.proofs.Walking.{passes_refer}
 use Rattle.contents.proofs.pass_reference.Goals as goal
 
-pub returns-in-Is : goal.returns-in-Is
-returns-in-Is c =
+pub returns-in-Some : goal.returns-in-Some
+returns-in-Some c =
     passes_refer c.args.d.now c.args.at _ _ c.requires.0 c.requires.1
-    (sym c.reference.ensures ∙ c.in-Is.is)
+    (sym c.reference.ensures ∙ c.in-Some.is)
 
-pub returns-in-Bad : goal.returns-in-Bad
-returns-in-Bad c = passes_none _ _ (omega arith)
+pub returns-in-None : goal.returns-in-None
+returns-in-None c = passes_none _ _ (omega arith)

@@ -2,12 +2,10 @@
 -- or what is faulted. "A start tag that may not stand there ends the statement it stands in: it is read for its form only (50 first)."
 -- "`<text>` without a languages attribute: 51. br stands in title, label, value, text only, else 51. Processing instructions and CDATA: 51
 -- at `<`. An end tag of another name: 50 at its `<`. Where the file ends too early: 50."
-use Rattle.std.specs.Prelude.{Bool, false, cond, ◌&&◌, not, List, [], ◌∷◌, ℕ, ◌+◌, leb, eqb, length, drop, get_or}
+use Rattle.std.specs.Prelude.{Bool, false, cond, ◌&&◌, not, List, [], ◌∷◌, ℕ, ◌+◌, leb, eqb, length, drop, get_or, Option, Some, None}
 use Rattle.markup.specs.rule.Bytes.{stands}
 use Rattle.markup.specs.rule.Reference.{reference_of}
 use Rattle.markup.specs.rule.Gap.{xml_comment}
-use Rattle.markup.specs.declared.Char.{Char}
-use Rattle.markup.specs.declared.Char.TheVariants as char
 use Rattle.markup.specs.declared.Skip.{Skip}
 use Rattle.markup.specs.declared.Skip.TheVariants as skip
 use Rattle.angles.specs.rule.Angle.{angle_of}
@@ -50,9 +48,9 @@ bracket_at d g = cond (stands (93 ∷ 93 ∷ 62 ∷ []) (drop g.next d)) (broken
 unfoldable pub return_at : List ℕ → Going → Step
 return_at d g = go_on_saying g (g.next + 1) (cond (stands (10 ∷ []) (drop (g.next + 1) d)) said.Nothing (said.Byte 10))
 
-abbrev pub on_char : Going → Char → Step
-on_char g (char.Is c n) = go_on_saying g n (said.Code c)
-on_char g char.Bad = broken_at g.next
+abbrev pub on_char : Going → Option (ℕ × ℕ) → Step
+on_char g (Some (c, n)) = go_on_saying g n (said.Code c)
+on_char g None = broken_at g.next
 
 unfoldable pub refer_at : List ℕ → Going → Step
 refer_at d g = on_char g (reference_of g.next (drop (g.next + 1) d))

@@ -1,4 +1,6 @@
+use mathlib.Core.Path.{◌≡◌}
 use native.Mathlib.Omega.{arith}
+use lib.ListN.{length}
 use borrow.Author.Tests.{lt-ltb, le-ltb}
 use Rattle.lows.specs.Lows.{clear_next}
 use Rattle.cuts.proofs.low_from.Goals as goal
@@ -16,7 +18,6 @@ pub loop-i-preserved : goal.loop-i-preserved
 loop-i-preserved c = clear_next _ _ _ c.loop-i.invariant (le-ltb _ _ c.if-d-i-lt32.false) c.loop-i-test.true
 
 pub returns : goal.returns
-returns c = record {
-  clear = c.loop-i.invariant;
-  low = λ l. absurd (omega (arith, c.loop-i-test.false));
-}
+returns c =
+    let q : c.loop-i.i ≡ length c.args.d.now = omega (arith, c.loop-i.invariant.within) in
+    record { clear = rw q at c.loop-i.invariant; low = λ l. absurd (omega arith) }

@@ -1,4 +1,6 @@
-use mathlib.Core.Path.{sym, ◌∙◌}
+use mathlib.Core.Path.{◌≡◌, sym, ◌∙◌}
+use native.Mathlib.Omega.{arith}
+use lib.ListN.{length}
 use Rattle.cuts.specs.Cut.{next_none, next_some, end_here, end_on, end_none, end_unbroken}
 use Rattle.cuts.proofs.next_behind.Goals as goal
 
@@ -17,4 +19,6 @@ loop-i-preserved c = c.loop-i.invariant
     ∙ end_on _ _ _ _ c.loop-i-test.true (sym c.begins_at.ensures ∙ c.if-begins_at.false)
 
 pub returns : goal.returns
-returns c = sym (c.loop-i.invariant ∙ end_none _ _ _ _ c.loop-i-test.false)
+returns c =
+    let q : c.loop-i.i ≡ length c.args.d.now = omega (arith, c.requires.1.within) in
+    sym (rw q at c.loop-i.invariant ∙ end_none _ _ _ _ (omega arith))

@@ -1,13 +1,9 @@
 use mathlib.Core.Path.{◌≡◌, sym}
-use Prim.Native.Nat.{◌+◌, ◌*◌, ◌<◌}
+use Prim.Native.Nat.{◌+◌, ◌*◌}
 use native.Mathlib.Nat.{zero-mul, suc-mul}
 use native.Mathlib.Numerals.{add-one}
 use native.Mathlib.Omega.{arith}
 use borrow.Author.Count.{below_more}
-use borrow.Author.Tests.{ltb-true}
-use Rattle.below.specs.Below.{and_right}
-use lib.Dec.{ltb}
-use lib.ListN.{length}
 use Rattle.cuts.specs.Records.{PlainNext}
 use Rattle.cuts.proofs.plain_run.Goals as goal
 
@@ -20,17 +16,6 @@ loop-k-init c =
     let a = c.args in
     let z : a.from + 0 * (a.size + a.w.size) ≡ a.from = omega (arith, zero-mul (a.size + a.w.size)) in
     (sym z, record { reach = rw z (omega (arith, c.requires.size_in_bounds.1)); each = λ k l. absurd (omega arith) })
-
-pub next_short-requires : goal.next_short-requires
-next_short-requires c =
-    let p = c.requires.ending in
-    let a = c.args in
-    let l = c.loop-k in
-    let i : l.at < length a.d.now = ltb-true _ _ (and_right (ltb l.k a.most) (ltb l.at (length a.d.now))
-    c.loop-k-test.true) in record {
-      ending = (p.0, p.1);
-      from_in_bounds = omega arith;
-    }
 
 pub overflow_add-at : goal.overflow_add-at
 overflow_add-at c = let h = (found c).inside in omega (arith, c.requires.ending.0.few)
@@ -54,7 +39,7 @@ pub returns-then-not-next_short : goal.returns-then-not-next_short
 returns-then-not-next_short c = c.loop-k.invariant.1
 
 pub returns : goal.returns
-returns c = c.loop-k.invariant.1
+returns c = let q : c.loop-k.k ≡ c.args.most = omega arith in rw q at c.loop-k.invariant.1
 
 pub overflow_add-step : goal.overflow_add-step
 overflow_add-step c = omega (arith, c.requires.ending.0.few)

@@ -1,8 +1,8 @@
-use mathlib.Core.Path.{◌≡◌, sym, ◌∙◌}
+use mathlib.Core.Path.{◌≡◌, ◌∙◌}
 use mathlib.Core.List.{List}
-use Prim.Native.Nat.{ℕ, suc, ◌+◌, ◌-◌, ◌/◌, ◌%◌, ◌≤◌}
+use Prim.Native.Nat.{ℕ, suc, ◌+◌, ◌-◌, ◌/◌, ◌%◌}
 use native.Mathlib.Omega.{arith}
-use lib.ListN.{set, length-set}
+use lib.ListN.{set}
 use Rattle.places.specs.rule.Places.{put, run}
 use Rattle.fields.specs.rule.Number.{padded}
 use Rattle.digits.specs.Right.{put_last}
@@ -12,19 +12,7 @@ on : (s : List ℕ) (at j i n : ℕ) → j ≡ suc i
     → put (set s (at + i) (48 + n % 10)) (run at i) (padded i (n / 10)) ≡ put s (run at j) (padded j n)
 on s at j i n e = rw e (put_last s at i n)
 
-done : (s : List ℕ) (at j n : ℕ) → j ≤ 0 → put s (run at j) (padded j n) ≡ s
-done s at j n h = let e : j ≡ 0 = omega arith in rw e
-
 pub loop-j-preserved : goal.loop-j-preserved
 loop-j-preserved c =
-    let l = c.loop-j in (
-      omega arith,
-      rw length-set l.invariant.1,
-      on l.out c.args.at l.j (l.j - 1) l.rest (omega arith) ∙ l.invariant.2,
-    )
-
-pub returns : goal.returns
-returns c = sym (done _ _ _ _ c.loop-j-test.false) ∙ c.loop-j.invariant.2
-
-pub shape_of-out : goal.shape_of-out
-shape_of-out c = c.loop-j.invariant.1
+    let l = c.loop-j in
+    on l.out c.args.at l.j (l.j - 1) l.rest (omega arith) ∙ l.invariant

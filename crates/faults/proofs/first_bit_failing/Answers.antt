@@ -1,15 +1,15 @@
 use mathlib.Core.Path.{◌≡◌, sym, ap, ◌∙◌}
+use mathlib.Core.Bool.{false}
 use lib.IntN.{pos}
 use mir.Facts.{to_z-of_z}
 use mir.Syntax.{w64}
 use Prim.Native.Nat.{◌+◌, ◌-◌}
 use native.Mathlib.Nat.{sub-zero}
 use borrow.Author.Rules.{sfits_of}
-use native.Mathlib.Omega.{arith}
 use Rattle.fields.specs.rule.Legal.{legal}
 use Rattle.faults.proofs.Laws.{bit_here, bit_not, bit_on, bit_none}
 use Rattle.faults.proofs.first_bit_failing.Goals as goal
-use Rattle.faults.proofs.first_bit_failing.Goals.{After-is_legal}
+use Rattle.faults.proofs.first_bit_failing.Goals.{After-is_legal, then-not-byte_passes+else-is_legal, else-not-byte_passes}
 
 -- whether the row allows the category of a byte that fails
 asked : (c : After-is_legal)
@@ -26,50 +26,30 @@ returns-then-is_legal c =
     let a = c.args in
     sym (bit_here a.x (legal a.t.now a.rows a.row) a.bytes.now (a.row.start - 1) a.row.width c.loop-i.i
     c.loop-i-test.true (sym c.byte_passes.ensures ∙ c.if-not-byte_passes.true)
-    (sym (asked (goal.at.returns-then-is_legal c).After-is_legal) ∙ c.if-is_legal.true)) ∙ c.loop-i.invariant.1
-
-pub loop-i-preserved-else-is_legal : goal.loop-i-preserved-else-is_legal
-loop-i-preserved-else-is_legal c =
-    let a = c.args in (
-      omega arith,
-      sym (bit_not a.x (legal a.t.now a.rows a.row) a.bytes.now (a.row.start - 1) a.row.width c.loop-i.i
-          c.loop-i-test.true (sym (asked (goal.at.loop-i-preserved-else-is_legal c).After-is_legal) ∙ c.if-is_legal.false))
-          ∙ c.loop-i.invariant.1,
-    )
+    (sym (asked (goal.at.returns-then-is_legal c).After-is_legal) ∙ c.if-is_legal.true)) ∙ c.loop-i.invariant
 
 pub loop-i-preserved : goal.loop-i-preserved
 loop-i-preserved c =
-    let a = c.args in (
-      omega arith,
-      sym (bit_on a.x (legal a.t.now a.rows a.row) a.bytes.now (a.row.start - 1) a.row.width
-          c.loop-i.i c.loop-i-test.true
-          (sym c.byte_passes.ensures ∙ c.if-not-byte_passes.false)) ∙ c.loop-i.invariant.1,
-    )
+    let a = c.args in
+    let ok = legal a.t.now a.rows a.row in
+    let at = a.row.start - 1 in
+    let i = c.loop-i.i in
+    elim c.if-not-byte_passes.branch [
+      | then-not-byte_passes+else-is_legal w ↦
+          let no : ok (pos (i + 1)) ≡ false =
+          ap ok (sym (to_z-of_z {w = w64} (sfits_of w.cell_of.type_inv) ∙ w.cell_of.ensures)) ∙ sym w.is_legal.ensures
+          ∙ w.if-is_legal.false in
+          sym (bit_not a.x ok a.bytes.now at a.row.width i c.loop-i-test.true no) ∙ c.loop-i.invariant
+      | else-not-byte_passes w ↦
+          sym (bit_on a.x ok a.bytes.now at a.row.width i c.loop-i-test.true
+          (sym c.byte_passes.ensures ∙ w.if-not-byte_passes.false)) ∙ c.loop-i.invariant
+    ]
 
 pub returns : goal.returns
 returns c =
     let a = c.args in
     sym (bit_none a.x (legal a.t.now a.rows a.row) a.bytes.now (a.row.start - 1) a.row.width c.loop-i.i
-    c.loop-i-test.false) ∙ c.loop-i.invariant.1
-
-pub overflow_sub-at : goal.overflow_sub-at
-overflow_sub-at c = let h = c.requires.from_one in omega arith
+    c.loop-i-test.false) ∙ c.loop-i.invariant
 
 pub loop-i-init : goal.loop-i-init
-loop-i-init c = (omega arith, rw sub-zero)
-
-pub overflow_add-p : goal.overflow_add-p
-overflow_add-p c = let h = c.requires.inside in omega arith
-
-pub bounds-bytes-p : goal.bounds-bytes-p
-bounds-bytes-p c = let h = c.requires.inside in
-    let g = c.requires.from_one in omega arith
-
-pub overflow_add-k : goal.overflow_add-k
-overflow_add-k c = let h = c.requires.few in omega arith
-
-pub cell_of-requires : goal.cell_of-requires
-cell_of-requires c = let h = c.requires.few in omega arith
-
-pub is_legal-requires : goal.is_legal-requires
-is_legal-requires c = c.requires.lines
+loop-i-init c = rw sub-zero

@@ -1,11 +1,6 @@
 -- `field_judges::text_to` meets its contract. The invariant: the bytes passed are a text's.
-use Prim.Native.Nat.{◌-◌}
-use lib.ListN.{length}
 use Rattle.field_judges.specs.Judged.{TextTo}
 use Rattle.field_judges.proofs.text_to.Given as goal
 
 abbrev pub invariant-loop-i : goal.invariant-loop-i
 invariant-loop-i l = TextTo l.d l.at l.i
-
-abbrev pub decreases-loop-i : goal.decreases-loop-i
-decreases-loop-i l = length l.d - l.i

@@ -1,27 +1,24 @@
-use mathlib.Core.Path.{refl, sym, ◌∙◌}
+use mathlib.Core.Path.{◌≡◌, refl, sym, ◌∙◌}
+use Prim.Native.Nat.{◌+◌, ◌-◌}
+use native.Mathlib.Nat.{sub-zero}
 use native.Mathlib.Omega.{arith}
 use Rattle.field_values.specs.Steps.{capped_zero, capped_none, capped_small}
 use Rattle.field_values.proofs.fold_zeros.Goals as goal
 
-pub loop-k-init : goal.loop-k-init
-loop-k-init c = (refl, c.requires)
+pub loop-init : goal.loop-init
+loop-init c = rw sub-zero (refl, c.requires)
 
-pub step-n-requires : goal.step-n-requires
-step-n-requires c = c.loop-k.invariant.1
-
-pub loop-k-smaller : goal.loop-k-smaller
-loop-k-smaller c = omega (arith, c.loop-k-test.true)
-
-pub loop-k-preserved : goal.loop-k-preserved
-loop-k-preserved c = (
-  c.loop-k.invariant.0
-      ∙ capped_zero c.loop-k.n c.loop-k.k c.loop-k-test.true ∙ rw c.step-n.ensures,
-  rw c.step-n.ensures (capped_small _),
-)
+pub loop-preserved : goal.loop-preserved
+loop-preserved c =
+    let l = c.loop in
+    let n = c.args.count in
+    let less : n - l.counter - 1 ≡ n - (l.counter + 1) = omega arith in (
+      l.invariant.0 ∙ rw less at (capped_zero l.n (n - l.counter) (omega arith)) ∙ rw c.step-n.ensures,
+      rw c.step-n.ensures (capped_small _),
+    )
 
 pub returns : goal.returns
 returns c = (
-  sym (c.loop-k.invariant.0 ∙ capped_none c.loop-k.n c.loop-k.k
-      (omega (arith, c.loop-k-test.false))),
-  c.loop-k.invariant.1,
+  sym (c.loop.invariant.0 ∙ capped_none c.loop.n _ (omega arith)),
+  c.loop.invariant.1,
 )

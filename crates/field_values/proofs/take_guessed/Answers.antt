@@ -1,5 +1,4 @@
 -- `field_values::take_guessed` meets its contract.
-use mathlib.Core.Bool.{true, false}
 use Rattle.writes.specs.rule.Write.{lent_value}
 use Rattle.field_values.specs.Steps.{wrote, guess_none, left_empty, single_number, quantity_number, text_is, text_left_is}
 use Rattle.field_values.proofs.take_guessed.Goals as goal

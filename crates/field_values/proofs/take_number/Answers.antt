@@ -1,7 +1,6 @@
 -- `field_values::take_number` meets its contract.
 use mathlib.Core.Path.{◌≡◌, refl, sym, ap, ◌∙◌}
 use borrow.Author.Rules.{rules, sfits_of}
-use mathlib.Core.Bool.{true, false}
 use mir.Facts.{to_z-of_z}
 use mir.Syntax.{w64}
 use mir.Val.{to_z, of_z}

@@ -1,7 +1,6 @@
 -- `field_values::take_other` meets its contract.
 use mathlib.Core.Path.{refl, sym, ◌∙◌}
 use native.Mathlib.Omega.{arith}
-use mathlib.Core.Bool.{true, false}
 use lib.Seq.{length-take-le}
 use Rattle.writes.specs.rule.Write.{lent_value}
 use Rattle.field_values.specs.Steps.{none_taken, long_none, many_none, set_sendable, set_stands, set_other, set_left_is, set_is}
@@ -13,22 +12,21 @@ returns-then-f-gt50000 c = none_taken (long_none c.args.row c.args.f.now
     c.requires.fact.0 c.requires.fact.1.is
     (ready_limits c.requires.ready) c.if-f-gt50000.true)
 
-pub returns-then-n-gt9999 : goal.returns-then-n-gt9999
-returns-then-n-gt9999 c =
+pub returns-in_default : goal.returns-in_default
+returns-in_default c =
     none_taken (many_none c.args.row c.args.f.now c.requires.fact.0 c.requires.fact.1.is
-    (ready_limits c.requires.ready) (c.guess_set-n.ensures.many c.if-n-gt9999.true))
+    (ready_limits c.requires.ready) c.in_default.ensures)
 
 pub send_set-end-requires : goal.send_set-end-requires
 send_set-end-requires c = record {
   tens = c.requires.tens;
-  codes = set_sendable c.args.f.now _ _ (c.guess_set-n.auto.list ∙ c.requires.list_len.0)
-      (omega (arith, c.if-n-gt9999.false)) c.guess_set-n.ensures;
+  codes = set_sendable c.args.f.now _ _ (c.guess_set.auto.list ∙ c.requires.list_len.0) c.in-Some.ensures.0 c.in-Some.ensures.1;
 }
 
 pub returns-then-end-f : goal.returns-then-end-f
 returns-then-end-f c =
     none_taken (left_none _ _ _ _ (set_left_is c.args.row c.args.f.now c.requires.fact.0
-    c.requires.fact.1.is (c.guess_set-n.ensures.all (omega (arith, c.if-n-gt9999.false))) refl
+    c.requires.fact.1.is c.in-Some.ensures.1 refl
     (other_length _ c.args.f.now (set_other c.send_set-end.ensures c.requires.list_len.1 c.args.f.now
     (omega (arith, c.if-f-gt50000.false)) c.if-end-f.true))))
 
@@ -60,25 +58,25 @@ returns-then-not-left_of c =
       c.if-end-f.false,
     )) in
     none_taken (left_none _ _ _ _ (set_left_is c.args.row c.args.f.now c.requires.fact.0
-    c.requires.fact.1.is (c.guess_set-n.ensures.all (omega (arith, c.if-n-gt9999.false))) s.1
+    c.requires.fact.1.is c.in-Some.ensures.1 s.1
     (sym c.if-not-left_of.true ∙ c.left_of.ensures)))
 
 pub slice_bounds-write_row-end : goal.slice_bounds-write_row-end
 slice_bounds-write_row-end c =
     omega (
       arith,
-      c.guess_set-n.auto.list,
+      c.guess_set.auto.list,
       c.requires.list_len.0,
-      c.if-n-gt9999.false,
+      c.in-Some.ensures.0,
     )
 
 pub slice_bounds-write_row-end-2 : goal.slice_bounds-write_row-end-2
 slice_bounds-write_row-end-2 c =
     sym (length-take-le _ _ (omega (
       arith,
-      c.guess_set-n.auto.list,
+      c.guess_set.auto.list,
       c.requires.list_len.0,
-      c.if-n-gt9999.false,
+      c.in-Some.ensures.0,
     )))
 
 pub returns : goal.returns
@@ -90,12 +88,6 @@ returns c =
       c.if-end-f.false,
     )) in
     wrote (set_is c.args.row c.args.f.now c.requires.fact.0 c.requires.fact.1.is
-    (c.guess_set-n.ensures.all (omega (
-      arith,
-      c.if-n-gt9999.false,
-    )))) (set_left_is c.args.row c.args.f.now c.requires.fact.0 c.requires.fact.1.is
-    (c.guess_set-n.ensures.all (omega (
-      arith,
-      c.if-n-gt9999.false,
-    ))) s.1 (sym c.if-not-left_of.false
+    c.in-Some.ensures.1) (set_left_is c.args.row c.args.f.now c.requires.fact.0 c.requires.fact.1.is
+    c.in-Some.ensures.1 s.1 (sym c.if-not-left_of.false
     ∙ c.left_of.ensures)) c.write_row.ensures c.is_done.ensures

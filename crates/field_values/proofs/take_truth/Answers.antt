@@ -1,7 +1,6 @@
 -- `field_values::take_truth` meets its contract.
 use mathlib.Core.Path.{refl, sym, ◌∙◌}
 use native.Mathlib.Omega.{arith}
-use mathlib.Core.Bool.{true, false}
 use Rattle.writes.specs.rule.Write.{lent_value}
 use Rattle.field_values.specs.Steps.{none_taken, left_none, truth_is, truth_left_is, wrote}
 use Rattle.field_values.proofs.take_truth.Goals as goal

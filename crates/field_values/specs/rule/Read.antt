@@ -1,7 +1,7 @@
 -- The value of a field, found: the one value that can have this field is guessed, then it is asked whether the row's write accepts it and
 -- whether export writes it so. That this finds the value of every field that is one (Value.antt), and no other, is `value_exactly`
 -- (specs/Exactly.antt). 45 is the minus, 59 the semicolon, 110 `n`.
-use Rattle.std.specs.Prelude.{Bool, true, false, cond, ◌&&◌, List, [], ◌∷◌, ℕ, zero, suc, ◌+◌, ◌-◌, ◌*◌, min, eqb, ltb, ℤ, pos, length}
+use Rattle.std.specs.Prelude.{Bool, true, false, cond, ◌&&◌, List, [], ◌∷◌, ℕ, suc, ◌+◌, ◌-◌, ◌*◌, min, eqb, ltb, ℤ, pos, length}
 use Rattle.std.specs.Prelude.{take, drop}
 use Rattle.cells.specs.rule.Cell.{number_of}
 use Rattle.layout.specs.declared.Row.{Row}

@@ -20,7 +20,7 @@ use Rattle.files.specs.Known.{LowKnown, part_known, known_plain, known_low, row_
 use Rattle.files.specs.rule.Tested.{Tested}
 use Rattle.files.specs.Tested.{tested_rows, tested_length}
 use Rattle.files.proofs.judge_tested.Goals as goal
-use Rattle.files.proofs.judge_tested.Goals.{After-illegal_row, Else-end-h, Else-low-end, In-At, In-Ended}
+use Rattle.files.proofs.judge_tested.Goals.{After-illegal_row, Else-end-h, Else-low-end, In-Some, In-Ended}
 
 -- the first record
 abbrev first_in : List ℕ → ℕ → List ℕ
@@ -104,9 +104,9 @@ rows_found c =
     (bad_row a.t.now v (part a.d.now s c.in-Ended.end)) 0 v)
     (ended (goal.at.After-illegal_row c).In-Ended).starts
 
-inside : (c : In-At) → c.in-At.i
+inside : (c : In-Some) → c.in-Some.i
     < c.read-h.result.rows
-inside c = let h = first_inside _ _ _ _ (sym (rows_found (goal.at.In-At c).After-illegal_row) ∙ c.in-At.is) in omega arith
+inside c = let h = first_inside _ _ _ _ (sym (rows_found (goal.at.In-Some c).After-illegal_row) ∙ c.in-Some.is) in omega arith
 
 pub next_behind-requires : goal.next_behind-requires
 next_behind-requires c = (
@@ -158,25 +158,25 @@ pub row_fault-x-requires : goal.row_fault-x-requires
 row_fault-x-requires c = rw (
   c.read.ensures,
   (ended (goal.at.row_fault-x-requires c).In-Ended).starts,
-) ((ready (goal.at.row_fault-x-requires c).Else-low-end).row c.in-At.i
-    (inside (goal.at.row_fault-x-requires c).In-At))
+) ((ready (goal.at.row_fault-x-requires c).Else-low-end).row c.in-Some.i
+    (inside (goal.at.row_fault-x-requires c).In-Some))
 
-pub returns-in-At : goal.returns-in-At
+pub returns-in-Some : goal.returns-in-Some
 unfolding file_said judged_as is_sound
-returns-in-At c =
+returns-in-Some c =
     let args = c.args in
     let t = args.t.now in
     let v = c.read-h.result.rows in
-    let i = c.in-At.i in
+    let i = c.in-Some.i in
     let r = first_in args.d.now c.in-Ended.end in
     let e : row_fault t v r i ≡ c.apart.result =
-    sym (c.apart.ensures ∙ c.row_fault-x.ensures ∙ rw (c.read.ensures, (ended (goal.at.returns-in-At c).In-Ended).starts) refl) in
-    let o = row_refused t v r (plain (goal.at.returns-in-At c).Else-low-end)
-    (sym (rows_found (goal.at.returns-in-At c).After-illegal_row) ∙ c.in-At.is) in
+    sym (c.apart.ensures ∙ c.row_fault-x.ensures ∙ rw (c.read.ensures, (ended (goal.at.returns-in-Some c).In-Ended).starts) refl) in
+    let o = row_refused t v r (plain (goal.at.returns-in-Some c).Else-low-end)
+    (sym (rows_found (goal.at.returns-in-Some c).After-illegal_row) ∙ c.in-Some.is) in
     record {
-      says = sym (whole (goal.at.returns-in-At c).In-Ended ∙ go_known (record_verdict t (length r) r) (bad_field i c.apart.result) 0 _
-          (verdict_rows t (length r) r refl (long (goal.at.returns-in-At c).Else-end-h)
-          ∙ rw (← tested_rows (tested (goal.at.returns-in-At c).In-Ended)) (o ∙ ap (bad_field i) e)) refl);
+      says = sym (whole (goal.at.returns-in-Some c).In-Ended ∙ go_known (record_verdict t (length r) r) (bad_field i c.apart.result) 0 _
+          (verdict_rows t (length r) r refl (long (goal.at.returns-in-Some c).Else-end-h)
+          ∙ rw (← tested_rows (tested (goal.at.returns-in-Some c).In-Ended)) (o ∙ ap (bad_field i) e)) refl);
     }
 
 pub judge_rest-requires : goal.judge_rest-requires
@@ -186,22 +186,22 @@ judge_rest-requires c = record {
       c.terminator_behind-w.ensures;
 }
 
-pub returns-in-Nothing-illegal_row : goal.returns-in-Nothing-illegal_row
+pub returns-in-None : goal.returns-in-None
 unfolding is_sound
-returns-in-Nothing-illegal_row c =
+returns-in-None c =
     let args = c.args in
     let t = args.t.now in
     let v = c.read-h.result.rows in
     let r = first_in args.d.now
     c.in-Ended.end in
-    let o = rows_sound t v r (plain (goal.at.returns-in-Nothing-illegal_row c).Else-low-end)
-    (sym (rows_found (goal.at.returns-in-Nothing-illegal_row c).After-illegal_row) ∙ c.in-Nothing-illegal_row.is) in
+    let o = rows_sound t v r (plain (goal.at.returns-in-None c).Else-low-end)
+    (sym (rows_found (goal.at.returns-in-None c).After-illegal_row) ∙ c.in-None.is) in
     let s : record_verdict t (length r) r ≡ sound = verdict_rows t (length r) r refl
-    (long (goal.at.returns-in-Nothing-illegal_row c).Else-end-h)
-    ∙ rw (← tested_rows (tested (goal.at.returns-in-Nothing-illegal_row c).In-Ended)) o in
+    (long (goal.at.returns-in-None c).Else-end-h)
+    ∙ rw (← tested_rows (tested (goal.at.returns-in-None c).In-Ended)) o in
     record {
-      says = sym (whole (goal.at.returns-in-Nothing-illegal_row c).In-Ended ∙ go_sound (record_verdict t (length r) r) 0 _ (ap is_sound s)
-          ∙ rw (size (goal.at.returns-in-Nothing-illegal_row c).In-Ended) (sym c.judge_rest.ensures));
+      says = sym (whole (goal.at.returns-in-None c).In-Ended ∙ go_sound (record_verdict t (length r) r) 0 _ (ap is_sound s)
+          ∙ rw (size (goal.at.returns-in-None c).In-Ended) (sym c.judge_rest.ensures));
     }
 
 pub returns-in-Unended : goal.returns-in-Unended

@@ -4,6 +4,6 @@ use Rattle.filters.proofs.folded.Goals as goal
 
 pub returns-in-Byte : goal.returns-in-Byte
 returns-in-Byte c = (
-  c.wide.ensures.0 ∙ c.upper.ensures ∙ rw c.in-Byte.is,
-  omega (arith, c.wide.ensures.1),
+  c.upper.ensures ∙ rw c.in-Byte.is,
+  omega arith,
 )

@@ -41,10 +41,7 @@ returns-then-pass_apart-count c =
     c.name_sum-sum.ensures (rw c.if-pass_apart-count.true at c.pass_apart.ensures)
 
 pub loop-i-init : goal.loop-i-init
-loop-i-init c = let a = c.args in (
-  omega arith,
-  served_begin a.latin a.standard a.d.now a.rows.now a.count (text_at a.p a.n),
-)
+loop-i-init c = let a = c.args in served_begin a.latin a.standard a.d.now a.rows.now a.count (text_at a.p a.n)
 
 pub is_served-requires : goal.is_served-requires
 is_served-requires c = record {
@@ -61,7 +58,7 @@ returns-then-is_served c =
     let r = served_row a.latin a.standard a.d.now a.rows.now a.count t c.requires.known.lying i k _
     (sym c.if-is_served.true ∙ c.is_served.ensures) in
     served_said a.latin a.standard a.d.now a.rows.now a.count t _
-    (some_found a.rows.now a.count (served_by a.latin a.standard a.d.now t) i k c.loop-i.invariant.1 r)
+    (some_found a.rows.now a.count (served_by a.latin a.standard a.d.now t) i k c.loop-i.invariant r)
 
 pub loop-i-preserved : goal.loop-i-preserved
 loop-i-preserved c =
@@ -70,10 +67,8 @@ loop-i-preserved c =
     let i = c.loop-i.i in
     let k = c.loop-i-test.true in
     let r = served_row a.latin a.standard a.d.now a.rows.now a.count t c.requires.known.lying i k _
-    (sym c.if-is_served.false ∙ c.is_served.ensures) in (
-      omega arith,
-      some_next a.rows.now a.count (served_by a.latin a.standard a.d.now t) i k c.loop-i.invariant.1 r,
-    )
+    (sym c.if-is_served.false ∙ c.is_served.ensures) in
+    some_next a.rows.now a.count (served_by a.latin a.standard a.d.now t) i k c.loop-i.invariant r
 
 pub returns : goal.returns
 returns c =
@@ -81,4 +76,4 @@ returns c =
     let t = text_at a.p a.n in
     served_said a.latin a.standard a.d.now a.rows.now a.count t _
     (some_over a.rows.now a.count (served_by a.latin a.standard a.d.now t) c.loop-i.i c.loop-i-test.false
-    c.loop-i.invariant.1)
+    c.loop-i.invariant)

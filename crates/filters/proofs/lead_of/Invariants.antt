@@ -4,7 +4,4 @@ use Rattle.filters.proofs.Leads.{Shares}
 use Rattle.filters.proofs.lead_of.Given as goal
 
 abbrev pub invariant-loop-k : goal.invariant-loop-k
-invariant-loop-k l = (l.k ≤ length l.s - l.p) × (l.k ≤ length l.t - l.q) × Shares l.standard l.s l.t l.p l.q l.k
-
-abbrev pub decreases-loop-k : goal.decreases-loop-k
-decreases-loop-k l = length l.s - l.p - l.k
+invariant-loop-k l = (l.k ≤ length l.t - l.q) × Shares l.standard l.s l.t l.p l.q l.k

@@ -1,5 +1,5 @@
 use mathlib.Core.Path.{◌≡◌}
-use Prim.Native.Nat.{◌-◌, ◌^◌, ◌≤◌, ◌<◌}
+use Prim.Native.Nat.{◌^◌, ◌≤◌, ◌<◌}
 use Rattle.names.specs.Name.{key_of}
 use Rattle.contents.specs.rule.Content.{begun, signs_from, content_signs}
 use Rattle.filters.specs.Code.{Ready}
@@ -10,6 +10,3 @@ invariant-loop-count l = (key_of 0 0 (signs_from l.latin l.d (begun l.at)) ≡ k
     × (l.count ≤ 8)
     × (l.key < 256 ^ l.count)
     × Ready l.d l.c
-
-abbrev pub decreases-loop-count : goal.decreases-loop-count
-decreases-loop-count l = 9 - l.count

@@ -1,6 +1,6 @@
 -- The invariant: the names before row i have their numbers.
 use mathlib.Core.Path.{◌≡◌}
-use Prim.Native.Nat.{ℕ, ◌-◌, ◌≤◌, ◌<◌}
+use Prim.Native.Nat.{ℕ, ◌<◌}
 use lib.ListN.{length, get_or}
 use Rattle.names.specs.Name.{key_of}
 use Rattle.xml_reading.specs.rule.Role.{signs_in}
@@ -8,8 +8,5 @@ use Rattle.filters.specs.Code.{name_in}
 use Rattle.filters.proofs.names_fault.Given as goal
 
 abbrev pub invariant-loop-i : goal.invariant-loop-i
-invariant-loop-i l = (l.i ≤ l.count) × (length l.keys ≡ 512)
+invariant-loop-i l = (length l.keys ≡ 512)
     × ((j : ℕ) → j < l.i → get_or l.keys j 0 ≡ key_of 0 0 (signs_in l.latin l.d (name_in l.rows j)))
-
-abbrev pub decreases-loop-i : goal.decreases-loop-i
-decreases-loop-i l = l.count - l.i

@@ -1,3 +1,5 @@
+use mathlib.Core.Path.{◌≡◌}
+use native.Mathlib.Omega.{arith}
 use Rattle.filters.proofs.Passing.{apart_next}
 use Rattle.filters.proofs.pass_apart.Goals as goal
 
@@ -11,4 +13,7 @@ pub loop-i-preserved : goal.loop-i-preserved
 loop-i-preserved c = apart_next _ _ _ _ _ c.loop-i.invariant c.loop-i-test.true c.if-sums-i.false
 
 pub returns : goal.returns
-returns c = c.loop-i.invariant
+returns c =
+    let n = c.loop-i.invariant.within in
+    let e : c.loop-i.i ≡ c.args.count = omega arith in
+    rw e at c.loop-i.invariant

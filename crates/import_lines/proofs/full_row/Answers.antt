@@ -10,9 +10,3 @@ lines_count-requires c = record {
   line_facts = c.requires;
   w_bound = omega (arith, c.if-w-gt9999.false);
 }
-
-pub returns-then-lines_count : goal.returns-then-lines_count
-returns-then-lines_count c = λ e. c.lines_count.ensures c.if-lines_count.true
-
-pub returns-else-lines_count : goal.returns-else-lines_count
-returns-else-lines_count c = λ e. absurd (omega arith)

@@ -1,35 +1,23 @@
-use mathlib.Core.Path.{sym, ◌∙◌}
 use native.Mathlib.Omega.{arith}
-use lib.ListN.{length-set}
 use Rattle.import_lines.specs.Undoubled.{undoubling_none, undoubling_long, undoubling_more, undoubling_all}
 use Rattle.import_lines.proofs.undouble.Goals as goal
 
 pub loop-i-init : goal.loop-i-init
-loop-i-init c = (undoubling_none _ _, c.requires)
-
-pub shape_of-room-then-n-ge50000 : goal.shape_of-room-then-n-ge50000
-shape_of-room-then-n-ge50000 c = c.loop-i.invariant.1 ∙ sym c.requires
+loop-i-init c = undoubling_none _ _
 
 pub returns-then-n-ge50000 : goal.returns-then-n-ge50000
-returns-then-n-ge50000 c = undoubling_long c.loop-i.invariant.0 c.loop-i.invariant.1 c.loop-i-test.true
-    c.if-n-ge50000.true
+returns-then-n-ge50000 c = undoubling_long c.loop-i.invariant (omega arith) c.loop-i-test.true c.if-n-ge50000.true
 
 pub loop-i-preserved : goal.loop-i-preserved
-loop-i-preserved c = (
-  rw c.stride_of-i.ensures.0 (undoubling_more c.loop-i.invariant.0
-      c.loop-i.invariant.1 c.loop-i-test.true
-      (omega (arith, c.if-n-ge50000.false))),
-  simp length-set c.loop-i.invariant.1,
-)
+loop-i-preserved c =
+    rw c.stride_of-i.ensures.0 (undoubling_more c.loop-i.invariant (omega arith) c.loop-i-test.true
+    (omega (arith, c.if-n-ge50000.false)))
 
 pub loop-i-smaller : goal.loop-i-smaller
 loop-i-smaller c = omega (arith, c.loop-i-test.true, c.stride_of-i.ensures.1)
 
-pub shape_of-room : goal.shape_of-room
-shape_of-room c = c.loop-i.invariant.1 ∙ sym c.requires
-
 pub returns : goal.returns
-returns c = undoubling_all c.loop-i.invariant.0 c.loop-i.invariant.1 c.loop-i-test.false
+returns c = (c.loop-i.invariant.few, undoubling_all c.loop-i.invariant (omega arith) c.loop-i-test.false)
 
 pub overflow_add-i : goal.overflow_add-i
 overflow_add-i c = omega (arith, c.loop-i-test.true, c.stride_of-i.ensures.2)

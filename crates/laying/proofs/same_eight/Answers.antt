@@ -22,7 +22,7 @@ on l t at j k whole a b h g e f =
 pub loop-k-init : goal.loop-k-init
 loop-k-init c =
     let e : c.args.j + 0 ≡ c.args.j = omega arith in
-    (omega arith, rw e refl)
+    rw e refl
 
 pub loop-k-preserved : goal.loop-k-preserved
 loop-k-preserved c =
@@ -30,9 +30,4 @@ loop-k-preserved c =
     let a = c.args in
     let e = rw (to_z-of_z (sfits_of c.same-arg-1.given), to_z-of_z (sfits_of c.same-arg-in-loop-k-1.given))
     at c.same-same.ensures in
-    (omega arith, on a.part.now a.t.now a.at a.j l.k _ l.same _ (omega arith) (omega arith) l.invariant.1 e)
-
-pub returns : goal.returns
-returns c =
-    let e : c.loop-k.k ≡ 8 = omega (arith, c.loop-k.invariant.0, c.loop-k-test.false) in
-    rw e at c.loop-k.invariant.1
+    on a.part.now a.t.now a.at a.j l.k _ l.same _ (omega arith) (omega arith) l.invariant e

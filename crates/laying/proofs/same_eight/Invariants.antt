@@ -1,14 +1,11 @@
 -- `laying::same_eight` meets its contract. The invariant: the numbers up to here are the same, and then what is left begins so.
 use mathlib.Core.Path.{◌≡◌}
 use mathlib.Core.Bool.{◌&&◌}
-use Prim.Native.Nat.{◌+◌, ◌-◌, ◌≤◌}
+use Prim.Native.Nat.{◌+◌}
 use lib.ListN.{drop}
 use Rattle.laying.specs.rule.Begins.{begins_table}
 use Rattle.laying.proofs.same_eight.Given as goal
 
 abbrev pub invariant-loop-k : goal.invariant-loop-k
-invariant-loop-k l = (l.k ≤ 8) × (begins_table (drop l.j l.part) (drop (l.at + l.j) l.t)
-    ≡ (l.same && begins_table (drop (l.j + l.k) l.part) (drop (l.at + (l.j + l.k)) l.t)))
-
-abbrev pub decreases-loop-k : goal.decreases-loop-k
-decreases-loop-k l = 8 - l.k
+invariant-loop-k l = begins_table (drop l.j l.part) (drop (l.at + l.j) l.t)
+    ≡ (l.same && begins_table (drop (l.j + l.k) l.part) (drop (l.at + (l.j + l.k)) l.t))

@@ -29,19 +29,16 @@ returns-then-not-same c =
     let l = c.loop-j in
     let a = c.args in
     let e = rw (to_z-of_z (sfits_of c.same-arg-1.given), to_z-of_z (sfits_of c.same-arg-in-loop-j-1.given))
-    at c.same-same.ensures in
-    sym (l.invariant.1 ∙ stops a.part.now a.t.now a.at l.j _ (omega arith) (omega arith) e c.if-not-same.true)
+    at c.same.ensures in
+    sym (l.invariant ∙ stops a.part.now a.t.now a.at l.j _ (omega arith) (omega arith) e c.if-not-same.true)
 
 pub loop-j-preserved : goal.loop-j-preserved
 loop-j-preserved c =
     let l = c.loop-j in
     let a = c.args in
     let e = rw (to_z-of_z (sfits_of c.same-arg-1.given), to_z-of_z (sfits_of c.same-arg-in-loop-j-1.given))
-    at c.same-same.ensures in
-    (omega arith, l.invariant.1 ∙ goes a.part.now a.t.now a.at l.j _ (omega arith) (omega arith) e c.if-not-same.false)
+    at c.same.ensures in
+    l.invariant ∙ goes a.part.now a.t.now a.at l.j _ (omega arith) (omega arith) e c.if-not-same.false
 
 pub returns : goal.returns
-returns c =
-    let l = c.loop-j in
-    let a = c.args in
-    sym (l.invariant.1 ∙ ends a.part.now _ l.j (omega arith))
+returns c = sym (c.loop-j.invariant ∙ ends c.args.part.now _ c.loop-j.j (omega arith))

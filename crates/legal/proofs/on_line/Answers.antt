@@ -1,5 +1,4 @@
 use mathlib.Core.Path.{◌≡◌, sym, ◌∙◌}
-use mathlib.Core.Bool.{false}
 use Prim.Native.Nat.{◌+◌}
 use native.Mathlib.Omega.{arith}
 use borrow.Author.Rules.{sfits_of}
@@ -20,10 +19,7 @@ here : (c : After-same) → let a = c.args in
 here c = rw (c.same.ensures, to_z-of_z (sfits_of c.same-arg-1.given), c.base-at.ensures)
 
 pub loop-k-init : goal.loop-k-init
-loop-k-init c = (omega arith, any_none _)
-
-pub bounds-t-at : goal.bounds-t-at
-bounds-t-at c = rw c.base-at.ensures (omega arith)
+loop-k-init c = any_none _
 
 pub returns-then-same : goal.returns-then-same
 unfolding on_line
@@ -34,10 +30,10 @@ returns-then-same c =
     c.loop-k.k (omega arith) (rw z at (sym (here c.before) ∙ c.if-same.true)))
 
 pub loop-k-preserved : goal.loop-k-preserved
-loop-k-preserved c = (omega arith, rw (any_next, c.loop-k.invariant.1) (sym (here c.before) ∙ c.if-same.false))
+loop-k-preserved c = rw (any_next, c.loop-k.invariant) (sym (here c.before) ∙ c.if-same.false)
 
 pub returns : goal.returns
 unfolding on_line
 returns c =
     let e : c.loop-k.k ≡ c.args.row.lines = omega arith in
-    sym (rw (to_z-of_z c.ranges.z, e) at c.loop-k.invariant.1)
+    sym (rw (to_z-of_z c.ranges.z, e) at c.loop-k.invariant)

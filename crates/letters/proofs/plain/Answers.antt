@@ -2,7 +2,6 @@ use mathlib.Core.Path.{◌≡◌, sym, ◌∙◌}
 use mathlib.Core.Bool.{true, false}
 use mathlib.Core.List.{List}
 use Prim.Native.Nat.{ℕ, ◌+◌, ◌≤◌, ◌<◌}
-use native.Mathlib.Omega.{arith}
 use native.Mathlib.Numerals.{add-one}
 use borrow.Author.Tests.{le-leb, lt-leb}
 use lib.ListN.{length, get_or, drop}
@@ -23,11 +22,11 @@ none : (s : List ℕ) (i : ℕ) → length s ≤ i → all_plain (drop i s) ≡ 
 unfolding all_plain
 none s i h = rw (drop_of_length-le _ h)
 
-pub returns-then-s-i-lt32 : goal.returns-then-s-i-lt32
-returns-then-s-i-lt32 c = sym (bad _ _ c.loop-i-test.true c.if-s-i-lt32.true) ∙ c.loop-i.invariant.1
+pub returns-then-b-lt32 : goal.returns-then-b-lt32
+returns-then-b-lt32 c = sym (bad _ _ c.loop-b-test.true c.if-b-lt32.true) ∙ c.loop-b.invariant
 
-pub loop-i-preserved : goal.loop-i-preserved
-loop-i-preserved c = (omega arith, sym (good _ _ c.loop-i-test.true c.if-s-i-lt32.false) ∙ c.loop-i.invariant.1)
+pub loop-b-preserved : goal.loop-b-preserved
+loop-b-preserved c = sym (good _ _ c.loop-b-test.true c.if-b-lt32.false) ∙ c.loop-b.invariant
 
 pub returns : goal.returns
-returns c = sym (none _ _ c.loop-i-test.false) ∙ c.loop-i.invariant.1
+returns c = sym (none _ _ c.loop-b-test.false) ∙ c.loop-b.invariant

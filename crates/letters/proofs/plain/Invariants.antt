@@ -1,12 +1,8 @@
 -- `letters::plain` meets its contract. The invariant: what is left is plain just where the whole is.
 use mathlib.Core.Path.{◌≡◌}
-use Prim.Native.Nat.{◌-◌, ◌≤◌}
-use lib.ListN.{length, drop}
+use lib.ListN.{drop}
 use Rattle.fields.specs.rule.Field.{all_plain}
 use Rattle.letters.proofs.plain.Given as goal
 
-abbrev pub invariant-loop-i : goal.invariant-loop-i
-invariant-loop-i l = (l.i ≤ length l.s) × (all_plain (drop l.i l.s) ≡ all_plain l.s)
-
-abbrev pub decreases-loop-i : goal.decreases-loop-i
-decreases-loop-i l = length l.s - l.i
+abbrev pub invariant-loop-b : goal.invariant-loop-b
+invariant-loop-b l = all_plain (drop l.b-index l.s) ≡ all_plain l.s

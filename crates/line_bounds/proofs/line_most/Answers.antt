@@ -21,7 +21,7 @@ pub loop-i-init : goal.loop-i-init
 loop-i-init c =
     let t = c.args.t.now in
     let e : rows_of t - 0 ≡ rows_of t = omega arith in
-    (rw e (omega arith), omega arith, omega arith)
+    (rw e (omega arith), omega arith)
 
 pub read-row-requires : goal.read-row-requires
 read-row-requires c = row_stands c.requires c.loop-i-test.true
@@ -38,13 +38,11 @@ pub loop-i-preserved : goal.loop-i-preserved
 loop-i-preserved c =
     let t = c.args.t.now in
     let l = c.loop-i in
-    let s = row_stands c.requires c.loop-i-test.true in
     let n = most_next t (rows_of t) l.i (rw (tested_rows c.requires) at
     c.loop-i-test.true) in
     let m : c.most_by.result ≡ field_most (row_at t l.i) = rw c.read-row.ensures at c.most_by.ensures.0 in (
       omega (arith, l.invariant.0, n, m),
       omega (arith, l.invariant.1, c.most_by.ensures.1),
-      omega (arith, s.0, rows_few c.requires, c.loop-i-test.true),
     )
 
 pub returns : goal.returns
@@ -59,7 +57,7 @@ pub overflow_add-sum : goal.overflow_add-sum
 overflow_add-sum c = omega (
   arith,
   c.loop-i.invariant.1,
-  c.loop-i.invariant.2,
+  rows_few c.requires,
   c.most_by.ensures.1,
 )
 
@@ -67,12 +65,6 @@ pub overflow_add-sum-in-loop-i : goal.overflow_add-sum-in-loop-i
 overflow_add-sum-in-loop-i c = omega (
   arith,
   c.loop-i.invariant.1,
-  c.loop-i.invariant.2,
+  rows_few c.requires,
   c.most_by.ensures.1,
 )
-
-pub overflow_add-i : goal.overflow_add-i
-overflow_add-i c = omega (arith, c.loop-i.invariant.2)
-
-pub loop-i-smaller : goal.loop-i-smaller
-loop-i-smaller c = omega (arith, c.loop-i-test.true)

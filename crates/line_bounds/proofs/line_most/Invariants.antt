@@ -7,7 +7,3 @@ use Rattle.line_bounds.proofs.line_most.Given as goal
 
 abbrev pub invariant-loop-i : goal.invariant-loop-i
 invariant-loop-i l = (l.sum + most_from l.t l.i (rows_of l.t - l.i) ≡ most_from l.t 0 (rows_of l.t) + 2) × (l.sum ≤ 2 + l.i * 90001)
-    × (l.i ≤ 512)
-
-abbrev pub decreases-loop-i : goal.decreases-loop-i
-decreases-loop-i l = l.h.rows - l.i

@@ -11,9 +11,8 @@ pub append_byte-end-requires : goal.append_byte-end-requires
 append_byte-end-requires c = let l = c.loop-j.invariant in
     omega (
       arith,
+      l.0,
       l.1,
-      l.2,
-      l.3,
       c.requires.codes.0.limit,
       c.requires.codes.2,
       c.loop-j-test.true,
@@ -29,7 +28,7 @@ append_number-end-requires c =
       tens = s.tens;
       z_bound = (
         rw (to_z-of_z (sfits_of c.number.type_inv), c.number.ensures) (omega arith),
-        omega (arith, l.1, l.2, l.3, s.codes.0.limit, s.codes.2, b.ends, keeps_room b),
+        omega (arith, l.0, l.1, s.codes.0.limit, s.codes.2, b.ends, keeps_room b),
       );
     }
 
@@ -41,24 +40,22 @@ loop-j-preserved c =
     let m = c.append_number-end.ensures in
     let t = c.loop-j-test.true in
     let e = to_z-of_z {w = w64} (sfits_of c.number.type_inv) ∙ c.number.ensures in (
-      omega arith,
-      omega (arith, t),
-      keeps_room m ∙ keeps_room b ∙ l.2,
-      omega (arith, l.3, code_ends s.codes.0 t e m, b.ends),
-      code_step s.codes.0 t e l.4 b m,
+      keeps_room m ∙ keeps_room b ∙ l.0,
+      omega (arith, l.1, code_ends s.codes.0 t e m, b.ends),
+      code_step s.codes.0 t e l.2 b m,
     )
 
 pub returns : goal.returns
 returns c =
     let l = c.loop-j.invariant in
     let a = c.args in record {
-      appended = none_left (omega (arith, l.1, l.2, l.3, c.requires.codes.0.limit, c.requires.codes.2))
-          (left_as (codes_over a.list.now a.n _ c.loop-j-test.false) l.4);
-      upper_bound = omega (arith, l.1, l.3, c.requires.codes.0.limit);
+      appended = none_left (omega (arith, l.0, l.1, c.requires.codes.0.limit, c.requires.codes.2))
+          (left_as (codes_over a.list.now a.n _ c.loop-j-test.false) l.2);
+      upper_bound = omega (arith, l.1, c.requires.codes.0.limit);
     }
 
 pub loop-j-init : goal.loop-j-init
-loop-j-init c = (omega arith, c.requires.codes.1, refl, omega arith, all_left _ _ _)
+loop-j-init c = (refl, omega arith, all_left _ _ _)
 
 pub shape_of-out : goal.shape_of-out
-shape_of-out c = c.loop-j.invariant.2
+shape_of-out c = c.loop-j.invariant.0

@@ -3,7 +3,6 @@ use mathlib.Core.Path.{refl, sym, ◌∙◌}
 use native.Mathlib.Omega.{arith}
 use lib.Seq.{length-take-le}
 use Rattle.listing.specs.Places.{start_good, turn_room, on_inside, on_good, on_less, over_inside}
-use Rattle.lister.specs.Space.{spacious_from}
 use Rattle.lister.proofs.list_all.Goals as goal
 
 pub loop-place-init : goal.loop-place-init
@@ -35,7 +34,7 @@ loop-place-preserved g c =
       c.list_on.auto.list ∙ l.0,
       c.list_on.auto.scratch ∙ l.1,
       turn_room e ∙ l.2,
-      spacious_from _ c.make_space.ensures c.in-From.is,
+      c.in-Some.ensures,
       on_good e c.in-On.is,
     )
 
@@ -53,14 +52,14 @@ loop-place-smaller g c = on_less
     c.list_on.ensures
     c.in-On.is
 
-pub shape_of-list-in-Closed : goal.shape_of-list-in-Closed
-shape_of-list-in-Closed g c = c.list_on.auto.list ∙ c.loop-place.invariant.0
+pub shape_of-list-in-None : goal.shape_of-list-in-None
+shape_of-list-in-None g c = c.list_on.auto.list ∙ c.loop-place.invariant.0
 
-pub shape_of-scratch-in-Closed : goal.shape_of-scratch-in-Closed
-shape_of-scratch-in-Closed g c = c.list_on.auto.scratch ∙ c.loop-place.invariant.1
+pub shape_of-scratch-in-None : goal.shape_of-scratch-in-None
+shape_of-scratch-in-None g c = c.list_on.auto.scratch ∙ c.loop-place.invariant.1
 
-pub shape_of-out-in-Closed : goal.shape_of-out-in-Closed
-shape_of-out-in-Closed g c = turn_room c.list_on.ensures
+pub shape_of-out-in-None : goal.shape_of-out-in-None
+shape_of-out-in-None g c = turn_room c.list_on.ensures
     ∙ c.loop-place.invariant.2
 
 pub shape_of-list-in-Over : goal.shape_of-list-in-Over

@@ -7,9 +7,8 @@ use Rattle.listing.specs.rule.Listing.{rows_text}
 use Rattle.listing.proofs.list_rows.Given as goal
 
 abbrev pub invariant-loop-row : goal.invariant-loop-row
-invariant-loop-row l = (l.i ≤ l.row) × (l.row ≤ max l.i l.h.rows) × (length l.list ≡ length l.initial.list)
-    × (length l.out ≡ length l.initial.out) × (l.row ≡ l.i → l.end ≡ l.at)
+invariant-loop-row l = (l.row ≤ max l.i l.h.rows)
+    × (length l.list ≡ length l.initial.list)
+    × (length l.out ≡ length l.initial.out)
+    × (l.row ≡ l.i → l.end ≡ l.at)
     × Appended l.initial.out l.at (rows_text l.t l.n l.bytes l.i (l.row - l.i)) l.out l.end
-
-abbrev pub decreases-loop-row : goal.decreases-loop-row
-decreases-loop-row l = l.h.rows - l.row

@@ -1,7 +1,7 @@
-use mathlib.Core.Path.{◌≡◌, refl, ◌∙◌}
+use mathlib.Core.Path.{◌≡◌, refl}
 use mathlib.Core.List.{List}
 use Prim.Native.Nat.{ℕ, suc, ◌+◌, ◌*◌, ◌-◌, ◌^◌, ◌≤◌, ◌<◌}
-use native.Mathlib.Nat.{add-zero, sub-zero, pow-suc, le_trans, zero-lt-suc, pow-le-pow_right}
+use native.Mathlib.Nat.{pow-suc, le_trans, zero-lt-suc, pow-le-pow_right}
 use native.Mathlib.Omega.{arith}
 use lib.ListN.{length, get_or}
 use lib.Seq.{drop-cons}
@@ -27,32 +27,25 @@ room n w i h g l = let d : w - i ≤ 7 = omega arith in le_trans l (pow-le-pow_r
 
 pub loop-i-init : goal.loop-i-init
 unfolding number_at little_number
-loop-i-init c = let w = c.args.width in let d : w - w ≡ 0 = omega arith in rw d (omega arith, omega arith, refl)
-
-pub overflow_add-n : goal.overflow_add-n
-overflow_add-n c =
-    let l = c.loop-i in
-    let r = room l.n c.args.width l.i c.loop-i-test.true c.requires.width_bound l.invariant.1 in
-    let b = c.shared_slice_known-in-loop-i-1.given (c.args.at + (l.i - 1)) in
-    omega arith
-
-pub loop-i-preserved : goal.loop-i-preserved
-loop-i-preserved c =
-    let test = c.loop-i-test.true in
-    let l = c.loop-i in
-    let start = c in
-    let a = start.args in
-    let b = c.shared_slice_known-in-loop-i-1.given (a.at + (l.i - 1)) in
-    let t = taken a.s.now a.at a.width l.i test l.invariant.0 start.requires.width_in_bounds in
-    (omega arith, grown l.n c.wide.result a.width l.i test l.invariant.0 l.invariant.1 (omega arith), omega arith)
-
-pub returns : goal.returns
-returns c =
-    let d : c.loop-i.i ≡ 0 = omega arith in
-    c.loop-i.invariant.2 ∙ rw (d, sub-zero, add-zero)
+loop-i-init c = let w = c.args.width in let d : w - w ≡ 0 = omega arith in rw d (omega arith, refl)
 
 pub overflow_mul-n : goal.overflow_mul-n
 overflow_mul-n c =
     let l = c.loop-i in
-    let r = room l.n c.args.width l.i c.loop-i-test.true c.requires.width_bound l.invariant.1 in
+    let r = room l.n c.args.width l.i (omega arith) c.requires.width_bound l.invariant.0 in
     omega arith
+
+pub overflow_add-n : goal.overflow_add-n
+overflow_add-n c =
+    let l = c.loop-i in
+    let r = room l.n c.args.width l.i (omega arith) c.requires.width_bound l.invariant.0 in
+    let b = c.type_inv.s (c.args.at + (l.i - 1)) in
+    omega arith
+
+pub loop-i-preserved : goal.loop-i-preserved
+loop-i-preserved c =
+    let l = c.loop-i in
+    let a = c.args in
+    let b = c.type_inv.s (a.at + (l.i - 1)) in
+    let t = taken a.s.now a.at a.width l.i (omega arith) (omega arith) c.requires.width_in_bounds in
+    (grown l.n c.from.result a.width l.i (omega arith) (omega arith) l.invariant.0 (omega arith), omega arith)

@@ -2,8 +2,7 @@
 -- Assumes nothing.
 use mathlib.Core.Path.{◌≡◌}
 use mathlib.Core.List.{List}
-use Prim.Native.Nat.{ℕ, ◌+◌, ◌-◌, ◌≤◌}
-use lib.ListN.{length}
+use Prim.Native.Nat.{ℕ, ◌+◌, ◌-◌}
 use Rattle.little.specs.rule.Bytes.{little_bytes, put_at}
 use Rattle.little.proofs.put_number.Given as goal
 
@@ -12,8 +11,4 @@ abbrev pub rest : List ℕ → ℕ → ℕ → ℕ → ℕ → List ℕ
 rest out at w n i = put_at out (at + i) (little_bytes (w - i) n)
 
 abbrev pub invariant-loop-i : goal.invariant-loop-i
-invariant-loop-i l = (l.i ≤ l.width) × (length l.out ≡ length l.initial.out)
-    × (rest l.out l.at l.width l.left l.i ≡ put_at l.initial.out l.at (little_bytes l.width l.n))
-
-abbrev pub decreases-loop-i : goal.decreases-loop-i
-decreases-loop-i l = l.width - l.i
+invariant-loop-i l = rest l.out l.at l.width l.left l.i ≡ put_at l.initial.out l.at (little_bytes l.width l.n)

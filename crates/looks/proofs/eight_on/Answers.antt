@@ -6,19 +6,13 @@ use Rattle.looks.specs.Each.{each_none, each_more, on_tested}
 use Rattle.looks.proofs.eight_on.Goals as goal
 
 pub loop-k-init : goal.loop-k-init
-loop-k-init c =
+loop-k-init c e =
     let z : c.args.i + 0 ≡ c.args.i = omega arith in
-    (omega arith, λ e. rw z (each_none _ _))
+    rw z (each_none _ _)
 
 pub loop-k-preserved : goal.loop-k-preserved
-loop-k-preserved c =
+loop-k-preserved c e =
     let l = c.loop-k in
     let a = c.args in
-    let q : a.i + l.k + 1 ≡ a.i + (l.k + 1) = omega arith in (
-      omega arith,
-      λ e. rw q at (each_more (l.invariant.1 (and_left l.on _ e))
-          (on_tested a.d.now (a.i + l.k) (omega arith) (and_right l.on _ e))),
-    )
-
-pub returns : goal.returns
-returns c e = let q : c.loop-k.k ≡ 8 = omega arith in rw q at (c.loop-k.invariant.1 e)
+    let q : a.i + l.k + 1 ≡ a.i + (l.k + 1) = omega arith in
+    rw q at (each_more (l.invariant (and_left l.on _ e)) (on_tested a.d.now (a.i + l.k) (omega arith) (and_right l.on _ e)))

@@ -1,12 +1,9 @@
 -- `looks::eight_on` meets its contract. The invariant: if a text goes on at all bytes so far, it goes on at each of them.
 use mathlib.Core.Path.{◌≡◌}
 use mathlib.Core.Bool.{true}
-use Prim.Native.Nat.{◌+◌, ◌-◌, ◌≤◌}
+use Prim.Native.Nat.{◌+◌}
 use Rattle.looks.specs.Each.{Each, On}
 use Rattle.looks.proofs.eight_on.Given as goal
 
 abbrev pub invariant-loop-k : goal.invariant-loop-k
-invariant-loop-k l = (l.k ≤ 8) × (l.on ≡ true → Each (On l.d) l.i (l.i + l.k))
-
-abbrev pub decreases-loop-k : goal.decreases-loop-k
-decreases-loop-k l = 8 - l.k
+invariant-loop-k l = l.on ≡ true → Each (On l.d) l.i (l.i + l.k)

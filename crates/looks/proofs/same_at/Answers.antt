@@ -8,15 +8,10 @@ use Rattle.looks.specs.Stand.{literal_stands}
 use Rattle.looks.proofs.same_at.Goals as goal
 
 pub loop-i-preserved : goal.loop-i-preserved
-loop-i-preserved c =
-    let l = c.loop-i in (
-      omega arith,
-      λ e j h. ⊎_elim (λ (g : j < l.i). l.invariant.1 (and_left l.same _ e) j g)
-          (λ (g : l.i ≤ j). let q : j ≡ l.i = omega arith in rw q (eqb-true _ _ (and_right l.same _ e))) (lt_or_le j l.i),
-    )
+loop-i-preserved c e j h =
+    let l = c.loop-i in
+    ⊎_elim (λ (g : j < l.i). l.invariant (and_left l.same _ e) j g)
+    (λ (g : l.i ≤ j). let q : j ≡ l.i = omega arith in rw q (eqb-true _ _ (and_right l.same _ e))) (lt_or_le j l.i)
 
 pub returns : goal.returns
-returns c e = literal_stands _ _ _ c.requires (λ j h. c.loop-i.invariant.1 e j (omega (arith, c.loop-i-test.false)))
-
-pub loop-i-init : goal.loop-i-init
-loop-i-init c = (omega arith, λ e j h. absurd (omega arith))
+returns c e = literal_stands _ _ _ c.requires (λ j h. c.loop-i.invariant e j (omega (arith, c.loop-i-test.false)))

@@ -1,15 +1,9 @@
-use mathlib.Core.Path.{◌≡◌, sym, ap, ◌∙◌}
-use native.Mathlib.Omega.{arith}
-use Rattle.lows.specs.Lows.{low_among, among_none, among_more}
+use mathlib.Core.Path.{sym}
+use Rattle.lows.specs.Lows.{among_none, among_more}
 use Rattle.lows.proofs.low_among.Goals as goal
 
 pub loop-k-init : goal.loop-k-init
-loop-k-init c = (omega arith, sym (among_none _ _))
+loop-k-init g c = sym (among_none _ _)
 
 pub loop-k-preserved : goal.loop-k-preserved
-loop-k-preserved c = (omega arith, among_more _ _ _ _ c.loop-k.invariant.1)
-
-pub returns : goal.returns
-returns c =
-    let e : c.loop-k.k ≡ 16 = omega arith in
-    c.loop-k.invariant.1 ∙ ap (low_among _ _) e
+loop-k-preserved g c = among_more _ _ _ _ c.loop-k.invariant

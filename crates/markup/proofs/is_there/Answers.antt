@@ -9,7 +9,7 @@ pub returns-then-d-at : goal.returns-then-d-at
 returns-then-d-at c = let a = c.args in sym (stands_few a.d.now a.at a.w.now (omega arith) c.if-d-at.true)
 
 pub loop-i-init : goal.loop-i-init
-loop-i-init c = (rw (add-zero c.args.at), omega arith, omega arith)
+loop-i-init c = (rw (add-zero c.args.at), omega arith)
 
 pub returns-then-d-at-2 : goal.returns-then-d-at-2
 returns-then-d-at-2 c =
@@ -21,7 +21,7 @@ pub loop-i-preserved : goal.loop-i-preserved
 loop-i-preserved c =
     let l = c.loop-i in
     let a = c.args in
-    (l.invariant.0 ∙ stands_next a.d.now a.at a.w.now l.i (omega arith) (omega arith) c.if-d-at-2.false, omega arith, omega arith)
+    (l.invariant.0 ∙ stands_next a.d.now a.at a.w.now l.i (omega arith) (omega arith) c.if-d-at-2.false, omega arith)
 
 pub returns : goal.returns
 returns c =

@@ -1,9 +1,7 @@
 -- A reference, from its & on: 38 is &, 35 #, 120 x, 59 the semicolon.
-use Rattle.std.specs.Prelude.{Bool, true, false, cond, List, [], ◌∷◌, ℕ, ◌+◌, ◌*◌, ◌-◌, ltb, eqb, drop}
+use Rattle.std.specs.Prelude.{Bool, true, false, cond, List, [], ◌∷◌, ℕ, ◌+◌, ◌*◌, ◌-◌, ltb, eqb, drop, Option, Some, None}
 use Rattle.utf.specs.rule.Chars.{legal_character}
 use Rattle.markup.specs.rule.Bytes.{of_kind, run_of, bytes_while, rest_of, stands}
-use Rattle.markup.specs.declared.Char.{Char}
-use Rattle.markup.specs.declared.Char.TheVariants.{Is, Bad}
 use Rattle.markup.specs.declared.Figure.{Figure}
 
 -- what a digit says, and what digits say after v
@@ -32,9 +30,9 @@ reference_figure hex v p s = record {
 }
 
 -- the end of a reference that says c: n is the place where ; is due
-unfoldable pub closed_reference : ℕ → ℕ → List ℕ → Char
-closed_reference n c [] = Bad
-closed_reference n c (b ∷ s) = cond (eqb b 59) (cond (legal_character c) (Is c (n + 1)) Bad) Bad
+unfoldable pub closed_reference : ℕ → ℕ → List ℕ → Option (ℕ × ℕ)
+closed_reference n c [] = None
+closed_reference n c (b ∷ s) = cond (eqb b 59) (cond (legal_character c) (Some (c, n + 1)) None) None
 
 -- the five names, with their semicolons; 0 is no character
 unfoldable pub named_character : List ℕ → ℕ
@@ -45,13 +43,13 @@ named_character s =
     (cond (stands (97 ∷ 112 ∷ 111 ∷ 115 ∷ 59 ∷ []) s) 39
     (cond (stands (113 ∷ 117 ∷ 111 ∷ 116 ∷ 59 ∷ []) s) 34 0))))
 
-unfoldable pub numbered_of : Bool → ℕ → List ℕ → Char
+unfoldable pub numbered_of : Bool → ℕ → List ℕ → Option (ℕ × ℕ)
 numbered_of hex n s =
     let digit = of_kind (digit_kind hex) in
     closed_reference (run_of digit n s) (held_below (reference_number hex 0 (bytes_while digit s))) (rest_of digit s)
 
--- s is what follows the & at p; a reference that is not good, or that a bad character or the end of the file breaks, is Bad: 50 at its &
-unfoldable pub reference_of : ℕ → List ℕ → Char
+-- s is what follows the & at p; a reference that is not good, or that a bad character or the end of the file breaks, is None: 50 at its &
+unfoldable pub reference_of : ℕ → List ℕ → Option (ℕ × ℕ)
 reference_of p s =
     cond (stands (35 ∷ 120 ∷ []) s) (numbered_of true (p + 3) (drop 2 s))
     (cond (stands (35 ∷ []) s) (numbered_of false (p + 2) (drop 1 s))

@@ -20,4 +20,4 @@ pub overflow_add-columns : goal.overflow_add-columns
 overflow_add-columns c = omega (arith, div-le_self 16384 c.args.columns)
 
 pub returns : goal.returns
-returns c = (c.least.ensures.1, λ x. c.least.ensures.2 (omega arith) x)
+returns c = (omega (arith, c.min.ensures), λ x. omega (arith, c.min.ensures))

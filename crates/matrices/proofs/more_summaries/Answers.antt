@@ -20,7 +20,7 @@ use Rattle.matrices.proofs.more_summaries.Goals.{In-loop-k}
 -- what stands from here on is as it was
 same : (c : In-loop-k) → let l = c.loop-k in
     Same (24 + 24 * l.k) c.args.out.now l.out
-same c = same_of c.loop-k.invariant.1 c.loop-k.invariant.2
+same c = same_of c.loop-k.invariant.0 c.loop-k.invariant.1
 
 ready : (c : In-loop-k) → let l = c.loop-k in
     ReadyAt l.out c.args.records (24 + 24 * l.k)
@@ -34,16 +34,16 @@ there c =
     let a = c.args in
     let p = c.requires.columns_bound in
     there_same {a = 24 + 24 * l.k} (same c) a.columns a.records (a.flags + l.k) (a.values + 8 * l.k)
-    (omega (arith, p.1, l.invariant.0)) (omega (arith, p.1, p.2, l.invariant.0))
+    (omega (arith, p.1)) (omega (arith, p.1, p.2))
     (c.requires.each_there.0 l.k c.loop-k-test.true)
 
 small : (c : In-loop-k) → let a = c.args in
     (c.loop-k.k < a.columns) × (24 + 24 * a.columns ≤ a.flags) × (a.flags ≤ a.values) × (a.values ≤ 268435456)
     × (24 + 24 * a.columns ≤ length c.loop-k.out)
-small c = let p = c.requires.columns_bound in (c.loop-k-test.true, p.1, p.2, p.3, omega (arith, p.4, c.loop-k.invariant.1))
+small c = let p = c.requires.columns_bound in (c.loop-k-test.true, p.1, p.2, p.3, omega (arith, p.4, c.loop-k.invariant.0))
 
 pub loop-k-init : goal.loop-k-init
-loop-k-init c = (omega arith, refl, refl, simp (add-zero, sub-zero))
+loop-k-init c = (refl, refl, simp (add-zero, sub-zero))
 
 pub get_summary-begun-requires : goal.get_summary-begun-requires
 get_summary-begun-requires c = record {
@@ -89,13 +89,12 @@ loop-k-preserved c =
     (a.flags + l.k)
     (a.values + 8 * l.k) (omega (arith, small (goal.at.loop-k-preserved c).In-loop-k))
     (omega (arith, small (goal.at.loop-k-preserved c).In-loop-k)))) in (
-      omega (arith, c.loop-k-test.true),
-      c.put_summary.auto.out ∙ l.invariant.1,
+      c.put_summary.auto.out ∙ l.invariant.0,
       ap (drop (24 + 24 * (l.k + 1))) put
           ∙ same_put l.out (24 + 24 * (l.k + 1)) at _ (omega (arith, length_summary x))
-          ∙ ap (λ (i : ℕ). drop i l.out) next ∙ drop_on at l.out o l.invariant.2 ∙ ap (λ (i : ℕ). drop i o) (sym next),
+          ∙ ap (λ (i : ℕ). drop i l.out) next ∙ drop_on at l.out o l.invariant.1 ∙ ap (λ (i : ℕ). drop i o) (sym next),
       extended_step o a.columns a.flags a.values a.records l.k a.columns c.loop-k-test.true l.out x put is
-          l.invariant.3,
+          l.invariant.2,
     )
 
 pub returns : goal.returns
@@ -105,7 +104,7 @@ returns c =
     sym (put_nothing l.out (24 + 24 * l.k))
     ∙ ap (put_at l.out (24 + 24 * l.k)) (sym (extended_over a.out.now a.columns a.flags a.values a.records l.k
     a.columns c.loop-k-test.false))
-    ∙ l.invariant.3
+    ∙ l.invariant.2
 
 pub overflow_mul-at : goal.overflow_mul-at
 overflow_mul-at c = omega (arith, small c)
@@ -122,11 +121,5 @@ overflow_mul-k c = omega (arith, small (goal.at.overflow_mul-k c).In-loop-k)
 pub overflow_add-values : goal.overflow_add-values
 overflow_add-values c = omega (arith, small (goal.at.overflow_add-values c).In-loop-k)
 
-pub overflow_add-k : goal.overflow_add-k
-overflow_add-k c = omega (arith, small (goal.at.overflow_add-k c).In-loop-k)
-
-pub loop-k-smaller : goal.loop-k-smaller
-loop-k-smaller c = omega (arith, c.loop-k-test.true)
-
 pub shape_of-out : goal.shape_of-out
-shape_of-out c = c.loop-k.invariant.1
+shape_of-out c = c.loop-k.invariant.0

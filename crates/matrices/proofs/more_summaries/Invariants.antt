@@ -3,17 +3,14 @@
 -- what stands behind is as it was.
 -- Assumes nothing.
 use mathlib.Core.Path.{◌≡◌}
-use Prim.Native.Nat.{◌+◌, ◌-◌, ◌*◌, ◌≤◌}
+use Prim.Native.Nat.{◌+◌, ◌-◌, ◌*◌}
 use lib.ListN.{length, drop}
 use Rattle.little.specs.rule.Bytes.{put_at}
 use Rattle.matrices.specs.More.{extended_in}
 use Rattle.matrices.proofs.more_summaries.Given as goal
 
 abbrev pub invariant-loop-k : goal.invariant-loop-k
-invariant-loop-k l = (l.k ≤ l.columns) × (length l.out ≡ length l.initial.out)
+invariant-loop-k l = (length l.out ≡ length l.initial.out)
     × (drop (24 + 24 * l.k) l.out ≡ drop (24 + 24 * l.k) l.initial.out)
     × (put_at l.out (24 + 24 * l.k) (extended_in l.initial.out l.columns l.flags l.values l.records l.k (l.columns - l.k))
     ≡ put_at l.initial.out 24 (extended_in l.initial.out l.columns l.flags l.values l.records 0 l.columns))
-
-abbrev pub decreases-loop-k : goal.decreases-loop-k
-decreases-loop-k l = l.columns - l.k

@@ -1,7 +1,7 @@
 -- `matrices::put_each` meets its contract. The invariant: the entries of the records that are left, put from here, give the whole.
 -- Assumes nothing.
 use mathlib.Core.Path.{◌≡◌}
-use Prim.Native.Nat.{◌+◌, ◌-◌, ◌*◌, ◌≤◌}
+use Prim.Native.Nat.{◌+◌, ◌*◌, ◌≤◌}
 use lib.ListN.{length, drop}
 use Rattle.columns.specs.Rows.{entries_by}
 use mathlib.Core.Bool.{true}
@@ -11,17 +11,13 @@ use Rattle.matrices.specs.Blocks.{put_each}
 use Rattle.matrices.proofs.put_each.Given as goal
 
 abbrev pub invariant-loop-n : goal.invariant-loop-n
-invariant-loop-n l = (l.n ≤ l.records) × (l.k ≡ l.n * l.columns) × (l.from ≡ l.initial.from + l.n * l.step)
-    × (length l.list ≡ length l.initial.list) × (length l.present ≡ length l.initial.present)
+invariant-loop-n l = (length l.list ≡ length l.initial.list) × (length l.present ≡ length l.initial.present)
     × (length l.out ≡ length l.initial.out)
-    × (put_each (λ r. entries_by l.row.kind l.t l.rows l.row r) l.columns l.out (l.flags + l.k) (l.values + 8 * l.k)
-    (drop l.n (records_in l.d l.first l.step l.initial.from l.records))
+    × (put_each (λ r. entries_by l.row.kind l.t l.rows l.row r) l.columns l.out (l.flags + l.n * l.columns)
+    (l.values + 8 * (l.n * l.columns)) (drop l.n (records_in l.d l.first l.step l.start l.records))
     ≡ put_each (λ r. entries_by l.row.kind l.t l.rows l.row r) l.columns l.initial.out l.flags l.values
-    (records_in l.d l.first l.step l.initial.from l.records))
+    (records_in l.d l.first l.step l.start l.records))
     × (l.held ≤ l.n)
     × (l.near ≡ true → Going (λ r. entries_by l.row.kind l.t l.rows l.row r) l.m.gap l.m.count l.held l.present
-    (drop l.n (records_in l.d l.first l.step l.initial.from l.records))
-    (records_in l.d l.first l.step l.initial.from l.records))
-
-abbrev pub decreases-loop-n : goal.decreases-loop-n
-decreases-loop-n l = l.records - l.n
+    (drop l.n (records_in l.d l.first l.step l.start l.records))
+    (records_in l.d l.first l.step l.start l.records))

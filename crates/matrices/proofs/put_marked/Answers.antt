@@ -6,6 +6,7 @@ use mathlib.Core.List.{List, []}
 use Prim.Native.Nat.{ℕ, ◌≤◌}
 use native.Mathlib.Omega.{arith}
 use lib.ListN.{length}
+use Rattle.std.proofs.lemmas.Option.{IfSome_then}
 use Rattle.little.specs.rule.Bytes.{put_at}
 use Rattle.columns.specs.Room.{room_as}
 use Rattle.columns.specs.Rows.{entries_by, count_by}
@@ -17,8 +18,8 @@ use Rattle.matrices.specs.Met.{cleared, by_length}
 use Rattle.matrices.specs.Stand.{row_there, row_met}
 use Rattle.matrices.proofs.put_marked.Goals as goal
 
-pub put_each-y-requires : goal.put_each-y-requires
-put_each-y-requires c =
+pub put_each-held-requires : goal.put_each-held-requires
+put_each-held-requires c =
     let clear = c.clear in
     let marked = c.mark_row-m in
     let p = c.requires in
@@ -31,7 +32,7 @@ put_each-y-requires c =
 
 pub put_summaries-requires : goal.put_summaries-requires
 put_summaries-requires c =
-    let put = c.put_each-y in
+    let put = c.put_each-held in
     let marked = c.mark_row-m in
     let a = c.args in
     let p = c.requires in
@@ -53,13 +54,14 @@ put_summaries-requires c =
       );
       columns_there = row_there g m.count a.columns long few rs a.out.now a.flags a.values all n.3
           (λ k l. room_as (sym many) (n.7 k l)) put.ensures.0 p.each_good;
-      met_column = λ e. row_met g m.count a.columns long few rs a.out.now a.flags a.values all n.3
-          (λ k l. room_as (sym many) (n.7 k l)) put.ensures.0 m.gap put.result.count _ (put.ensures.1 e);
+      met_column = IfSome_then put.result put.ensures.1
+          (λ held met. row_met g m.count a.columns long few rs a.out.now a.flags a.values all n.3
+          (λ k l. room_as (sym many) (n.7 k l)) put.ensures.0 m.gap held _ met);
     }
 
 pub returns-then-told : goal.returns-then-told
 returns-then-told c =
-    let put = c.put_each-y in
+    let put = c.put_each-held in
     let many = c.mark_row-m.ensures.many in
     let a = c.args in
     let rs = (records_in a.d.now a.s.first a.s.step a.p.from a.p.count) in
@@ -76,7 +78,7 @@ returns-then-told c =
 
 pub returns-else-told : goal.returns-else-told
 returns-else-told c =
-    let put = c.put_each-y in
+    let put = c.put_each-held in
     let a = c.args in
     let rs = (records_in a.d.now a.s.first a.s.step a.p.from a.p.count) in
     let whole = put_each (λ x. entries_by a.row.kind a.t.now a.rows a.row x) a.columns a.out.now a.flags

@@ -19,11 +19,11 @@ small : (c : In-loop-k) → let a = c.args in
     (c.loop-k.k ≤ 16777216) × (a.at + 24 * a.m.count ≤ a.flags) × (c.loop-k.k < a.m.count) × (a.flags ≤ a.values)
     × (a.values ≤ 268435456) × (a.at + 24 * a.m.count ≤ length c.loop-k.out)
 small c = let p = c.requires.columns_bound in let taken = c.loop-k-test.true in
-    (omega (arith, taken, p.0, p.1), p.2, taken, p.3, p.5, omega (arith, p.4, c.loop-k.invariant.1))
+    (omega (arith, taken, p.0, p.1), p.2, taken, p.3, p.5, omega (arith, p.4, c.loop-k.invariant.0))
 
 same : (c : In-loop-k) → Same c.args.flags
     c.args.out.now c.loop-k.out
-same c = same_of c.loop-k.invariant.1 c.loop-k.invariant.2
+same c = same_of c.loop-k.invariant.0 c.loop-k.invariant.1
 
 there : (c : In-loop-k) → let a = c.args in let l = c.loop-k in
     ColumnThere l.out a.columns (a.flags + l.k) (a.values + 8 * l.k) a.records
@@ -33,10 +33,10 @@ there c =
     there_same {a = a.flags} (same c) a.columns a.records (a.flags + l.k) (a.values + 8 * l.k) (omega arith)
     (omega (arith, small c))
     (first_there a.out.now a.columns a.records (a.m.count - l.k) (a.flags + l.k) (a.values + 8 * l.k)
-    (omega (arith, small c)) l.invariant.3)
+    (omega (arith, small c)) l.invariant.2)
 
 pub loop-k-init : goal.loop-k-init
-loop-k-init c = (omega arith, refl, refl, simp (add-zero, sub-zero) c.requires.columns_there, simp (add-zero, sub-zero))
+loop-k-init c = (refl, refl, simp (add-zero, sub-zero) c.requires.columns_there, simp (add-zero, sub-zero))
 
 pub met_summary-s-requires : goal.met_summary-s-requires
 met_summary-s-requires c =
@@ -69,16 +69,15 @@ loop-k-preserved c =
     ∙ ap (λ (s : Summary). put_at l.out (a.at + 24 * l.k) (summary_bytes s)) c.met_summary-s.ensures
     ∙ ap (put_at l.out (a.at + 24 * l.k)) (sym
     (one_in l.out a.columns a.records (a.flags + l.k) (a.values + 8 * l.k))) in (
-      low,
-      c.put_summary.auto.out ∙ l.invariant.1,
+      c.put_summary.auto.out ∙ l.invariant.0,
       ap (drop a.flags) new ∙ same_put l.out a.flags (a.at + 24 * l.k) _
           (omega (arith, low, p.2, length_in l.out a.columns a.records 1 (a.flags + l.k) (a.values + 8 * l.k)))
-          ∙ l.invariant.2,
-      rest_there o a.columns a.records a.flags a.values a.m.count l.k 1 low l.invariant.3,
+          ∙ l.invariant.1,
+      rest_there o a.columns a.records a.flags a.values a.m.count l.k 1 low l.invariant.2,
       rest_put o a.columns a.records a.flags a.values a.m.count l.k 1 low a.at l.out _
           (new ∙ ap (put_at l.out (a.at + 24 * l.k))
           (sym (summaries_same {a = a.flags} (same (goal.at.loop-k-preserved c).In-loop-k) a.columns
-          a.records 1 (a.flags + l.k) (a.values + 8 * l.k) (omega arith) (omega (arith, p.3))))) l.invariant.4,
+          a.records 1 (a.flags + l.k) (a.values + 8 * l.k) (omega arith) (omega (arith, p.3))))) l.invariant.3,
     )
 
 pub returns : goal.returns
@@ -88,10 +87,7 @@ returns c =
     sym (put_nothing l.out (a.at + 24 * l.k))
     ∙ ap (put_at l.out (a.at + 24 * l.k)) (sym (summaries_none a.out.now a.columns (a.flags + l.k) (a.values + 8 * l.k)
     a.records a.m.count l.k c.loop-k-test.false))
-    ∙ l.invariant.4
-
-pub overflow_add-k : goal.overflow_add-k
-overflow_add-k c = omega (arith, small c)
+    ∙ l.invariant.3
 
 pub overflow_add-flags : goal.overflow_add-flags
 overflow_add-flags c = omega (arith, small (goal.at.overflow_add-flags c).In-loop-k)
@@ -108,11 +104,5 @@ overflow_mul-k-in-loop-k c = omega (arith, small (goal.at.overflow_mul-k-in-loop
 pub overflow_add-at : goal.overflow_add-at
 overflow_add-at c = omega (arith, small (goal.at.overflow_add-at c).In-loop-k)
 
-pub overflow_add-k-in-loop-k : goal.overflow_add-k-in-loop-k
-overflow_add-k-in-loop-k c = omega (arith, small (goal.at.overflow_add-k-in-loop-k c).In-loop-k)
-
-pub loop-k-smaller : goal.loop-k-smaller
-loop-k-smaller c = omega (arith, c.loop-k-test.true)
-
 pub shape_of-out : goal.shape_of-out
-shape_of-out c = c.loop-k.invariant.1
+shape_of-out c = c.loop-k.invariant.0

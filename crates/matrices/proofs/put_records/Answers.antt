@@ -14,7 +14,7 @@ use Rattle.matrices.specs.Parts.{even_records, even_steps, even_sound}
 use Rattle.matrices.specs.Stand.{slots_of}
 use Rattle.matrices.specs.More.{summed_put, block_step, put_again, blocks_over}
 use Rattle.matrices.proofs.put_records.Goals as goal
-use Rattle.matrices.proofs.put_records.Goals.{After-least-count, After-step_of-s, Start}
+use Rattle.matrices.proofs.put_records.Goals.{After-min-count, After-step_of-s, Start}
 
 -- what is known before the first block
 steps : (c : After-step_of-s) → let a = c.args in let s = c.step_of-s.result in
@@ -45,9 +45,9 @@ small c n l =
     )
 
 -- the next block is one of the records that are left
-next : (c : After-least-count) → c.loop-n.n + c.least-count.result
+next : (c : After-min-count) → c.loop-n.n + c.min-count.result
     ≤ c.args.records
-next c = omega (arith, c.least-count.ensures.1, c.loop-n-test.true)
+next c = omega (arith, c.min-count.ensures, c.loop-n-test.true)
 
 pub put_rows-requires : goal.put_rows-requires
 put_rows-requires c =
@@ -97,8 +97,8 @@ put_block-requires c =
     let s = c.step_of-s.result in
     let l = c.loop-n in
     let put = c.put_rows in
-    let count = c.least-count.result in
-    let m = small (goal.at.put_block-requires c).Start (l.n + count) (next (goal.at.put_block-requires c).After-least-count) in
+    let count = c.min-count.result in
+    let m = small (goal.at.put_block-requires c).Start (l.n + count) (next (goal.at.put_block-requires c).After-min-count) in
     let m0 = small (goal.at.put_block-requires c).Start l.n l.invariant.0 in
     let rs = records_in a.d.now s.first s.step 0 l.n in
     let ol : length l.out ≡ length a.out.now = l.invariant.4 ∙ put.auto.out in record {
@@ -112,9 +112,9 @@ put_block-requires c =
       columns_value = p.columns_value;
       steps = (
         steps_first a.d.now s.first s.step (steps (goal.at.put_block-requires c).After-step_of-s) (l.n + count)
-            (next (goal.at.put_block-requires c).After-least-count),
+            (next (goal.at.put_block-requires c).After-min-count),
         sound_first a.d.now s.first s.step a.t.now a.h (sound (goal.at.put_block-requires c).After-step_of-s) (l.n + count)
-            (next (goal.at.put_block-requires c).After-least-count),
+            (next (goal.at.put_block-requires c).After-min-count),
         summed_put p.ready.tested l.out rs
             (sound_first a.d.now s.first s.step a.t.now a.h (sound (goal.at.put_block-requires c).After-step_of-s) l.n l.invariant.0)
             (omega (arith, m0, ol, p.columns_value))
@@ -136,12 +136,12 @@ loop-n-preserved c =
     let l = c.loop-n in
     let put = c.put_block in
     let n = l.n in
-    let count = c.least-count.result in
+    let count = c.min-count.result in
     let v = a.h.rows in
     let t = a.t.now in
     let d = a.d.now in
     let cs = columns_from t v 0 v in
-    let low = next (goal.at.loop-n-preserved c).After-least-count in
+    let low = next (goal.at.loop-n-preserved c).After-min-count in
     let m0 = small (goal.at.loop-n-preserved c).Start a.records (omega arith) in
     let m1 = small (goal.at.loop-n-preserved c).Start n l.invariant.0 in
     let both = records_on d s.first s.step a.records n count low in
@@ -214,7 +214,7 @@ overflow_sub-records c = omega (arith, c.loop-n-test.true)
 pub overflow_add-n : goal.overflow_add-n
 overflow_add-n c = omega (
   arith,
-  next (goal.at.overflow_add-n c).After-least-count,
+  next (goal.at.overflow_add-n c).After-min-count,
   small (goal.at.overflow_add-n c).Start
       c.args.records (omega arith),
 )
@@ -223,16 +223,8 @@ pub loop-n-smaller : goal.loop-n-smaller
 loop-n-smaller c = omega (
   arith,
   c.loop-n-test.true,
-  next (goal.at.loop-n-smaller c).After-least-count,
-  c.least-count.ensures.2
-      (c.block_of-size.ensures.1
-      (omega (
-        arith,
-        c.loop-n-test.true,
-      ))) (omega (
-        arith,
-        c.loop-n-test.true,
-      )),
+  c.min-count.ensures,
+  c.block_of-size.ensures.1 (omega (arith, c.loop-n-test.true)),
 )
 
 pub shape_of-list : goal.shape_of-list

@@ -23,7 +23,7 @@ left : (c : After-put_columns-arg-in-loop-i-3-1)
 left c =
     let a = c.args in
     let l = c.loop-i in
-    omega (arith, l.invariant.5, left_count a.t.now a.h.rows [] l.i c.loop-i-test.true)
+    omega (arith, l.invariant.4, left_count a.t.now a.h.rows [] l.i c.loop-i-test.true)
 
 small : (c : After-put_columns-arg-in-loop-i-3-1)
     → let a = c.args in
@@ -37,7 +37,6 @@ small c = let p = c.requires.columns_bound in (
 
 pub loop-i-init : goal.loop-i-init
 loop-i-init c = (
-  omega arith,
   refl,
   refl,
   refl,
@@ -54,9 +53,9 @@ put_columns-k-requires c =
       ready = record {
         tens = p.ready.tens;
         tested = p.ready.tested;
-        room = l.invariant.1 ∙ p.ready.room;
-        marks = l.invariant.2 ∙ p.ready.marks;
-        marks_too = l.invariant.3 ∙ p.ready.marks_too;
+        room = l.invariant.0 ∙ p.ready.room;
+        marks = l.invariant.1 ∙ p.ready.marks;
+        marks_too = l.invariant.2 ∙ p.ready.marks_too;
       };
       i_lt_rows = (
         c.loop-i-test.true,
@@ -68,10 +67,10 @@ put_columns-k-requires c =
         p.columns_bound.1,
         omega (arith, small c),
         omega (arith, p.columns_bound.4.behind),
-        omega (arith, p.columns_bound.3, p.columns_bound.4.behind, p.columns_bound.4.inside, l.invariant.4, left c),
+        omega (arith, p.columns_bound.3, p.columns_bound.4.behind, p.columns_bound.4.inside, l.invariant.3, left c),
         omega (arith, left c),
         omega (arith, left c, p.columns_bound.3),
-        each_room (room_on l.invariant.4 p.columns_bound.4) refl l.k _ (omega (arith, left c)),
+        each_room (room_on l.invariant.3 p.columns_bound.4) refl l.k _ (omega (arith, left c)),
       );
     }
 
@@ -82,22 +81,21 @@ loop-i-preserved c =
     let a = c.args in
     let p = c.requires in
     let r = p.columns_bound.4 in (
-      omega (arith, c.loop-i-test.true),
-      put.auto.list ∙ l.invariant.1,
-      put.auto.allowed ∙ l.invariant.2,
-      put.auto.present ∙ l.invariant.3,
-      put.auto.out ∙ l.invariant.4,
+      put.auto.list ∙ l.invariant.0,
+      put.auto.allowed ∙ l.invariant.1,
+      put.auto.present ∙ l.invariant.2,
+      put.auto.out ∙ l.invariant.3,
       omega (arith, left (goal.at.loop-i-preserved c).After-put_columns-arg-in-loop-i-3-1, put.ensures.0),
       told_step a.t.now a.h.rows a.columns (records_in a.d.now a.s.first a.s.step a.p.from a.p.count)
           a.told l.i l.k a.flags a.values l.out
-          c.loop-i-test.true l.invariant.5
+          c.loop-i-test.true l.invariant.4
           (omega (
             arith,
             r.behind,
             ap (λ (x : ℕ). x * a.columns)
                 (length_records a.d.now a.s.first a.s.step a.p.from a.p.count),
           )) p.columns_bound.3 put.ensures.1
-          l.invariant.6 put.ensures.0,
+          l.invariant.5 put.ensures.0,
     )
 
 pub returns : goal.returns
@@ -110,7 +108,7 @@ returns c =
     let r = p.columns_bound.4 in
     told_done a.t.now v a.columns rs a.told l.i (24 + 24 * l.k) (a.flags + l.k) (a.values + 8 * l.k)
     (omega (arith, c.loop-i-test.false))
-    l.invariant.6
+    l.invariant.5
     ∙ ap (λ (x : List ℕ). put_at x 24 (slots_of a.told a.t.now v rs (columns_from a.t.now v 0 v)))
     (columns_whole a.t.now v a.columns (columns_from a.t.now v 0 v) rs a.out.now a.flags a.values (sym p.columns_value)
     (omega (
@@ -144,13 +142,13 @@ overflow_add-k-in-loop-i c = omega (
 )
 
 pub shape_of-list : goal.shape_of-list
-shape_of-list c = c.loop-i.invariant.1
+shape_of-list c = c.loop-i.invariant.0
 
 pub shape_of-allowed : goal.shape_of-allowed
-shape_of-allowed c = c.loop-i.invariant.2
+shape_of-allowed c = c.loop-i.invariant.1
 
 pub shape_of-present : goal.shape_of-present
-shape_of-present c = c.loop-i.invariant.3
+shape_of-present c = c.loop-i.invariant.2
 
 pub shape_of-out : goal.shape_of-out
-shape_of-out c = c.loop-i.invariant.4
+shape_of-out c = c.loop-i.invariant.3

@@ -22,7 +22,7 @@ pub put_met-requires : goal.put_met-requires
 put_met-requires c = let p = c.requires in record {
   columns_bound = p.columns_bound;
   columns_there = p.columns_there;
-  by_index = p.met_column c.if-y.true;
+  by_index = rw c.in-Some.is at p.met_column;
 }
 
 pub loop-k-init : goal.loop-k-init
@@ -70,8 +70,8 @@ returns c =
     a.records a.m.count l.k c.loop-k-test.false))
     ∙ l.invariant.4
 
-pub returns-then-y : goal.returns-then-y
-returns-then-y c = c.put_met.ensures
+pub returns-in-Some : goal.returns-in-Some
+returns-in-Some c = c.put_met.ensures
 
 pub overflow_sub-count : goal.overflow_sub-count
 overflow_sub-count c = omega (arith, small c)

@@ -9,10 +9,10 @@ pub loop-j-preserved : goal.loop-j-preserved
 loop-j-preserved c =
     let l = c.loop-j in
     let a = c.args in
-    (omega arith, laid_more a.d.now a.from a.at l.j l.invariant.1 64 c.lay_many.ensures)
+    (omega arith, laid_more a.d.now a.from a.at l.j l.invariant.1 64 c.lay_some.ensures)
 
-pub lay_many-requires : goal.lay_many-requires
-lay_many-requires c = (omega arith, omega (arith, stored_length c.loop-j.invariant.1))
+pub lay_some-requires : goal.lay_some-requires
+lay_some-requires c = (omega arith, omega (arith, stored_length c.loop-j.invariant.1))
 
 pub shape_of-out : goal.shape_of-out
 shape_of-out c = stored_length c.loop-j.invariant.1

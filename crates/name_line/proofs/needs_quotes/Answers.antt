@@ -1,5 +1,4 @@
 use mathlib.Core.Path.{refl, sym, ◌∙◌}
-use mathlib.Core.Bool.{true}
 use Rattle.marks.specs.Spelling.{idle}
 use Rattle.marks.proofs.Parts.{part_said, part_over}
 use Rattle.name_line.specs.rule.Names.{plain_text}

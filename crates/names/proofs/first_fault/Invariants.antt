@@ -2,7 +2,7 @@
 -- i has the name of row j.
 use mathlib.Core.Path.{◌≡◌}
 use mathlib.Core.Bool.{false}
-use Prim.Native.Nat.{◌-◌, ◌≤◌}
+use Prim.Native.Nat.{◌-◌}
 use lib.Dec.{eqb}
 use lib.ListN.{get_or, length}
 use Rattle.below.specs.rule.Below.{any_below}
@@ -11,14 +11,7 @@ use Rattle.names.proofs.Clashes.{Marked}
 use Rattle.names.proofs.first_fault.Given as goal
 
 abbrev pub invariant-loop-i : goal.invariant-loop-i
-invariant-loop-i l = (l.i ≤ l.j) × (l.found ≡ l.initial.found) × (any_below l.i (λ k. eqb (get_or l.keys k 0) l.key) ≡ false)
+invariant-loop-i l = any_below l.i (λ k. eqb (get_or l.keys k 0) l.key) ≡ false
 
-abbrev pub decreases-loop-i : goal.decreases-loop-i
-decreases-loop-i l = l.j - l.i
-
-abbrev pub invariant-rows : goal.invariant-rows
-invariant-rows l = (fault_of l.keys l.count ≡ fault_from l.keys (l.count - l.j) l.j) × (l.j ≤ l.count) × (l.found ≡ l.count)
-    × (length l.marks ≡ 2048) × Marked l.keys l.j l.marks
-
-abbrev pub decreases-rows : goal.decreases-rows
-decreases-rows l = l.count - l.j
+abbrev pub invariant-loop-j : goal.invariant-loop-j
+invariant-loop-j l = (fault_of l.keys l.count ≡ fault_from l.keys (l.count - l.j) l.j) × (length l.marks ≡ 2048) × Marked l.keys l.j l.marks

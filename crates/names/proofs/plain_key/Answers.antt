@@ -19,7 +19,7 @@ pub overflow_add-key : goal.overflow_add-key
 overflow_add-key c =
     let l = c.loop-n in
     let h : l.count < 8 = omega (arith, l.invariant.1) in
-    omega (arith, (key_room l.count l.key _ h l.invariant.2 c.wide.ensures.1).1)
+    omega (arith, (key_room l.count l.key c.from.result h l.invariant.2 (omega arith)).1)
 
 pub loop-n-preserved : goal.loop-n-preserved
 loop-n-preserved c =
@@ -28,9 +28,9 @@ loop-n-preserved c =
     let f = sym c.may_stand.ensures ∙ c.if-not-may_stand.false in (
       l.invariant.0
           ∙ key_next _ _ (plain_sign _ _ (omega arith) l.count f c.if-b-eq34.false) f h
-          ∙ rw (sym c.upper.ensures, sym c.wide.ensures.0),
+          ∙ rw (sym c.upper.ensures, sym c.from.ensures),
       omega arith,
-      (key_room l.count l.key _ h l.invariant.2 c.wide.ensures.1).0,
+      (key_room l.count l.key c.from.result h l.invariant.2 (omega arith)).0,
     )
 
 pub returns-then-count-eq8 : goal.returns-then-count-eq8

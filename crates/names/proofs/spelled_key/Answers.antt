@@ -47,7 +47,7 @@ pub overflow_add-key : goal.overflow_add-key
 overflow_add-key c =
     let l = c.loop-count in
     let h : l.count < 8 = omega arith in
-    omega (arith, (key_room l.count l.key _ h l.invariant.2 c.wide.ensures.1).1)
+    omega (arith, (key_room l.count l.key c.from.result h l.invariant.2 (omega arith)).1)
 
 pub loop-count-preserved : goal.loop-count-preserved
 loop-count-preserved c =
@@ -56,9 +56,9 @@ loop-count-preserved c =
     let s = part_said _ _ _ _ _ _ c.next_part.ensures c.in-Said.is in (
       l.invariant.0 ∙ key_next _ _ (told s.split c.in-Byte.is)
           (sym c.may_stand.ensures ∙ c.if-not-may_stand.false) h
-          ∙ rw (sym c.upper.ensures, sym c.wide.ensures.0),
+          ∙ rw (sym c.upper.ensures, sym c.from.ensures),
       omega arith,
-      (key_room l.count l.key _ h l.invariant.2 c.wide.ensures.1).0,
+      (key_room l.count l.key c.from.result h l.invariant.2 (omega arith)).0,
       s.rests,
     )
 

@@ -1,7 +1,7 @@
 -- `names::spelled_key` meets its contract. The invariant: what the decoder still says makes the whole name's number.
 use mathlib.Core.Path.{◌≡◌}
 use mathlib.Core.Bool.{true}
-use Prim.Native.Nat.{◌-◌, ◌^◌, ◌≤◌, ◌<◌}
+use Prim.Native.Nat.{◌^◌, ◌≤◌, ◌<◌}
 use Rattle.scan.specs.rule.Text.{text}
 use Rattle.marks.specs.declared.Inside.TheVariants.{Plain}
 use Rattle.marks.specs.rule.Spelling.{decode_of}
@@ -14,6 +14,3 @@ invariant-loop-count l = (key_of 0 0 (decode_of Plain 0 (text l.d l.at)) ≡ key
     × (l.count ≤ 8)
     × (l.key < 256 ^ l.count)
     × (idle l.s ≡ true)
-
-abbrev pub decreases-loop-count : goal.decreases-loop-count
-decreases-loop-count l = 9 - l.count

@@ -1,4 +1,6 @@
+use mathlib.Core.Path.{◌≡◌}
 use native.Mathlib.Omega.{arith}
+use lib.ListN.{length}
 use Rattle.number_fields.specs.Reads.{digits_none, digits_more}
 use Rattle.number_fields.proofs.digits_from.Goals as goal
 
@@ -27,4 +29,6 @@ loop-i-preserved c =
     (omega arith)
 
 pub returns : goal.returns
-returns c = c.loop-i.invariant
+returns c =
+    let e : c.loop-i.i ≡ length c.args.d.now = omega arith in
+    rw e at c.loop-i.invariant

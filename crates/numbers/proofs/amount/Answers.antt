@@ -2,10 +2,9 @@
 use mathlib.Core.Path.{◌≡◌, sym, ap, ◌∙◌}
 use Prim.Native.Nat.{◌+◌, ◌-◌, ◌≤◌, ◌<◌}
 use native.Mathlib.Omega.{arith}
-use borrow.Author.Rules.{rules, sfits_of}
+use borrow.Author.Rules.{sfits_of}
 use borrow.Author.Tests.{ltb-true, ltb-false}
 use lib.ListN.{length, take, length-take}
-use lib.Seq.{length-take-le}
 use mir.Facts.{to_z-of_z}
 use Rattle.widths.specs.rule.Width.{tail_of, least_whole}
 use Rattle.widths.specs.Width.{tail_point, tail_few}
@@ -48,12 +47,6 @@ returns-then-too_short c = sym (amount_short _ _ _ (ltb-true _ _ (sym c.too_shor
 pub too_short-requires : goal.too_short-requires
 too_short-requires c = (c.tail-tail.ensures, rw c.tail-tail.ensures (tail_few _ c.requires.format_facts.few))
 
-pub overflow_sub-k : goal.overflow_sub-k
-overflow_sub-k c = omega (arith, c.tail-tail.ensures, room c)
-
-pub slice_bounds-digits_after-end : goal.slice_bounds-digits_after-end
-slice_bounds-digits_after-end c = sym (length-take-le _ _ (omega arith))
-
 pub digits_after-requires : goal.digits_after-requires
 digits_after-requires c =
     let l = short (goal.at.digits_after-requires c).Else-too_short in few_digits (take
@@ -62,14 +55,14 @@ digits_after-requires c =
 
 pub signed-requires : goal.signed-requires
 signed-requires c = value_small _ _ (short (goal.at.signed-requires c).Else-too_short)
-    (sym c.digits_after.ensures ∙ c.in-Value.is)
+    (sym c.digits_after.ensures ∙ c.in-Some.is)
 
 pub returns-then-f-eq0 : goal.returns-then-f-eq0
 unfolding said_of
 returns-then-f-eq0 c =
     ap says (to_z-of_z {w = w64} (sfits_of c.signed.type_inv) ∙ c.signed.ensures)
     ∙ sym (amount_plain _ _ _ _ (place (goal.at.returns-then-f-eq0 c).Else-too_short) (room (goal.at.returns-then-f-eq0 c).Else-too_short) _
-    (sym c.digits_after.ensures ∙ c.in-Value.is) c.if-f-eq0.true
+    (sym c.digits_after.ensures ∙ c.in-Some.is) c.if-f-eq0.true
     (c.requires.format_facts.plain c.if-f-eq0.true))
 
 pub returns-then-s-k-ne46 : goal.returns-then-s-k-ne46
@@ -77,36 +70,30 @@ unfolding said_of
 returns-then-s-k-ne46 c =
     sym (amount_pointless _ _ _ _ (place (goal.at.returns-then-s-k-ne46 c).Else-too_short)
     (room (goal.at.returns-then-s-k-ne46 c).Else-too_short) _
-    (sym c.digits_after.ensures ∙ c.in-Value.is) c.if-f-eq0.false c.if-s-k-ne46.true)
+    (sym c.digits_after.ensures ∙ c.in-Some.is) c.if-f-eq0.false c.if-s-k-ne46.true)
 
 pub bounds-s-k : goal.bounds-s-k
 bounds-s-k c = inner (goal.at.bounds-s-k c).Else-f-eq0
-
-pub slice_bounds-decimals_after-count : goal.slice_bounds-decimals_after-count
-slice_bounds-decimals_after-count c = let h = inner (goal.at.slice_bounds-decimals_after-count c).Else-f-eq0 in omega arith
-
-pub slice_bounds-decimals_after-start : goal.slice_bounds-decimals_after-start
-slice_bounds-decimals_after-start c = let h = inner (goal.at.slice_bounds-decimals_after-start c).Else-f-eq0 in search rules
 
 pub decimals_after-requires : goal.decimals_after-requires
 decimals_after-requires c =
     let args = c.args in
     let h = inner (goal.at.decimals_after-requires c).Else-f-eq0 in
     decimals_room args.s.now (length args.s.now - c.tail-tail.result) _ (omega arith)
-    (omega arith) (sym c.digits_after.ensures ∙ c.in-Value.is)
+    (omega arith) (sym c.digits_after.ensures ∙ c.in-Some.is)
 
 pub returns-else-s-k-ne46 : goal.returns-else-s-k-ne46
 returns-else-s-k-ne46 c =
     let args = c.args in
     let h = inner (goal.at.returns-else-s-k-ne46 c).Else-f-eq0 in
-    c.decimals_after.ensures ∙ ap (decimals_read args.minus c.in-Value.whole)
+    c.decimals_after.ensures ∙ ap (decimals_read args.minus c.in-Some.whole)
     (rest_is args.s.now (length args.s.now - c.tail-tail.result + 1) (omega arith))
     ∙ sym (amount_decimals _ _ _ _ (place (goal.at.returns-else-s-k-ne46 c).Else-too_short)
     (room (goal.at.returns-else-s-k-ne46 c).Else-too_short) _ (sym c.digits_after.ensures
-    ∙ c.in-Value.is) c.if-f-eq0.false c.if-s-k-ne46.false)
+    ∙ c.in-Some.is) c.if-f-eq0.false c.if-s-k-ne46.false)
 
-pub returns-in-Wrong : goal.returns-in-Wrong
+pub returns-in-None : goal.returns-in-None
 unfolding said_of
-returns-in-Wrong c = sym (amount_bad _ _ _ _ (place (goal.at.returns-in-Wrong c).Else-too_short)
-    (room (goal.at.returns-in-Wrong c).Else-too_short)
-    (sym c.digits_after.ensures ∙ c.in-Wrong.is))
+returns-in-None c = sym (amount_bad _ _ _ _ (place (goal.at.returns-in-None c).Else-too_short)
+    (room (goal.at.returns-in-None c).Else-too_short)
+    (sym c.digits_after.ensures ∙ c.in-None.is))

@@ -29,16 +29,16 @@ pub signed-requires : goal.signed-requires
 signed-requires c =
     let s = c.args.s.now in
     value_small (drop c.leading_spaces-p.result s) _ (simp length-drop (omega arith))
-    (sym (read (goal.at.signed-requires c).After-digits_after) ∙ c.in-Value.is)
+    (sym (read (goal.at.signed-requires c).After-digits_after) ∙ c.in-Some.is)
 
-pub returns-in-Value : goal.returns-in-Value
+pub returns-in-Some : goal.returns-in-Some
 unfolding said_of number_of
-returns-in-Value c =
+returns-in-Some c =
     ap says (to_z-of_z {w = w64} (sfits_of c.signed.type_inv) ∙ c.signed.ensures)
     ∙ sym (code_says _ _ c.leading_spaces-p.ensures.1 _
-    c.if-s-p.false (sym (read (goal.at.returns-in-Value c).After-digits_after) ∙ c.in-Value.is))
+    c.if-s-p.false (sym (read (goal.at.returns-in-Some c).After-digits_after) ∙ c.in-Some.is))
 
-pub returns-in-Wrong : goal.returns-in-Wrong
+pub returns-in-None : goal.returns-in-None
 unfolding said_of
-returns-in-Wrong c = sym (code_wrong _ _ c.leading_spaces-p.ensures.1
-    c.if-s-p.false (sym (read (goal.at.returns-in-Wrong c).After-digits_after) ∙ c.in-Wrong.is))
+returns-in-None c = sym (code_wrong _ _ c.leading_spaces-p.ensures.1
+    c.if-s-p.false (sym (read (goal.at.returns-in-None c).After-digits_after) ∙ c.in-None.is))

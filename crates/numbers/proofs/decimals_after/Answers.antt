@@ -12,16 +12,16 @@ use Rattle.numbers.proofs.decimals_after.Goals as goal
 pub signed-requires : goal.signed-requires
 signed-requires c = omega (
   arith,
-  value_room _ _ _ (sym c.digits_after.ensures ∙ c.in-Value.is),
+  value_room _ _ _ (sym c.digits_after.ensures ∙ c.in-Some.is),
   c.requires,
 )
 
-pub returns-in-Value : goal.returns-in-Value
+pub returns-in-Some : goal.returns-in-Some
 unfolding said_of decimals_read
-returns-in-Value c =
-    let e = sym c.digits_after.ensures ∙ c.in-Value.is in
+returns-in-Some c =
+    let e = sym c.digits_after.ensures ∙ c.in-Some.is in
     ap says (to_z-of_z {w = w64} (sfits_of c.signed.type_inv) ∙ c.signed.ensures) ∙ rw (value_only _ _ _ e, value_is _ _ _ e)
 
-pub returns-in-Wrong : goal.returns-in-Wrong
+pub returns-in-None : goal.returns-in-None
 unfolding said_of decimals_read
-returns-in-Wrong c = rw (wrong_only _ _ (sym c.digits_after.ensures ∙ c.in-Wrong.is))
+returns-in-None c = rw (wrong_only _ _ (sym c.digits_after.ensures ∙ c.in-None.is))

@@ -6,9 +6,6 @@ use lib.ListN.{length, drop}
 use Rattle.numbers.specs.Numeral.{digits_read}
 use Rattle.numbers.proofs.digits_after.Given as goal
 
-abbrev pub invariant-loop-i : goal.invariant-loop-i
-invariant-loop-i l = (l.i ≤ length l.s) × ((l.value + 1) * 10 ^ (length l.s - l.i) ≤ 10 ^ 18)
-    × (digits_read l.value (drop l.i l.s) ≡ digits_read l.n l.s)
-
-abbrev pub decreases-loop-i : goal.decreases-loop-i
-decreases-loop-i l = length l.s - l.i
+abbrev pub invariant-loop-b : goal.invariant-loop-b
+invariant-loop-b l = ((l.value + 1) * 10 ^ (length l.s - l.b-index) ≤ 10 ^ 18)
+    × (digits_read l.value (drop l.b-index l.s) ≡ digits_read l.n l.s)

@@ -1,4 +1,4 @@
-use mathlib.Core.Path.{◌≡◌, refl, sym, ◌∙◌}
+use mathlib.Core.Path.{◌≡◌, sym, ◌∙◌}
 use mathlib.Core.List.{List}
 use Prim.Native.Nat.{ℕ, ◌+◌, ◌≤◌, ◌<◌}
 use native.Mathlib.Numerals.{add-one}
@@ -22,14 +22,13 @@ none : (s : List ℕ) (p : ℕ) → length s ≤ p → unspaced (drop p s) ≡ d
 unfolding unspaced
 none s p h = rw (drop_of_length-le _ h)
 
-pub loop-p-init : goal.loop-p-init
-loop-p-init c = (omega arith, refl)
-
-pub returns-then-s-p-ne32 : goal.returns-then-s-p-ne32
-returns-then-s-p-ne32 c = (omega arith, sym c.loop-p.invariant.1 ∙ ends _ _ c.loop-p-test.true c.if-s-p-ne32.true)
+pub returns-then-b-ne32 : goal.returns-then-b-ne32
+returns-then-b-ne32 c = (omega arith, sym c.loop-p.invariant ∙ ends _ _ c.loop-p-test.true c.if-b-ne32.true)
 
 pub loop-p-preserved : goal.loop-p-preserved
-loop-p-preserved c = (omega arith, sym (on _ _ c.loop-p-test.true c.if-s-p-ne32.false) ∙ c.loop-p.invariant.1)
+loop-p-preserved c = sym (on _ _ c.loop-p-test.true c.if-b-ne32.false) ∙ c.loop-p.invariant
 
 pub returns : goal.returns
-returns c = (omega arith, sym c.loop-p.invariant.1 ∙ none _ _ c.loop-p-test.false)
+returns c =
+    let e : c.loop-p.p ≡ length c.args.s.now = omega arith in
+    (omega arith, rw e at (sym c.loop-p.invariant ∙ none _ _ c.loop-p-test.false))

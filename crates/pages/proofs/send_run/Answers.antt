@@ -1,5 +1,4 @@
-use mathlib.Core.Path.{refl, ◌∙◌}
-use mathlib.Core.Bool.{false}
+use mathlib.Core.Path.{◌≡◌, refl, ◌∙◌}
 use native.Mathlib.Omega.{arith}
 use lib.Dec.{eqb}
 use borrow.Author.Tests.{eqb-false}
@@ -55,14 +54,10 @@ pub returns-then-e-value_at : goal.returns-then-e-value_at
 returns-then-e-value_at c = ran_then c.loop-k.invariant refl
     c.send_last.ensures
 
-pub overflow_add-k : goal.overflow_add-k
-overflow_add-k c = omega (arith, c.loop-k-test.true)
-
-pub loop-k-smaller : goal.loop-k-smaller
-loop-k-smaller c = omega (arith, c.loop-k-test.true)
-
 pub shape_of-out : goal.shape_of-out
 shape_of-out c = c.loop-k.invariant.sent.room
 
 pub returns : goal.returns
-returns c = c.loop-k.invariant
+returns c =
+    let e : c.loop-k.k ≡ 4096 = omega (arith, c.requires.count_bound) in
+    rw e at c.loop-k.invariant

@@ -3,15 +3,15 @@ use borrow.Author.Tests.{eq-eqb, ne_eqb}
 use Rattle.pairs.specs.rule.Stand.{text_stand}
 use Rattle.pairs.proofs.stand_text.Goals as goal
 
-pub returns-in-Is : goal.returns-in-Is
+pub returns-in-Some : goal.returns-in-Some
 unfolding text_stand
-returns-in-Is c = rw (eq-eqb _ 38 c.if-d-n-eq38.true, sym c.reference.ensures ∙ c.in-Is.is)
+returns-in-Some c = rw (eq-eqb _ 38 c.if-d-n-eq38.true, sym c.reference.ensures ∙ c.in-Some.is)
 
-pub returns-in-Bad : goal.returns-in-Bad
+pub returns-in-None : goal.returns-in-None
 unfolding text_stand
-returns-in-Bad c = rw (
+returns-in-None c = rw (
   eq-eqb _ 38 c.if-d-n-eq38.true,
-  sym c.reference.ensures ∙ c.in-Bad.is,
+  sym c.reference.ensures ∙ c.in-None.is,
 )
 
 pub returns : goal.returns

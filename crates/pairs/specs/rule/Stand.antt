@@ -1,11 +1,9 @@
 -- "Text where tags are due: 2 at its first byte. Where tags are due, the first character or reference of a text is read: 50 if it is not
 -- legal or bad, else 2. An end tag where something is due is read whole first; of another name: 50 at its `<`. Where the file ends too
 -- early: 50." What stands from a place on, behind white space and comments. 60 is <, 38 &.
-use Rattle.std.specs.Prelude.{Bool, cond, List, [], ℕ, ◌+◌, leb, eqb, length, drop, get_or}
+use Rattle.std.specs.Prelude.{Bool, cond, List, [], ℕ, ◌+◌, leb, eqb, length, drop, get_or, Option, Some, None}
 use Rattle.markup.specs.rule.Reference.{reference_of}
 use Rattle.markup.specs.rule.Gap.{gap_of}
-use Rattle.markup.specs.declared.Char.{Char}
-use Rattle.markup.specs.declared.Char.TheVariants.{Is, Bad}
 use Rattle.markup.specs.declared.Skip.{Skip}
 use Rattle.markup.specs.declared.Skip.TheVariants as skip
 use Rattle.angles.specs.rule.Angle.{angle_of, end_of}
@@ -17,9 +15,9 @@ use Rattle.pairs.specs.declared.Stand.{Stand}
 use Rattle.pairs.specs.declared.Stand.TheVariants.{Start, Close, Foreign, Text, Broken}
 
 -- a text, whose first reference has to be good
-abbrev pub on_text_char : ℕ → Char → Stand
-on_text_char p (Is c n) = Text p
-on_text_char p Bad = Broken p
+abbrev pub on_text_char : ℕ → Option (ℕ × ℕ) → Stand
+on_text_char p (Some (c, n)) = Text p
+on_text_char p None = Broken p
 
 unfoldable pub text_stand : List ℕ → ℕ → Stand
 text_stand d p = cond (eqb (get_or d p 0) 38) (on_text_char p (reference_of p (drop (p + 1) d))) (Text p)

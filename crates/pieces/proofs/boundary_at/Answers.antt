@@ -4,10 +4,10 @@ use Rattle.pieces.specs.Pieces.{boundary_cr, boundary_lf, boundary_none}
 use Rattle.pieces.proofs.boundary_at.Goals as goal
 
 pub returns-then-b-eq13 : goal.returns-then-b-eq13
-returns-then-b-eq13 c = c.boundary_of.ensures ∙ sym (boundary_cr _ _ c.requires c.if-b-eq13.true)
+returns-then-b-eq13 c = c.terminator_at.ensures ∙ sym (boundary_cr _ _ c.requires c.if-b-eq13.true)
 
 pub returns-then-b-eq10 : goal.returns-then-b-eq10
-returns-then-b-eq10 c = c.boundary_of-then-b-eq10.ensures ∙ sym (boundary_lf _ _ c.requires
+returns-then-b-eq10 c = c.terminator_at-then-b-eq10.ensures ∙ sym (boundary_lf _ _ c.requires
     c.if-b-eq13.false c.if-b-eq10.true)
 
 pub returns : goal.returns

@@ -5,18 +5,13 @@ use Rattle.pieces.specs.Scan.{minima_none, minima_more, minima_clear, neither_le
 use Rattle.pieces.proofs.low_among_some.Goals as goal
 
 pub loop-k-init : goal.loop-k-init
-loop-k-init c = (omega arith, λ e. minima_none _ _ _)
+loop-k-init c e = minima_none _ _ _
 
 pub loop-k-preserved : goal.loop-k-preserved
-loop-k-preserved c =
-    let l = c.loop-k in (
-      omega arith,
-      λ e. minima_more _ _ _ _ _ (l.invariant.1 (neither_left l.low _ e)) c.least_of_four.ensures
-          (ltb-false _ _ (neither_right l.low _ e)),
-    )
+loop-k-preserved c e =
+    let l = c.loop-k in
+    minima_more _ _ _ _ _ (l.invariant (neither_left l.low _ e)) c.least_of_four.ensures
+    (ltb-false _ _ (neither_right l.low _ e))
 
 pub returns : goal.returns
-returns c =
-    let l = c.loop-k in
-    let q : l.k ≡ 16 = omega arith in
-    λ e. minima_clear _ _ 4 (rw q at (l.invariant.1 e)) c.requires
+returns c = let q : c.loop-k.k ≡ 16 = omega arith in λ e. minima_clear _ _ 4 (rw q at (c.loop-k.invariant e)) c.requires

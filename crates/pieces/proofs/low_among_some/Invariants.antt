@@ -1,12 +1,8 @@
 -- `pieces::low_among_some` meets its contract. The invariant: if none was found so far, none is below 32 where it was looked.
 use mathlib.Core.Path.{◌≡◌}
 use mathlib.Core.Bool.{false}
-use Prim.Native.Nat.{◌≤◌, ◌-◌}
 use Rattle.pieces.specs.Scan.{Minima}
 use Rattle.pieces.proofs.low_among_some.Given as goal
 
 abbrev pub invariant-loop-k : goal.invariant-loop-k
-invariant-loop-k l = (l.k ≤ 16) × (l.low ≡ false → Minima l.d l.i 4 l.k)
-
-abbrev pub decreases-loop-k : goal.decreases-loop-k
-decreases-loop-k l = 16 - l.k
+invariant-loop-k l = l.low ≡ false → Minima l.d l.i 4 l.k

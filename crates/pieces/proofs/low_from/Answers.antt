@@ -1,4 +1,6 @@
+use mathlib.Core.Path.{◌≡◌}
 use native.Mathlib.Omega.{arith}
+use lib.ListN.{length}
 use borrow.Author.Tests.{le-ltb, lt-ltb}
 use Rattle.lows.specs.Lows.{clear_next}
 use Rattle.pieces.proofs.low_from.Goals as goal
@@ -13,4 +15,6 @@ pub loop-i-preserved : goal.loop-i-preserved
 loop-i-preserved c = clear_next _ _ _ c.loop-i.invariant (le-ltb _ _ c.if-d-i-lt32.false) c.loop-i-test.true
 
 pub returns : goal.returns
-returns c = record { clear = c.loop-i.invariant; low = λ h. absurd (omega arith) }
+returns c =
+    let q : c.loop-i.i ≡ length c.args.d.now = omega (arith, c.loop-i.invariant.within) in
+    record { clear = rw q at c.loop-i.invariant; low = λ h. absurd (omega arith) }

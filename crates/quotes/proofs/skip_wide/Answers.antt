@@ -1,23 +1,7 @@
 use mathlib.Core.Path.{sym, ◌∙◌}
 use native.Mathlib.Omega.{arith}
-use Rattle.quotes.specs.Quotes.{unmarked_none, unmarked_more}
+use Rattle.quotes.specs.Quotes.{unmarked_more}
 use Rattle.quotes.proofs.skip_wide.Goals as goal
 
-pub returns-then-n-lt16 : goal.returns-then-n-lt16
-returns-then-n-lt16 c = unmarked_none _ _ _
-
-pub loop-i-init : goal.loop-i-init
-loop-i-init c = (omega arith, unmarked_none _ _ _)
-
-pub returns-then-mark_among : goal.returns-then-mark_among
-returns-then-mark_among c = c.loop-i.invariant.1
-
 pub loop-i-preserved : goal.loop-i-preserved
-loop-i-preserved c = (
-  omega arith,
-  unmarked_more _ _ _ _ 16 c.loop-i.invariant.1
-      (sym c.mark_among.ensures ∙ c.if-mark_among.false) (omega arith),
-)
-
-pub returns : goal.returns
-returns c = c.loop-i.invariant.1
+loop-i-preserved g c = unmarked_more _ _ _ _ _ c.loop-i.invariant (sym c.mark_among.ensures ∙ c.if-mark_among.false) (omega arith)

@@ -1,43 +1,28 @@
--- `readings::is_illegal` meets its contract: an arm each.
+-- `readings::is_illegal` meets its contract: the one answer, or another.
+use mathlib.Core.Path.{◌≡◌, refl}
+use mathlib.Core.Bool.{false}
+use Rattle.readings.specs.declared.Answer.{Answer}
+use Rattle.readings.specs.declared.Answer.TheVariants.{Missing, Number, Set, Text, Truth}
+use Rattle.readings.specs.declared.Answer.TheVariants.{BadTable, NoRow, ShortRecord, Illegal, ShortList}
 use Rattle.readings.specs.Answer.{illegal_answer}
 use Rattle.readings.proofs.is_illegal.Goals as goal
+
+other : (a : Answer) → (a ≡ Illegal → ⊥) → false ≡ illegal_answer a
+unfolding illegal_answer
+other Missing h = refl
+other (Number z) h = refl
+other (Set n) h = refl
+other (Text p n) h = refl
+other (Truth b) h = refl
+other BadTable h = refl
+other NoRow h = refl
+other ShortRecord h = refl
+other Illegal h = absurd (h refl)
+other ShortList h = refl
 
 pub returns-in-Illegal : goal.returns-in-Illegal
 unfolding illegal_answer
 returns-in-Illegal c = rw c.in-Illegal.is
 
-pub returns-in-Missing : goal.returns-in-Missing
-unfolding illegal_answer
-returns-in-Missing c = rw c.in-Missing.is
-
-pub returns-in-Number : goal.returns-in-Number
-unfolding illegal_answer
-returns-in-Number c = rw c.in-Number.is
-
-pub returns-in-Set : goal.returns-in-Set
-unfolding illegal_answer
-returns-in-Set c = rw c.in-Set.is
-
-pub returns-in-Text : goal.returns-in-Text
-unfolding illegal_answer
-returns-in-Text c = rw c.in-Text.is
-
-pub returns-in-Truth : goal.returns-in-Truth
-unfolding illegal_answer
-returns-in-Truth c = rw c.in-Truth.is
-
-pub returns-in-BadTable : goal.returns-in-BadTable
-unfolding illegal_answer
-returns-in-BadTable c = rw c.in-BadTable.is
-
-pub returns-in-NoRow : goal.returns-in-NoRow
-unfolding illegal_answer
-returns-in-NoRow c = rw c.in-NoRow.is
-
-pub returns-in-ShortRecord : goal.returns-in-ShortRecord
-unfolding illegal_answer
-returns-in-ShortRecord c = rw c.in-ShortRecord.is
-
-pub returns-in-ShortList : goal.returns-in-ShortList
-unfolding illegal_answer
-returns-in-ShortList c = rw c.in-ShortList.is
+pub returns-in_default : goal.returns-in_default
+returns-in_default c = other c.args.a c.in_default.not-Illegal

@@ -1,5 +1,4 @@
 use mathlib.Core.Path.{◌≡◌, ap, ◌∙◌}
-use Prim.Native.Nat.{ℕ}
 use native.Mathlib.Omega.{arith}
 use Rattle.record_values.specs.rule.Record.{row_reading}
 use Rattle.layout.specs.rule.Row.{row_at}
@@ -10,29 +9,21 @@ use Rattle.record_values.specs.Room.{none_below, members_count}
 use Rattle.record_values.proofs.always_fits.Goals as goal
 
 pub loop-i-init : goal.loop-i-init
-loop-i-init c = (omega arith, λ bytes. omega (arith, none_below (row_reading c.args.t.now c.args.rows bytes)))
-
-pub returns-then-left-most : goal.returns-then-left-most
-returns-then-left-most c = λ e bytes. let z : ◌≡◌ {A = ℕ} 0 1 = cc in absurd (omega arith)
+loop-i-init c = λ bytes. omega (arith, none_below (row_reading c.args.t.now c.args.rows bytes))
 
 pub loop-i-preserved : goal.loop-i-preserved
 loop-i-preserved c =
     let a = c.args in
-    let l = c.loop-i in (
-      omega arith,
-      λ bytes.
-          let f = row_reading a.t.now a.rows bytes in
-          let m = row_most a.t.now a.rows (row_at a.t.now l.i) bytes in
-          let e = c.most_of-most.ensures ∙ ap (λ (r : Row). most_of r) c.read.ensures in
-          omega (arith, members_count f l.i, l.invariant.1 bytes, c.if-left-most.false),
-    )
+    let l = c.loop-i in
+    λ bytes.
+    let f = row_reading a.t.now a.rows bytes in
+    let m = row_most a.t.now a.rows (row_at a.t.now l.i) bytes in
+    let e = c.most_of-most.ensures ∙ ap (λ (r : Row). most_of r) c.read.ensures in
+    omega (arith, members_count f l.i, l.invariant bytes, c.if-left-most.false)
 
 pub returns : goal.returns
 returns c = λ e bytes.
     let a = c.args in
     let l = c.loop-i in
     let q : l.i ≡ a.rows = omega arith in
-    omega (arith, rw q at (l.invariant.1 bytes))
-
-pub read-requires : goal.read-requires
-read-requires c = let p = c.requires in let l = c.loop-i-test.true in (omega arith, omega arith)
+    omega (arith, rw q at (l.invariant bytes))

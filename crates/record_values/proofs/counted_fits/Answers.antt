@@ -21,7 +21,7 @@ counted c =
 pub loop-i-init : goal.loop-i-init
 loop-i-init c =
     let a = c.args in
-    (omega arith, omega (arith, none_below (row_reading a.t.now a.rows a.bytes.now)))
+    omega (arith, none_below (row_reading a.t.now a.rows a.bytes.now))
 
 pub returns-then-left-n : goal.returns-then-left-n
 returns-then-left-n c =
@@ -30,7 +30,7 @@ returns-then-left-n c =
     let l = c.loop-i in
     let s = members_step f l.i a.rows c.loop-i-test.true in
     let e = counted (goal.at.returns-then-left-n c).After-count_row-n in
-    let q = l.invariant.1 in
+    let q = l.invariant in
     let o = c.if-left-n.true in
     sym (lt-leb (length (members_below f a.rows)) a.room (omega arith))
 
@@ -41,22 +41,14 @@ loop-i-preserved c =
     let l = c.loop-i in
     let n = members_count f l.i in
     let e = counted (goal.at.loop-i-preserved c).After-count_row-n in
-    let q = l.invariant.1 in
+    let q = l.invariant in
     let o = c.if-left-n.false in
-    (omega arith, omega arith)
+    omega arith
 
 pub returns : goal.returns
 returns c =
     let a = c.args in
     let l = c.loop-i in
     let q : l.i ≡ a.rows = omega arith in
-    let w = rw q at l.invariant.1 in
+    let w = rw q at l.invariant in
     sym (le-leb (length (members_below (row_reading a.t.now a.rows a.bytes.now) a.rows)) a.room (omega arith))
-
-pub read-requires : goal.read-requires
-read-requires c = let p = c.requires in let f = p.few in let s = p.stand in
-    let l = c.loop-i-test.true in (omega arith, omega arith)
-
-pub count_row-n-requires : goal.count_row-n-requires
-count_row-n-requires c = let p = c.requires in
-    rw c.read.ensures (p.row c.loop-i.i c.loop-i-test.true)

@@ -1,11 +1,14 @@
 -- `record_values::refusals_in` meets its contract.
+use mathlib.Core.Path.{◌≡◌, refl, ap, ◌∙◌}
+use mathlib.Core.Bool.{Bool, true, false, cond}
+use mir.Val.{bool_byte}
 use Rattle.record_values.specs.Rows.{refusals_in}
 use Rattle.record_values.proofs.refusals_in.Goals as goal
 
-pub returns-then-is_illegal : goal.returns-then-is_illegal
-unfolding refusals_in
-returns-then-is_illegal c = rw (← c.is_illegal.ensures, c.if-is_illegal.true)
+by_cases : (b : Bool) → bool_byte b ≡ cond b 1 0
+by_cases true = refl
+by_cases false = refl
 
-pub returns-else-is_illegal : goal.returns-else-is_illegal
+pub returns : goal.returns
 unfolding refusals_in
-returns-else-is_illegal c = rw (← c.is_illegal.ensures, c.if-is_illegal.false)
+returns c = c.from.ensures ∙ ap bool_byte c.is_illegal.ensures ∙ by_cases _

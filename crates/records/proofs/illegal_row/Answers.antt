@@ -1,45 +1,24 @@
-use mathlib.Core.Path.{refl, sym, ◌∙◌}
-use native.Mathlib.Omega.{arith}
+use mathlib.Core.Path.{sym, ◌∙◌}
 use native.Mathlib.Nat.{sub-zero}
 use Rattle.records.specs.rule.First.{bad_row}
 use Rattle.records.proofs.Laws.{first_here, first_on, first_none}
 use Rattle.records.proofs.illegal_row.Goals as goal
 
--- row i stands in the table
-pub row_illegal-requires : goal.row_illegal-requires
-row_illegal-requires c =
-    let p = c.requires.table_ready in let f = p.few in let s = p.stand in
-    let l = c.loop-i-test.true in record {
-      i_le_most_rows = (omega arith, omega arith);
-      row_ready = p.row c.loop-i.i l;
-      plain = c.requires.plain;
-      scratch_len_bound = rw c.loop-i.invariant.1 c.requires.scratch_len_bound;
-    }
+pub loop-i-init : goal.loop-i-init
+loop-i-init c = rw sub-zero
 
 pub returns-then-row_illegal : goal.returns-then-row_illegal
 returns-then-row_illegal c =
     let a = c.args in
     sym (first_here (bad_row a.t.now a.rows a.bytes.now) _ _ c.loop-i-test.true
-    (sym c.row_illegal.ensures ∙ c.if-row_illegal.true)) ∙ c.loop-i.invariant.2
+    (sym c.row_illegal.ensures ∙ c.if-row_illegal.true)) ∙ c.loop-i.invariant
 
 pub loop-i-preserved : goal.loop-i-preserved
 loop-i-preserved c =
-    let a = c.args in (
-      omega arith,
-      c.row_illegal.auto.scratch ∙ c.loop-i.invariant.1,
-      sym (first_on (bad_row a.t.now a.rows a.bytes.now) _ _ c.loop-i-test.true
-          (sym c.row_illegal.ensures ∙ c.if-row_illegal.false)) ∙ c.loop-i.invariant.2,
-    )
+    let a = c.args in
+    sym (first_on (bad_row a.t.now a.rows a.bytes.now) _ _ c.loop-i-test.true
+    (sym c.row_illegal.ensures ∙ c.if-row_illegal.false)) ∙ c.loop-i.invariant
 
 pub returns : goal.returns
 returns c = let a = c.args in
-    sym (first_none (bad_row a.t.now a.rows a.bytes.now) _ _ c.loop-i-test.false) ∙ c.loop-i.invariant.2
-
-pub loop-i-init : goal.loop-i-init
-loop-i-init c = (omega arith, refl, rw sub-zero)
-
-pub shape_of-scratch-then-row_illegal : goal.shape_of-scratch-then-row_illegal
-shape_of-scratch-then-row_illegal c = c.row_illegal.auto.scratch ∙ c.loop-i.invariant.1
-
-pub shape_of-scratch : goal.shape_of-scratch
-shape_of-scratch c = c.loop-i.invariant.1
+    sym (first_none (bad_row a.t.now a.rows a.bytes.now) _ _ c.loop-i-test.false) ∙ c.loop-i.invariant

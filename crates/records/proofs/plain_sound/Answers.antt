@@ -5,14 +5,14 @@ use Rattle.records.specs.rule.Verdict.{rows_verdict, row_verdict, byte_verdict}
 use Rattle.records.proofs.Laws.{first_of_plain}
 use Rattle.records.proofs.plain_sound.Goals as goal
 
-pub returns-in-Nothing : goal.returns-in-Nothing
+pub returns-in-None : goal.returns-in-None
 unfolding rows_verdict byte_verdict row_verdict
-returns-in-Nothing c e =
+returns-in-None c e =
     rw (
       first_of_plain c.args.bytes.now c.requires.plain,
       ← c.illegal_row.ensures,
-      c.in-Nothing.is,
+      c.in-None.is,
     )
 
-pub returns-in-At : goal.returns-in-At
-returns-in-At c e = holds_not e refl
+pub returns-in-Some : goal.returns-in-Some
+returns-in-Some c e = holds_not e refl

@@ -1,14 +1,12 @@
 -- What judging a whole record answers: refusals 20, 22, 23 with the byte's place, and 241, 242 or 243 with the lowest row that has a
 -- fault, and its place or number.
-use Rattle.std.specs.Prelude.{◌≡◌, cond, List, ℕ, leb, ℤ, length}
+use Rattle.std.specs.Prelude.{◌≡◌, cond, List, ℕ, leb, ℤ, length, Option, Some, None}
 use Rattle.sound.specs.rule.Sound.{well_formed}
 use Rattle.sound.specs.rule.Rows.{rows_of, length_of}
 use Rattle.lows.specs.rule.Lows.{low_at}
 use Rattle.faults.specs.rule.Fault.{fault_number}
 use Rattle.faults.specs.declared.Fault.{Fault}
 use Rattle.records.specs.rule.First.{first_from, bad_row, row_fault}
-use Rattle.records.specs.declared.Found.{Found}
-use Rattle.records.specs.declared.Found.TheVariants.{At, Nothing}
 use Rattle.records.specs.declared.Judged.{Judged}
 use Rattle.records.specs.declared.Judged.TheVariants as judged
 
@@ -36,13 +34,13 @@ judged_as (judged.LowByte p) = low_byte p
 judged_as (judged.Faulty i x) = bad_field i x
 
 -- by the lowest illegal row, and what is wrong with each
-unfoldable pub row_verdict : (ℕ → Fault) → Found → Verdict
-row_verdict fault (At i) = bad_field i (fault i)
-row_verdict fault Nothing = sound
+unfoldable pub row_verdict : (ℕ → Fault) → Option ℕ → Verdict
+row_verdict fault (Some i) = bad_field i (fault i)
+row_verdict fault None = sound
 
-unfoldable pub byte_verdict : Found → Verdict → Verdict
-byte_verdict (At p) v = low_byte p
-byte_verdict Nothing v = v
+unfoldable pub byte_verdict : Option ℕ → Verdict → Verdict
+byte_verdict (Some p) v = low_byte p
+byte_verdict None v = v
 
 -- a record that is long enough, by a table of v rows
 unfoldable pub rows_verdict : List ℤ → ℕ → List ℕ → Verdict

@@ -1,9 +1,9 @@
-use mathlib.Core.Path.{◌≡◌, sym, ◌∙◌}
+use mathlib.Core.Path.{◌≡◌, ◌∙◌}
 use mathlib.Core.List.{List}
-use Prim.Native.Nat.{ℕ, suc, ◌+◌, ◌-◌, ◌≤◌}
+use Prim.Native.Nat.{ℕ, suc, ◌+◌, ◌-◌}
 use native.Mathlib.Numerals.{add-one}
 use native.Mathlib.Omega.{arith}
-use lib.ListN.{set, length-set}
+use lib.ListN.{set}
 use Rattle.places.specs.rule.Places.{put, run}
 use Rattle.fields.specs.rule.Field.{spaces}
 use Rattle.runs.proofs.blank.Goals as goal
@@ -12,19 +12,8 @@ on : (s : List ℕ) (p j i : ℕ) → j ≡ suc i → put (set s p 32) (run (p +
 unfolding spaces
 on s p j i e = rw (e, add-one)
 
-done : (s : List ℕ) (p j : ℕ) → j ≤ 0 → put s (run p j) (spaces j) ≡ s
-done s p j h = let e : j ≡ 0 = omega arith in rw e
-
-pub loop-left-preserved : goal.loop-left-preserved
-loop-left-preserved c =
-    let l = c.loop-left in (
-      omega arith,
-      rw length-set l.invariant.1,
-      on l.out l.p l.left (l.left - 1) (omega arith) ∙ l.invariant.2,
-    )
-
-pub returns : goal.returns
-returns c = sym (done _ _ _ c.loop-left-test.false) ∙ c.loop-left.invariant.2
-
-pub shape_of-out : goal.shape_of-out
-shape_of-out c = c.loop-left.invariant.1
+pub loop-p-preserved : goal.loop-p-preserved
+loop-p-preserved c =
+    let l = c.loop-p in
+    let a = c.args in
+    on l.out l.p (a.at + a.k - l.p) (a.at + a.k - (l.p + 1)) (omega arith) ∙ l.invariant

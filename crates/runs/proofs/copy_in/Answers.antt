@@ -1,29 +1,15 @@
-use mathlib.Core.Path.{◌≡◌, refl, sym, ◌∙◌}
-use mathlib.Core.List.{List}
-use Prim.Native.Nat.{ℕ, ◌+◌, ◌-◌, ◌≤◌}
+use mathlib.Core.Path.{refl, ◌∙◌}
+use Prim.Native.Nat.{◌+◌, ◌-◌}
 use native.Mathlib.Nat.{add-zero, sub-zero}
 use native.Mathlib.Omega.{arith}
-use lib.ListN.{length-set}
-use Rattle.runs.proofs.copy_in.Invariants.{on, rest}
+use Rattle.runs.proofs.copy_in.Invariants.{on}
 use Rattle.runs.proofs.copy_in.Goals as goal
 
-done : (out src : List ℕ) (at k j : ℕ) → k ≤ j → rest out at src k j ≡ out
-done out src at k j h = let e : k - j ≡ 0 = omega arith in rw e
+pub loop-j-init : goal.loop-j-init
+loop-j-init c = rw (add-zero, sub-zero)
 
 pub loop-j-preserved : goal.loop-j-preserved
 loop-j-preserved c =
     let l = c.loop-j in
-    let a = c.args in (
-      omega arith,
-      rw length-set l.invariant.1,
-      on l.out a.src.now a.at a.k l.j (a.k - (l.j + 1)) (omega arith) refl (omega arith) ∙ l.invariant.2,
-    )
-
-pub returns : goal.returns
-returns c = sym (done _ _ _ _ _ c.loop-j-test.false) ∙ c.loop-j.invariant.2
-
-pub loop-j-init : goal.loop-j-init
-loop-j-init c = (omega arith, refl, rw (add-zero, sub-zero))
-
-pub shape_of-out : goal.shape_of-out
-shape_of-out c = c.loop-j.invariant.1
+    let a = c.args in
+    on l.out a.src.now a.at a.k l.j (a.k - (l.j + 1)) (omega arith) refl (omega arith) ∙ l.invariant

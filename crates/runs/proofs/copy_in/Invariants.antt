@@ -1,7 +1,7 @@
 -- `runs::copy_in` meets its contract. The invariant: what is left to put gives the whole.
 use mathlib.Core.Path.{◌≡◌}
 use mathlib.Core.List.{List}
-use Prim.Native.Nat.{ℕ, suc, ◌+◌, ◌-◌, ◌≤◌, ◌<◌}
+use Prim.Native.Nat.{ℕ, suc, ◌+◌, ◌-◌, ◌<◌}
 use native.Mathlib.Nat.{add-suc}
 use native.Mathlib.Numerals.{add-one}
 use lib.ListN.{length, get_or, set, take, drop}
@@ -18,8 +18,4 @@ pub on : (out src : List ℕ) (at k j i : ℕ) → k - j ≡ suc i → k - (j + 
 on out src at k j i e f h = rw (e, f, add-one j, add-suc, drop-cons src j 0)
 
 abbrev pub invariant-loop-j : goal.invariant-loop-j
-invariant-loop-j l = (l.j ≤ l.k) × (length l.out ≡ length l.initial.out)
-    × (rest l.out l.at l.src l.k l.j ≡ put l.initial.out (run l.at l.k) (take l.k l.src))
-
-abbrev pub decreases-loop-j : goal.decreases-loop-j
-decreases-loop-j l = l.k - l.j
+invariant-loop-j l = rest l.out l.at l.src l.k l.j ≡ put l.initial.out (run l.at l.k) (take l.k l.src)

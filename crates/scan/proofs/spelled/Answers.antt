@@ -9,17 +9,14 @@ use Rattle.scan.proofs.spelled.Goals as goal
 
 pub loop-i-init : goal.loop-i-init
 unfolding word_at
-loop-i-init c =
+loop-i-init c e =
     let z : c.args.at + 0 ≡ c.args.at = omega arith in
-    (omega arith, λ e. rw z)
+    rw z
 
 pub loop-i-preserved : goal.loop-i-preserved
-loop-i-preserved c = (
-  omega arith,
-  λ e. c.loop-i.invariant.1 (and_left _ _ e)
-      ∙ word_letter _ _ _ _ c.requires c.loop-i-test.true
-      (and_right c.loop-i.same _ e),
-)
+loop-i-preserved c e = c.loop-i.invariant (and_left _ _ e)
+    ∙ word_letter _ _ _ _ c.requires c.loop-i-test.true
+    (and_right c.loop-i.same _ e)
 
 pub returns : goal.returns
-returns c e = c.loop-i.invariant.1 e ∙ word_whole _ _ _ _ c.loop-i-test.false ∙ ap Matched (omega arith)
+returns c e = c.loop-i.invariant e ∙ word_whole _ _ _ _ c.loop-i-test.false ∙ ap Matched (omega arith)

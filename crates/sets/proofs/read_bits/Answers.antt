@@ -1,6 +1,5 @@
 -- `sets::read_bits` meets its contract: by what the bytes are, and how the members are told from the rest.
 use mathlib.Core.Path.{◌≡◌, sym, ◌∙◌}
-use mathlib.Core.Bool.{true, false}
 use Prim.Native.Nat.{◌-◌, ◌≤◌}
 use native.Mathlib.Omega.{arith}
 use lib.ListN.{length}

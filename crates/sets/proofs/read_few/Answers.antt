@@ -3,7 +3,6 @@ use mathlib.Core.Path.{sym, ◌∙◌}
 use Prim.Native.Nat.{◌-◌}
 use native.Mathlib.Omega.{arith}
 use lib.ListN.{length}
-use Rattle.fields.specs.rule.Field.{holds}
 use Rattle.sets.specs.Sets.{SpreadRoom}
 use Rattle.sets.proofs.SetLaws.{read_missing, read_illegal, as_read, spread_missing, spread_wrong}
 use Rattle.sets.proofs.FewLaws.{gathered_small, gathered_set}
@@ -24,21 +23,21 @@ returns-then-spread_blank c = read_missing _ _ (spread_missing _ _ _ _ (sym c.sp
 
 pub list_kept-requires : goal.list_kept-requires
 list_kept-requires c =
-    let g = rw c.in-Members.is at c.gather.ensures in record {
+    let g = rw c.in-Some.is at c.gather.ensures in record {
       count_in_bounds = g.few;
       by_index = gathered_small _ _ _ _ _ _ g
           c.requires.fields_facts.few;
     }
 
-pub returns-in-Members : goal.returns-in-Members
-returns-in-Members c =
-    as_read (gathered_set _ _ _ _ _ _ (rw c.in-Members.is at c.gather.ensures)
+pub returns-in-Some : goal.returns-in-Some
+returns-in-Some c =
+    as_read (gathered_set _ _ _ _ _ _ (rw c.in-Some.is at c.gather.ensures)
     (sym c.spread_blank.ensures ∙ c.if-spread_blank.false)) c.list_kept.ensures
 
-pub returns-in-Wrong : goal.returns-in-Wrong
-returns-in-Wrong c =
+pub returns-in-None : goal.returns-in-None
+returns-in-None c =
     read_illegal _ _ (spread_wrong _ _ _ _ (sym c.spread_blank.ensures
-    ∙ c.if-spread_blank.false) (rw c.in-Wrong.is at c.gather.ensures))
+    ∙ c.if-spread_blank.false) (rw c.in-None.is at c.gather.ensures))
 
 pub overflow_sub-at : goal.overflow_sub-at
 overflow_sub-at c = let h = c.requires.fields_facts.from_one in omega arith

@@ -3,7 +3,6 @@ use mathlib.Core.Path.{sym}
 use Prim.Native.Nat.{◌-◌, ◌≤◌}
 use native.Mathlib.Omega.{arith}
 use lib.ListN.{length}
-use Rattle.fields.specs.rule.Field.{holds}
 use Rattle.sets.specs.Sets.{SpreadRoom}
 use lib.Seq.{length-take-le}
 use Rattle.sets.proofs.spread_illegal.Goals as goal

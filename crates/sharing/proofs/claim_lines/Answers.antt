@@ -1,7 +1,6 @@
-use mathlib.Core.Path.{◌≡◌, refl, ◌∙◌}
+use mathlib.Core.Path.{◌≡◌, ◌∙◌}
 use mathlib.Core.Bool.{true}
 use Prim.Native.Nat.{◌-◌, ◌≤◌}
-use native.Mathlib.Nat.{sub-zero}
 use native.Mathlib.Omega.{arith}
 use Rattle.cells.specs.rule.Cell.{count_of}
 use Rattle.fields.specs.rule.Legal.{line_value, legal}
@@ -27,9 +26,6 @@ low c = omega (arith, counted c, c.requires.low _ (allowed c))
 high : (c : After-count_at-c) → c.count_at-c.result ≤ c.args.row.width
 high c = omega (arith, counted c, c.requires.high _ (allowed c))
 
-pub loop-k-init : goal.loop-k-init
-loop-k-init c = (omega arith, refl, λ s' r d. rw sub-zero at d)
-
 pub overflow_sub-c : goal.overflow_sub-c
 overflow_sub-c c = low (goal.at.overflow_sub-c c).After-count_at-c
 
@@ -41,52 +37,26 @@ pub claim_one-requires : goal.claim_one-requires
 claim_one-requires c =
     let l = low (goal.at.claim_one-requires c).After-count_at-c in let h = high (goal.at.claim_one-requires c).After-count_at-c in
     let i = c.requires.inside in
-    let o = c.requires.from_one in
-    let n = c.loop-k.invariant.1 in omega arith
-
-pub shape_of-stamps-then-not-claim_one : goal.shape_of-stamps-then-not-claim_one
-shape_of-stamps-then-not-claim_one c = c.claim_one.auto.stamps
-    ∙ c.loop-k.invariant.1
+    let o = c.requires.from_one in omega arith
 
 pub returns-then-not-claim_one : goal.returns-then-not-claim_one
 returns-then-not-claim_one c =
     let l = c.loop-k in
     let a = c.args in
-    on_stop l.invariant.2 _ _ (lines_next (a.row.start - 1) a.t.now a.rows a.row.before a.row.lines l.k
+    on_stop l.invariant _ _ (lines_next (a.row.start - 1) a.t.now a.rows a.row.before a.row.lines l.k
     c.loop-k-test.true) (rw (counted (goal.at.returns-then-not-claim_one c).After-count_at-c) at c.claim_one.ensures)
     c.if-not-claim_one.true
 
 pub loop-k-preserved : goal.loop-k-preserved
 loop-k-preserved c =
     let l = c.loop-k in
-    let a = c.args in (
-      omega arith,
-      c.claim_one.auto.stamps ∙ l.invariant.1,
-      on_step l.invariant.2 _ _ (lines_next (a.row.start - 1) a.t.now a.rows a.row.before a.row.lines l.k
-          c.loop-k-test.true) (rw (counted (goal.at.loop-k-preserved c).After-count_at-c) at c.claim_one.ensures)
-          c.if-not-claim_one.false,
-    )
+    let a = c.args in
+    on_step l.invariant _ _ (lines_next (a.row.start - 1) a.t.now a.rows a.row.before a.row.lines l.k
+    c.loop-k-test.true) (rw (counted (goal.at.loop-k-preserved c).After-count_at-c) at c.claim_one.ensures)
+    c.if-not-claim_one.false
 
 pub returns : goal.returns
 returns c =
     let a = c.args in
-    on_end c.loop-k.invariant.2 (lines_end (a.row.start - 1) a.t.now a.rows a.row.before a.row.lines
+    on_end c.loop-k.invariant (lines_end (a.row.start - 1) a.t.now a.rows a.row.before a.row.lines
     c.loop-k.k c.loop-k-test.false)
-
-pub overflow_sub-at : goal.overflow_sub-at
-overflow_sub-at c = c.requires.from_one
-
-pub overflow_add-before : goal.overflow_add-before
-overflow_add-before c = let f = c.requires.lines.few_lines in omega arith
-
-pub base-base-requires : goal.base-base-requires
-base-base-requires c = let f = c.requires.lines.few_lines in (
-  c.requires.lines.few_rows,
-  omega arith,
-)
-
-pub count_at-c-requires : goal.count_at-c-requires
-count_at-c-requires c = let f = c.requires.lines.stand in rw c.base-base.ensures (omega arith)
-
-pub shape_of-stamps : goal.shape_of-stamps
-shape_of-stamps c = c.loop-k.invariant.1

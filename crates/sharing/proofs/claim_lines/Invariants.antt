@@ -1,15 +1,9 @@
 -- `sharing::claim_lines` meets its contract. The invariant: what comes of the lines that are left comes of all.
-use mathlib.Core.Path.{◌≡◌}
-use Prim.Native.Nat.{◌-◌, ◌≤◌}
-use lib.ListN.{length}
+use Prim.Native.Nat.{◌-◌}
 use Rattle.sharing.specs.Known.{line_places}
 use Rattle.sharing.proofs.Steps.{Onward}
 use Rattle.sharing.proofs.claim_lines.Given as goal
 
 abbrev pub invariant-loop-k : goal.invariant-loop-k
-invariant-loop-k l = (l.k ≤ l.lines) × (length l.stamps ≡ length l.initial.stamps)
-    × Onward l.own (line_places l.at l.t l.rows l.before 0 l.lines) l.initial.stamps
+invariant-loop-k l = Onward l.own (line_places l.at l.t l.rows l.before 0 l.lines) l.initial.stamps
     (line_places l.at l.t l.rows l.before l.k (l.lines - l.k)) l.stamps
-
-abbrev pub decreases-loop-k : goal.decreases-loop-k
-decreases-loop-k l = l.lines - l.k

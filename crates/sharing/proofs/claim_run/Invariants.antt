@@ -1,14 +1,8 @@
 -- `sharing::claim_run` meets its contract. The invariant: what comes of the places that are left comes of all.
-use mathlib.Core.Path.{◌≡◌}
-use Prim.Native.Nat.{◌+◌, ◌≤◌}
-use lib.ListN.{length}
+use Prim.Native.Nat.{◌-◌}
 use Rattle.places.specs.rule.Places.{run}
 use Rattle.sharing.proofs.Steps.{Onward}
 use Rattle.sharing.proofs.claim_run.Given as goal
 
-abbrev pub invariant-loop-left : goal.invariant-loop-left
-invariant-loop-left l = (l.p + l.left ≤ length l.initial.stamps) × (length l.stamps ≡ length l.initial.stamps)
-    × Onward l.own (run l.at l.n) l.initial.stamps (run l.p l.left) l.stamps
-
-abbrev pub decreases-loop-left : goal.decreases-loop-left
-decreases-loop-left l = l.left
+abbrev pub invariant-loop-p : goal.invariant-loop-p
+invariant-loop-p l = Onward l.own (run l.at l.n) l.initial.stamps (run l.p (l.p-end - l.p)) l.stamps

@@ -1,14 +1,10 @@
 -- `sharing::claim_spread` meets its contract. The invariant: what comes of the subfields that are left comes of all.
-use mathlib.Core.Path.{◌≡◌}
-use Prim.Native.Nat.{◌+◌, ◌*◌, ◌≤◌}
+use Prim.Native.Nat.{◌+◌, ◌-◌, ◌*◌, ◌≤◌}
 use lib.ListN.{length}
 use Rattle.fields.specs.rule.Row.{spread_places}
 use Rattle.sharing.proofs.Steps.{Onward}
 use Rattle.sharing.proofs.claim_spread.Given as goal
 
-abbrev pub invariant-loop-left : goal.invariant-loop-left
-invariant-loop-left l = (l.q + l.left * l.b ≤ length l.initial.stamps) × (length l.stamps ≡ length l.initial.stamps)
-    × Onward l.own (spread_places l.at l.b l.w l.n) l.initial.stamps (spread_places l.q l.b l.w l.left) l.stamps
-
-abbrev pub decreases-loop-left : goal.decreases-loop-left
-decreases-loop-left l = l.left
+abbrev pub invariant-loop : goal.invariant-loop
+invariant-loop l = (l.q + (l.n - l.counter) * l.b ≤ length l.initial.stamps)
+    × Onward l.own (spread_places l.at l.b l.w l.n) l.initial.stamps (spread_places l.q l.b l.w (l.n - l.counter)) l.stamps

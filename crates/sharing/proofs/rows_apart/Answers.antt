@@ -1,5 +1,3 @@
-use mathlib.Core.Path.{refl, ◌∙◌}
-use native.Mathlib.Omega.{arith}
 use Rattle.below.specs.Below.{all_none, all_more}
 use Rattle.sharing.specs.rule.Sharing.{places_at}
 use Rattle.sharing.specs.Pairs.{apart_before, stamps_none, stamps_more, shares_whole, shares_some}
@@ -9,8 +7,6 @@ use Rattle.sharing.proofs.rows_apart.Goals as goal
 pub loop-i-init : goal.loop-i-init
 loop-i-init c =
     let a = c.args in (
-      omega arith,
-      refl,
       stamps_none (places_at a.t.now a.rows) _ c.requires.by_index,
       all_none (apart_before (places_at a.t.now a.rows)),
     )
@@ -19,7 +15,7 @@ pub returns-then-not-claim_row : goal.returns-then-not-claim_row
 returns-then-not-claim_row c =
     let l = c.loop-i in
     let a = c.args in
-    shares_some a.t.now a.rows l.i c.loop-i-test.true (turn_stop (places_at a.t.now a.rows) l.invariant.2
+    shares_some a.t.now a.rows l.i c.loop-i-test.true (turn_stop (places_at a.t.now a.rows) l.invariant.0
     (rw c.read.ensures at c.claim_row.ensures) c.if-not-claim_row.true)
 
 pub loop-i-preserved : goal.loop-i-preserved
@@ -27,36 +23,13 @@ loop-i-preserved c =
     let l = c.loop-i in
     let a = c.args in
     let y = c.if-not-claim_row.false in (
-      omega arith,
-      c.claim_row.auto.stamps ∙ l.invariant.1,
-      stamps_more (places_at a.t.now a.rows) l.invariant.2
+      stamps_more (places_at a.t.now a.rows) l.invariant.0
           (is_true y (rw c.read.ensures at c.claim_row.ensures)),
-      all_more (apart_before (places_at a.t.now a.rows)) l.i l.invariant.3 (turn_done (places_at a.t.now a.rows) l.invariant.2
+      all_more (apart_before (places_at a.t.now a.rows)) l.i l.invariant.1 (turn_done (places_at a.t.now a.rows) l.invariant.0
           (rw c.read.ensures at c.claim_row.ensures) y),
     )
 
 pub returns : goal.returns
 returns c =
     let l = c.loop-i in let a = c.args in
-    shares_whole a.t.now a.rows l.i c.loop-i-test.false l.invariant.0 l.invariant.3
-
-pub overflow_cast-own : goal.overflow_cast-own
-overflow_cast-own c = let f = c.requires.table_known.few in omega arith
-
-pub read-requires : goal.read-requires
-read-requires c = let f = c.requires.table_known.few in
-    let s = c.requires.table_known.stand in (omega arith, omega arith)
-
-pub claim_row-requires : goal.claim_row-requires
-claim_row-requires c = record {
-  row_facts = rw c.read.ensures (c.requires.table_known.row c.loop-i.i
-      c.loop-i-test.true);
-  len_in_bounds = rw c.loop-i.invariant.1 c.requires.len_in_bounds;
-}
-
-pub shape_of-stamps-then-not-claim_row : goal.shape_of-stamps-then-not-claim_row
-shape_of-stamps-then-not-claim_row c = c.claim_row.auto.stamps
-    ∙ c.loop-i.invariant.1
-
-pub shape_of-stamps : goal.shape_of-stamps
-shape_of-stamps c = c.loop-i.invariant.1
+    shares_whole a.t.now a.rows l.i c.loop-i-test.false l.auto.i-end l.invariant.1

@@ -1,36 +1,22 @@
-use mathlib.Core.Path.{refl, sym}
+use mathlib.Core.Path.{sym}
 use Prim.Native.Nat.{◌<◌}
 use native.Mathlib.Omega.{arith}
-use Rattle.below.specs.Below.{holds_not}
 use Rattle.sharing.specs.Pairs.{shares_whole}
 use Rattle.sharing.specs.Follow.{passed_none, passed_more}
 use Rattle.sharing.proofs.rows_follow.Goals as goal
-
-pub read-row-requires : goal.read-row-requires
-read-row-requires c =
-    let p = c.requires in
-    let f = p.few in
-    let s = p.stand in
-    (omega arith, omega arith)
 
 pub loop-i-preserved : goal.loop-i-preserved
 loop-i-preserved c =
     let l = c.loop-i in
     let e = c.read-row.ensures in
-    let m : l.last < c.read-row.result.start = omega (arith, c.if-row-last.false) in (
-      omega arith,
-      rw e (passed_more c.requires l.i l.last c.loop-i-test.true (rw e at m)
-          l.invariant.1),
-    )
+    let m : l.last < c.read-row.result.start = omega (arith, c.if-row-last.false) in
+    rw e (passed_more c.requires l.i l.last c.loop-i-test.true (rw e at m) l.invariant)
 
 pub returns : goal.returns
 returns c = λ y.
     let l = c.loop-i in
     let a = c.args in
-    sym (shares_whole a.t.now a.rows l.i c.loop-i-test.false l.invariant.0 l.invariant.1.apart)
+    sym (shares_whole a.t.now a.rows l.i c.loop-i-test.false l.auto.i-end l.invariant.apart)
 
 pub loop-i-init : goal.loop-i-init
-loop-i-init c = (omega arith, passed_none _ _ _)
-
-pub returns-then-row-last : goal.returns-then-row-last
-returns-then-row-last c y = holds_not y refl
+loop-i-init c = passed_none _ _ _

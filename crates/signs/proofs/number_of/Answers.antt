@@ -5,7 +5,7 @@ use Rattle.signs.proofs.number_of.Goals as goal
 
 pub returns-in-Byte : goal.returns-in-Byte
 unfolding sign_number
-returns-in-Byte c = (c.wide.ensures.0 ∙ rw c.in-Byte.is, c.wide.ensures.1)
+returns-in-Byte c = (c.from.ensures ∙ rw c.in-Byte.is, omega arith)
 
 pub returns-in-Break : goal.returns-in-Break
 unfolding sign_number

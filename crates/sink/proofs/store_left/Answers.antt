@@ -1,13 +1,12 @@
-use mathlib.Core.Path.{◌≡◌, refl, sym, ◌∙◌}
+use mathlib.Core.Path.{◌≡◌, sym, ◌∙◌}
 use Prim.Native.Nat.{◌+◌}
 use native.Mathlib.Nat.{add-zero}
 use native.Mathlib.Omega.{arith}
-use lib.ListN.{length-set}
 use Rattle.sink.specs.Stored.{store_on, store_done}
 use Rattle.sink.proofs.store_left.Goals as goal
 
 pub returns-then-s-j : goal.returns-then-s-j
-returns-then-s-j c = sym (store_done _ _ _ _ c.if-s-j.true) ∙ c.loop-k.invariant.3
+returns-then-s-j c = sym (store_done _ _ _ _ c.if-s-j.true) ∙ c.loop-k.invariant.1
 
 pub loop-k-preserved : goal.loop-k-preserved
 loop-k-preserved c =
@@ -15,22 +14,14 @@ loop-k-preserved c =
     let a = c.args in
     let e : a.i + (l.k + 1) ≡ a.i + l.k + 1 = omega arith in (
       omega arith,
-      omega arith,
-      rw length-set l.invariant.2,
-      rw e (store_on l.out a.s.now a.at (a.i + l.k) (omega arith) ∙ l.invariant.3),
+      rw e (store_on l.out a.s.now a.at (a.i + l.k) (omega arith) ∙ l.invariant.1),
     )
 
 pub returns : goal.returns
 returns c =
     let l = c.loop-k in
     let a = c.args in
-    sym (store_done l.out a.s.now a.at (a.i + l.k) (omega arith)) ∙ l.invariant.3
+    sym (store_done l.out a.s.now a.at (a.i + l.k) (omega arith)) ∙ l.invariant.1
 
 pub loop-k-init : goal.loop-k-init
-loop-k-init c = (omega arith, omega arith, refl, rw add-zero)
-
-pub shape_of-out-then-s-j : goal.shape_of-out-then-s-j
-shape_of-out-then-s-j c = c.loop-k.invariant.2
-
-pub shape_of-out : goal.shape_of-out
-shape_of-out c = c.loop-k.invariant.2
+loop-k-init c = (omega arith, rw add-zero)

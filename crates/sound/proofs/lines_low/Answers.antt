@@ -9,11 +9,11 @@ with_four-laid-requires c =
     let s = c.requires in
     let d = div-mul-le_self c.args.e 4 in record {
       standing = record { few_rows = s.few_rows; few_lines = omega arith; stand = omega arith };
-      over = c.loop-k.invariant.1;
+      over = c.loop-k.invariant;
     }
 
 pub loop-k-preserved : goal.loop-k-preserved
-loop-k-preserved c = (omega arith, over_same (omega arith) c.with_four-laid.ensures)
+loop-k-preserved c = over_same (omega arith) c.with_four-laid.ensures
 
 pub rest_low-requires : goal.rest_low-requires
 rest_low-requires c =
@@ -21,11 +21,11 @@ rest_low-requires c =
     let d = div-add-mod' e 4 in
     let m : e % 4 < 4 = mod-lt e (omega arith) in record {
       standing = (c.requires, omega arith, omega arith);
-      over = over_same (omega (arith, c.loop-k-test.false)) c.loop-k.invariant.1;
+      over = over_same (omega (arith, c.loop-k-test.false)) c.loop-k.invariant;
     }
 
 pub loop-k-init : goal.loop-k-init
-loop-k-init c = (omega arith, over_none _ _ _)
+loop-k-init c = over_none _ _ _
 
 pub overflow_mul-k : goal.overflow_mul-k
 overflow_mul-k c = let d = div-mul-le_self c.args.e 4 in let s = c.requires.few_lines in omega arith

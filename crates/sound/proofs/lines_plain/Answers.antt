@@ -12,7 +12,7 @@ plain_here : (c : After-line_plain) → c.line_plain.result
 plain_here c = c.line_plain.ensures ∙ rw (c.read.ensures, c.base.ensures)
 
 pub loop-k-init : goal.loop-k-init
-loop-k-init c = (omega arith, all_none _)
+loop-k-init c = all_none _
 
 pub returns-then-low : goal.returns-then-low
 returns-then-low c = sym (c.requires.n_value c.if-low.true)
@@ -23,14 +23,11 @@ returns-then-not-line_plain c = sym (all_fails _ _ c.loop-k.k (omega arith)
     (sym (plain_here (goal.at.returns-then-not-line_plain c).After-line_plain) ∙ c.if-not-line_plain.true))
 
 pub loop-k-preserved : goal.loop-k-preserved
-loop-k-preserved c = (
-  omega arith,
-  all_more _ _ c.loop-k.invariant.1
-      (sym (plain_here (goal.at.loop-k-preserved c).After-line_plain) ∙ c.if-not-line_plain.false),
-)
+loop-k-preserved c = all_more _ _ c.loop-k.invariant
+    (sym (plain_here (goal.at.loop-k-preserved c).After-line_plain) ∙ c.if-not-line_plain.false)
 
 pub returns : goal.returns
 unfolding lines_plain
 returns c =
     let e : c.loop-k.k ≡ c.args.n = omega arith in
-    sym (rw e at c.loop-k.invariant.1)
+    sym (rw e at c.loop-k.invariant)

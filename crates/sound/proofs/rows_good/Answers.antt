@@ -13,7 +13,7 @@ use Rattle.sound.proofs.rows_good.Goals.{After-read-c, After-whole_row_good}
 good_here : (c : After-whole_row_good) → c.whole_row_good.result
     ≡ good_at c.args.t.now c.args.h.rows
     c.args.h.lines c.loop-i.i
-good_here c = c.whole_row_good.ensures ∙ rw (c.base-at.ensures, c.loop-i.invariant.2)
+good_here c = c.whole_row_good.ensures ∙ rw (c.base-at.ensures, c.loop-i.invariant.1)
 
 -- the columns read are those of row i
 columns_here : (c : After-read-c) → c.read-c.result
@@ -32,7 +32,6 @@ within_here c =
 pub loop-i-init : goal.loop-i-init
 loop-i-init c = (
   omega arith,
-  omega arith,
   sym (sum_none (lines_at c.args.t.now)),
   sym (max_none (finish_at c.args.t.now)),
   all_none _,
@@ -43,7 +42,7 @@ whole_row_good-requires c =
     let p = c.requires in
     let s = p.standing in record {
       tens = p.tens;
-      standing = (s, c.loop-i.invariant.1, rw c.base-at.ensures (omega (arith, s.stand)));
+      standing = (s, c.loop-i.invariant.0, rw c.base-at.ensures (omega (arith, s.stand)));
       e_value = p.lines_value;
     }
 
@@ -64,11 +63,10 @@ pub loop-i-preserved : goal.loop-i-preserved
 loop-i-preserved c =
     let l = c.loop-i in
     let t = c.args.t.now in (
-      omega arith,
       within_here (goal.at.loop-i-preserved c).After-read-c,
-      rw (l.invariant.2, columns_here (goal.at.loop-i-preserved c).After-read-c) (sym (sum_more (lines_at t) l.i)),
-      c.larger-high.ensures ∙ rw (l.invariant.3, columns_here (goal.at.loop-i-preserved c).After-read-c) (sym (max_more (finish_at t) l.i)),
-      all_more _ _ l.invariant.4 (sym (good_here (goal.at.loop-i-preserved c).After-whole_row_good) ∙ c.if-not-whole_row_good.false),
+      rw (l.invariant.1, columns_here (goal.at.loop-i-preserved c).After-read-c) (sym (sum_more (lines_at t) l.i)),
+      c.larger-high.ensures ∙ rw (l.invariant.2, columns_here (goal.at.loop-i-preserved c).After-read-c) (sym (max_more (finish_at t) l.i)),
+      all_more _ _ l.invariant.3 (sym (good_here (goal.at.loop-i-preserved c).After-whole_row_good) ∙ c.if-not-whole_row_good.false),
     )
 
 pub returns : goal.returns
@@ -77,4 +75,4 @@ returns c =
     let l = c.loop-i in
     let h = c.args.h in
     let e : l.i ≡ h.rows = omega arith in
-    rw (l.invariant.2, l.invariant.3, e, rw e at l.invariant.4)
+    rw (l.invariant.1, l.invariant.2, e, rw e at l.invariant.3)

@@ -25,5 +25,4 @@ returns c =
       lt-leb (length a.s.now) a.at (omega arith),
       ne_eqb _ 38 c.if-b-eq38.false,
       ne_eqb _ 60 c.if-b-eq60.false,
-      c.wide-code.ensures.0,
     )))

@@ -9,24 +9,24 @@ pub returns-then-s-at : goal.returns-then-s-at
 unfolding part_of
 returns-then-s-at c = rw (le-leb (length c.args.s.now) c.args.at (omega arith))
 
-pub returns-in-Is : goal.returns-in-Is
+pub returns-in-Some : goal.returns-in-Some
 unfolding part_of
-returns-in-Is c =
+returns-in-Some c =
     let args = c.args in
     rw (
       lt-leb (length args.s.now) args.at (omega arith),
       eq-eqb _ 38 c.if-b-eq38.true,
-      sym c.reference.ensures ∙ c.in-Is.is,
+      sym c.reference.ensures ∙ c.in-Some.is,
     )
 
-pub returns-in-Bad : goal.returns-in-Bad
+pub returns-in-None : goal.returns-in-None
 unfolding part_of
-returns-in-Bad c =
+returns-in-None c =
     let args = c.args in
     rw (
       lt-leb (length args.s.now) args.at (omega arith),
       eq-eqb _ 38 c.if-b-eq38.true,
-      sym c.reference.ensures ∙ c.in-Bad.is,
+      sym c.reference.ensures ∙ c.in-None.is,
     )
 
 pub returns-then-b-eq60 : goal.returns-then-b-eq60
@@ -47,5 +47,4 @@ returns c =
       lt-leb (length args.s.now) args.at (omega arith),
       ne_eqb _ 38 c.if-b-eq38.false,
       ne_eqb _ 60 c.if-b-eq60.false,
-      c.wide-code.ensures.0,
     )

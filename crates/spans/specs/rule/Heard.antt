@@ -1,14 +1,13 @@
 -- "References: lt gt amp apos quot, `&#d;`, `&#xh;`, in texts and in attribute values, numbers and words included (`start="&#49;"` is 1)."
 -- "Comments stand wherever XML lets them, in texts too (`<size>1<!--x-->0</size>` is 10)": they say nothing.
 -- What a stretch says: each byte itself, a reference its character, a comment nothing. 38 is &, 60 33 45 45 is <!--.
+use Rattle.std.specs.Prelude.{Option, Some, None}
 use Rattle.std.specs.Prelude.{◌≡◌, false, cond, List, [], ◌∷◌, ◌++◌, ℕ, zero, suc, ◌+◌, ◌-◌, leb, eqb, length, drop, get_or}
 use Rattle.scan.specs.rule.Loop.{Next, Again, Done, loop_of}
 use Rattle.markup.specs.rule.Bytes.{stands}
 use Rattle.markup.specs.rule.Reference.{reference_of}
 use Rattle.markup.specs.rule.Gap.{xml_comment}
 use Rattle.markup.specs.rule.Grammar.{Ref, Note}
-use Rattle.markup.specs.declared.Char.{Char}
-use Rattle.markup.specs.declared.Char.TheVariants.{Is, Bad}
 use Rattle.markup.specs.declared.Skip.{Skip}
 use Rattle.markup.specs.declared.Skip.TheVariants.{Past, Broken}
 use Rattle.spans.specs.declared.First.{First}
@@ -24,9 +23,9 @@ pub data Says : List ℕ → List ℕ → Type 0 where
   note : {u s cs : List ℕ} → Note u → Says s cs → Says (60 ∷ 33 ∷ 45 ∷ 45 ∷ u ++ s) cs
 
 -- ---- the same, read from left to right
-abbrev pub of_char : Char → First
-of_char (Is c n) = One c n
-of_char Bad = Not
+abbrev pub of_char : Option (ℕ × ℕ) → First
+of_char (Some (c, n)) = One c n
+of_char None = Not
 
 abbrev pub of_note : Skip → Part
 of_note (Past n) = Passed n

@@ -35,29 +35,29 @@ write_signs-requires c =
     let h : a.place + a.long ≤ length a.d.now = omega arith in
     let n = length-take-le (a.place + a.long) a.d.now h in
     let k = counted a.latin a.d.now a.place a.long a.list.now h _ _
-    c.count_signs.ensures c.in-Signs.is in record {
+    c.count_signs.ensures c.in-Some.is in record {
       at_in_bounds = omega arith;
       count_value = k.0;
       count_in_bounds = k.1;
     }
 
-pub returns-in-Signs : goal.returns-in-Signs
-returns-in-Signs c =
+pub returns-in-Some : goal.returns-in-Some
+returns-in-Some c =
     let a = c.args in
     let h : a.place + a.long ≤ length a.d.now = omega arith in
     decodes a.latin a.d.now a.place a.long a.list.now h
     (sym c.is_text.ensures
     ∙ c.if-not-is_text.false) _ _ _
     c.count_signs.ensures
-    c.in-Signs.is c.write_signs.ensures
+    c.in-Some.is c.write_signs.ensures
 
-pub returns-in-Short : goal.returns-in-Short
-returns-in-Short c =
+pub returns-in-None : goal.returns-in-None
+returns-in-None c =
     let a = c.args in
     let h : a.place + a.long ≤ length a.d.now = omega arith in
     no_room a.latin a.d.now a.place a.long a.list.now h
     (sym c.is_text.ensures ∙ c.if-not-is_text.false) _
-    c.count_signs.ensures c.in-Short.is
+    c.count_signs.ensures c.in-None.is
 
 pub slice_bounds-is_text-end : goal.slice_bounds-is_text-end
 slice_bounds-is_text-end c = sym (length-take-le _ _ (omega arith))

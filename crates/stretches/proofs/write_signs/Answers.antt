@@ -39,13 +39,6 @@ bounds-list-k c = omega (
   c.requires.count_in_bounds,
 )
 
-pub overflow_add-k : goal.overflow_add-k
-overflow_add-k c = omega (
-  arith,
-  c.loop-k.invariant.2,
-  c.requires.count_in_bounds,
-)
-
 pub loop-k-preserved : goal.loop-k-preserved
 loop-k-preserved c =
     let l = c.loop-k in

@@ -1,5 +1,5 @@
 use mathlib.Core.Path.{◌≡◌}
-use Prim.Native.Nat.{◌+◌, ◌-◌, ◌≤◌, ◌<◌}
+use Prim.Native.Nat.{◌+◌, ◌≤◌, ◌<◌}
 use lib.ListN.{length}
 use lib.Seq.{sets}
 use Rattle.texts.specs.rule.Decode.{numbers_of}
@@ -13,6 +13,3 @@ invariant-loop-k l = (sets l.initial.list 0 (numbers_of (signs_from l.latin l.d 
     × (length l.list ≡ length l.initial.list)
     × (l.c.next ≤ length l.d)
     × (l.c.code < 2097152)
-
-abbrev pub decreases-loop-k : goal.decreases-loop-k
-decreases-loop-k l = l.count - l.k

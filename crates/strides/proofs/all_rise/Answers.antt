@@ -55,11 +55,9 @@ returns-then-not-above_last-2 c =
 pub loop-j-preserved : goal.loop-j-preserved
 loop-j-preserved c =
     let l = c.loop-j in
-    let e : 2 * (l.j + 1) + 1 ≡ 2 * l.j + 1 + 2 = omega arith in (
-      omega arith,
-      rw e (two_more _ _ l.invariant.1 (sym c.above_last.ensures ∙ c.if-not-above_last.false)
-          (sym c.above_last-in-loop-j.ensures ∙ c.if-not-above_last-2.false)),
-    )
+    let e : 2 * (l.j + 1) + 1 ≡ 2 * l.j + 1 + 2 = omega arith in
+    rw e (two_more _ _ l.invariant (sym c.above_last.ensures ∙ c.if-not-above_last.false)
+    (sym c.above_last-in-loop-j.ensures ∙ c.if-not-above_last-2.false))
 
 pub returns-then-n-eq1 : goal.returns-then-n-eq1
 unfolding all_rise
@@ -81,13 +79,13 @@ returns c =
     let m : (n - 1) % 2 < 2 = mod-lt (n - 1) (omega arith) in
     last_rise _ _ (n - 1) _ (omega (arith, c.if-n-eq0.false, c.if-n-eq1.false))
     (omega (arith, c.if-n-eq0.false))
-    (all_down _ (2 * l.j + 1) _ (omega (arith, c.loop-j-test.false)) l.invariant.1) (sym c.above_last-2.ensures)
+    (all_down _ (2 * l.j + 1) _ (omega (arith, c.loop-j-test.false)) l.invariant) (sym c.above_last-2.ensures)
 
 pub overflow_sub-pairs : goal.overflow_sub-pairs
 overflow_sub-pairs c = omega (arith, c.if-n-eq0.false)
 
 pub loop-j-init : goal.loop-j-init
-loop-j-init c = (omega arith, rises_first _)
+loop-j-init c = rises_first _
 
 pub overflow_mul-k : goal.overflow_mul-k
 overflow_mul-k c = let d = div-mul-le_self (c.args.n - 1) 2 in let f = c.requires.few in omega arith
@@ -97,10 +95,6 @@ overflow_add-k c = let d = div-mul-le_self (c.args.n - 1) 2 in let f = c.require
 
 pub overflow_add-k-in-loop-j : goal.overflow_add-k-in-loop-j
 overflow_add-k-in-loop-j c = let d = div-mul-le_self (c.args.n - 1) 2 in
-    let f = c.requires.few in omega arith
-
-pub overflow_add-j : goal.overflow_add-j
-overflow_add-j c = let d = div-mul-le_self (c.args.n - 1) 2 in
     let f = c.requires.few in omega arith
 
 pub overflow_sub-n : goal.overflow_sub-n

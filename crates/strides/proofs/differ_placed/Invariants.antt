@@ -1,8 +1,6 @@
 -- `strides::differ_placed` meets its contract. The invariant: the numbers differ as far as they were looked at, and left their marks.
 use mathlib.Core.Path.{◌≡◌}
 use mathlib.Core.Bool.{true}
-use Prim.Native.Nat.{◌≤◌, ◌-◌}
-use lib.ListN.{length}
 use Rattle.below.specs.rule.Below.{all_below}
 use Rattle.cells.specs.rule.Cell.{count_of}
 use Rattle.strides.specs.rule.Stride.{stride_at, number_new}
@@ -10,8 +8,5 @@ use Rattle.strides.specs.Stride.{Left}
 use Rattle.strides.proofs.differ_placed.Given as goal
 
 abbrev pub invariant-loop-k : goal.invariant-loop-k
-invariant-loop-k l = (l.k ≤ l.n) × (length l.marks ≡ length l.initial.marks) × Left count_of (stride_at l.t l.at l.step) l.k l.marks
+invariant-loop-k l = Left count_of (stride_at l.t l.at l.step) l.k l.marks
     × (all_below l.k (number_new (stride_at l.t l.at l.step)) ≡ true)
-
-abbrev pub decreases-loop-k : goal.decreases-loop-k
-decreases-loop-k l = l.n - l.k

@@ -25,7 +25,7 @@ here c =
     )
 
 pub loop-j-init : goal.loop-j-init
-loop-j-init c = (omega arith, all_none _)
+loop-j-init c = all_none _
 
 pub returns-then-same : goal.returns-then-same
 unfolding number_new
@@ -35,14 +35,10 @@ returns-then-same c =
     (ap not (sym (here c.before) ∙ c.if-same.true)))
 
 pub loop-j-preserved : goal.loop-j-preserved
-loop-j-preserved c = (
-  omega arith,
-  all_more _ _ c.loop-j.invariant.1
-      (ap not (sym (here c.before) ∙ c.if-same.false)),
-)
+loop-j-preserved c = all_more _ _ c.loop-j.invariant (ap not (sym (here c.before) ∙ c.if-same.false))
 
 pub returns : goal.returns
 unfolding number_new
 returns c =
     let e : c.loop-j.j ≡ c.args.k = omega arith in
-    sym (rw e at c.loop-j.invariant.1)
+    sym (rw e at c.loop-j.invariant)

@@ -8,7 +8,7 @@ use Rattle.tags.proofs.Usuals.{each_next, each_over}
 use Rattle.tags.proofs.is_name_there.Goals as goal
 
 pub loop-i-init : goal.loop-i-init
-loop-i-init c = (rw (add-zero c.args.at), λ r. r, omega arith)
+loop-i-init c = (rw (add-zero c.args.at), λ r. r)
 
 pub loop-i-preserved : goal.loop-i-preserved
 unfolding of_kind
@@ -18,7 +18,6 @@ loop-i-preserved c =
       l.invariant.0 ∙ stands_next a.d.now a.at a.w.now l.i (omega arith) (omega arith) c.if-d-at.false,
       λ r. l.invariant.1 (each_next (of_kind 1) a.w.now l.i (omega arith)
           (sym c.is_name.ensures ∙ c.if-not-is_name.false) r),
-      omega arith,
     )
 
 pub returns : goal.returns

@@ -23,7 +23,7 @@ measure-requires c =
     }
 
 pub returns-then-list-n : goal.returns-then-list-n
-returns-then-list-n c = no_room _ _ _ _ (omega arith) c.measure.ensures c.in-Signs.is
+returns-then-list-n c = no_room _ _ _ _ (omega arith) c.measure.ensures c.in-Some.is
     c.if-list-n.true
 
 pub write-requires : goal.write-requires
@@ -32,17 +32,17 @@ write-requires c =
     let h : a.place + a.long ≤ length a.d.now = omega arith in record {
       classes = c.classes-classes.ensures;
       count_value = counted _ _ _ a.list.now h c.measure.ensures
-          c.in-Signs.is;
+          c.in-Some.is;
       count_in_bounds = omega arith;
     }
 
 pub returns-else-list-n : goal.returns-else-list-n
 returns-else-list-n c = decodes _ _ _ _ (omega arith) c.measure.ensures
-    c.in-Signs.is c.if-list-n.false
+    c.in-Some.is c.if-list-n.false
     c.write.ensures
 
-pub returns-in-NotText : goal.returns-in-NotText
-returns-in-NotText c = no_text_lem _ _ _ _ (omega arith) c.measure.ensures c.in-NotText.is
+pub returns-in-None : goal.returns-in-None
+returns-in-None c = no_text_lem _ _ _ _ (omega arith) c.measure.ensures c.in-None.is
 
 pub slice_bounds-measure-end : goal.slice_bounds-measure-end
 slice_bounds-measure-end c = sym (length-take-le _ _ (omega arith))

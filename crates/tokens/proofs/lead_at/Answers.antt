@@ -13,32 +13,13 @@ pub loop-i-preserved : goal.loop-i-preserved
 loop-i-preserved c =
     let l = c.loop-i in
     let at = c.args.at in
-    let q : (l.i - at) + 1 ≡ (l.i + 1) - at = omega (arith, l.invariant.1) in (
+    let q : (l.i - at) + 1 ≡ (l.i + 1) - at = omega arith in (
       l.invariant.0 ∙ lead_next _ l.i l.v (l.i - at) (omega arith) (omega arith) (omega arith) (omega arith) ∙ rw q,
-      omega (arith, l.invariant.1),
+      omega arith,
       omega arith,
     )
 
-pub returns-then-b-lt48 : goal.returns-then-b-lt48
-returns-then-b-lt48 c = let l = c.loop-i in record {
-  at_value = l.invariant.0;
-  at_le_end = (l.invariant.1, l.invariant.2);
-}
-
-pub returns-then-b-gt57 : goal.returns-then-b-gt57
-returns-then-b-gt57 c = let l = c.loop-i in record {
-  at_value = l.invariant.0;
-  at_le_end = (l.invariant.1, l.invariant.2);
-}
-
-pub returns-then-v-gt99999999999999 : goal.returns-then-v-gt99999999999999
-returns-then-v-gt99999999999999 c = let l = c.loop-i in record {
-  at_value = l.invariant.0;
-  at_le_end = (l.invariant.1, l.invariant.2);
-}
-
 pub returns : goal.returns
-returns c = let l = c.loop-i in record {
-  at_value = l.invariant.0;
-  at_le_end = (l.invariant.1, l.invariant.2);
-}
+returns c =
+    let e : c.max.result ≡ c.loop-i.i = omega arith in
+    record { at_value = rw e c.loop-i.invariant.0; at_le_end = (omega arith, omega arith) }

@@ -7,7 +7,7 @@ use Rattle.uses.specs.Uses.{laid_none}
 use Rattle.uses.proofs.rows_unused.Goals as goal
 
 pub loop-i-init : goal.loop-i-init
-loop-i-init c = (omega arith, sym (all_none _))
+loop-i-init c = sym (all_none _)
 
 pub read-c-requires : goal.read-c-requires
 read-c-requires c = rw c.base.ensures (omega arith)
@@ -16,10 +16,10 @@ pub loop-i-preserved : goal.loop-i-preserved
 loop-i-preserved c =
     let l = c.loop-i in
     let e = c.read-c.ensures ∙ ap (columns_at c.args.t.now) c.base.ensures in
-    (omega arith, laid_none l.laid c.read-c.result.usage c.read-c.result.filter ∙ rw (l.invariant.1, e) (sym (all_next _ l.i)))
+    laid_none l.laid c.read-c.result.usage c.read-c.result.filter ∙ rw (l.invariant, e) (sym (all_next _ l.i))
 
 pub returns : goal.returns
 unfolding rows_unused
 returns c =
     let e : c.loop-i.i ≡ c.args.v = omega arith in
-    rw e at c.loop-i.invariant.1
+    rw e at c.loop-i.invariant

@@ -13,7 +13,7 @@ line_here : (c : After-read) → c.read.result
 line_here c = c.read.ensures ∙ rw c.base.ensures
 
 pub loop-j-init : goal.loop-j-init
-loop-j-init c = (omega arith, all_none _)
+loop-j-init c = all_none _
 
 pub read-requires : goal.read-requires
 read-requires c = rw c.base.ensures (omega arith)
@@ -24,14 +24,10 @@ returns-then-read-ne0 c = sym (all_fails _ _ c.loop-j.j (omega arith)
     (rw (← line_here c.before.before) (ne_eqb _ 0 c.if-read-ne0.true)))
 
 pub loop-j-preserved : goal.loop-j-preserved
-loop-j-preserved c = (
-  omega arith,
-  all_more _ _ c.loop-j.invariant.1
-      (rw (← line_here c.before.before) (eq-eqb _ 0 c.if-read-ne0.false)),
-)
+loop-j-preserved c = all_more _ _ c.loop-j.invariant (rw (← line_here c.before.before) (eq-eqb _ 0 c.if-read-ne0.false))
 
 pub returns : goal.returns
 unfolding specials_none
 returns c =
     let e : c.loop-j.j ≡ c.args.e = omega arith in
-    sym (rw e at c.loop-j.invariant.1)
+    sym (rw e at c.loop-j.invariant)

@@ -28,7 +28,7 @@ weight_here : (c : After-is_use-weights) → c.is_use-weights.result
 weight_here c = c.is_use-weights.ensures ∙ rw (columns_here c.before.before.before.before)
 
 pub loop-i-init : goal.loop-i-init
-loop-i-init c = (omega arith, omega arith, omega arith, sym (sum_none _), sym (sum_none _), all_none _)
+loop-i-init c = (omega arith, omega arith, sym (sum_none _), sym (sum_none _), all_none _)
 
 pub read-c-requires : goal.read-c-requires
 read-c-requires c = rw c.base.ensures (omega arith)
@@ -47,12 +47,11 @@ overflow_add-weights c = omega (arith, c.is_use-weights.ensures, use_one c.read-
 pub loop-i-preserved : goal.loop-i-preserved
 loop-i-preserved c =
     let inv = c.loop-i.invariant in (
-      omega arith,
       omega (arith, c.is_use-serials.ensures, use_one c.read-c.result.usage 1),
       omega (arith, c.is_use-weights.ensures, use_one c.read-c.result.usage 2),
-      rw (inv.3, serial_here c.before) (sym (sum_more _ c.loop-i.i)),
-      rw (inv.4, weight_here c) (sym (sum_more _ c.loop-i.i)),
-      all_more _ _ inv.5 (sym (good_here c.before.before.before) ∙ c.if-not-use_good.false),
+      rw (inv.2, serial_here c.before) (sym (sum_more _ c.loop-i.i)),
+      rw (inv.3, weight_here c) (sym (sum_more _ c.loop-i.i)),
+      all_more _ _ inv.4 (sym (good_here c.before.before.before) ∙ c.if-not-use_good.false),
     )
 
 pub returns : goal.returns
@@ -60,4 +59,4 @@ unfolding uses_good
 returns c =
     let l = c.loop-i in
     let e : l.i ≡ c.args.v = omega arith in
-    sym (and_yes _ _ (rw e at l.invariant.5) ∙ rw (l.invariant.3, l.invariant.4, e))
+    sym (and_yes _ _ (rw e at l.invariant.4) ∙ rw (l.invariant.2, l.invariant.3, e))

@@ -1,11 +1,8 @@
 use mathlib.Core.Path.{◌≡◌}
-use Prim.Native.Nat.{◌+◌, ◌-◌, ◌≤◌}
+use Prim.Native.Nat.{◌+◌, ◌≤◌}
 use lib.ListN.{length}
 use Rattle.utf.specs.rule.Cut.{first_bad}
 use Rattle.utf.proofs.walk.Given as goal
 
 abbrev pub invariant-loop-k : goal.invariant-loop-k
-invariant-loop-k l = (first_bad l.latin l.d l.at ≡ first_bad l.latin l.d l.i) × (l.at + l.k ≤ l.i) × (l.i ≤ length l.d)
-
-abbrev pub decreases-loop-k : goal.decreases-loop-k
-decreases-loop-k l = 16 - l.k
+invariant-loop-k l = (first_bad l.latin l.d l.at ≡ first_bad l.latin l.d l.i) × (l.at + l._k ≤ l.i) × (l.i ≤ length l.d)

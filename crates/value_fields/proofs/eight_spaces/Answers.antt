@@ -21,16 +21,13 @@ more s i k all f e j h =
     (lt_or_le j k)
 
 pub loop-k-preserved : goal.loop-k-preserved
-loop-k-preserved c =
-    let l = c.loop-k in
-    let a = c.args in
-    (omega arith, more a.s.now a.i l.k l.all l.invariant.1)
+loop-k-preserved c = let l = c.loop-k in more c.args.s.now c.args.i l.k l.all l.invariant
 
 pub returns : goal.returns
 returns c e =
     let l = c.loop-k in
     let q : l.k ≡ 8 = omega arith in
-    rw q at (l.invariant.1 e)
+    rw q at (l.invariant e)
 
 pub loop-k-init : goal.loop-k-init
-loop-k-init c = (omega arith, λ e j h. absurd (omega arith))
+loop-k-init c = λ e j h. absurd (omega arith)

@@ -4,7 +4,7 @@ use Rattle.value_fields.specs.Legal.{full_next, row_fits, row_lined}
 use Rattle.value_fields.proofs.mark_full.Goals as goal
 
 pub loop-i-init : goal.loop-i-init
-loop-i-init c = (omega arith, λ i h e. absurd (omega arith))
+loop-i-init c = λ i h e. absurd (omega arith)
 
 pub read-row-requires : goal.read-row-requires
 read-row-requires c = row_stands c.requires c.loop-i-test.true
@@ -18,17 +18,8 @@ bounds-full-i c = row_fits c.requires c.loop-i-test.true
 pub loop-i-preserved : goal.loop-i-preserved
 loop-i-preserved c =
     let l = c.loop-i in
-    let a = c.args in (
-      omega (arith, c.loop-i-test.true),
-      rw c.bit_of.ensures (full_next a.t.now a.h.rows l.full l.i _ l.invariant.1
-          (rw c.read-row.ensures at c.each_legal.ensures)),
-    )
+    let a = c.args in
+    rw c.bit_of.ensures (full_next a.t.now a.h.rows l.full l.i _ l.invariant (rw c.read-row.ensures at c.each_legal.ensures))
 
 pub returns : goal.returns
-returns c = let l = c.loop-i in λ i h e. l.invariant.1 i (omega (arith, c.loop-i-test.false, l.invariant.0)) e
-
-pub overflow_add-i : goal.overflow_add-i
-overflow_add-i c = omega (arith, c.loop-i-test.true)
-
-pub loop-i-smaller : goal.loop-i-smaller
-loop-i-smaller c = omega (arith, c.loop-i-test.true)
+returns c = let l = c.loop-i in λ i h e. l.invariant i (omega arith) e

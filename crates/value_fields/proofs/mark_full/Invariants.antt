@@ -1,10 +1,6 @@
 -- `value_fields::mark_full` meets its contract. The invariant: the rows so far are marked.
-use Prim.Native.Nat.{◌-◌, ◌≤◌}
 use Rattle.value_fields.specs.Legal.{Full}
 use Rattle.value_fields.proofs.mark_full.Given as goal
 
 abbrev pub invariant-loop-i : goal.invariant-loop-i
-invariant-loop-i l = (l.i ≤ l.h.rows) × Full l.t l.h.rows l.i l.full
-
-abbrev pub decreases-loop-i : goal.decreases-loop-i
-decreases-loop-i l = l.h.rows - l.i
+invariant-loop-i l = Full l.t l.h.rows l.i l.full

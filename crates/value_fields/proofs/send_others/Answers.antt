@@ -9,7 +9,7 @@ use mir.Syntax.{w64}
 use Rattle.value_fields.proofs.send_others.Goals as goal
 
 pub loop-j-init : goal.loop-j-init
-loop-j-init c = (omega arith, c.requires.codes.1, all_owed _ _ _ refl)
+loop-j-init c = all_owed _ _ _ refl
 
 pub send_code-end-requires : goal.send_code-end-requires
 send_code-end-requires c =
@@ -22,25 +22,12 @@ send_code-end-requires c =
       );
     }
 
-pub overflow_add-j : goal.overflow_add-j
-overflow_add-j c = omega (arith, c.loop-j-test.true)
-
-pub loop-j-smaller : goal.loop-j-smaller
-loop-j-smaller c = omega (arith, c.loop-j-test.true)
-
 pub loop-j-preserved : goal.loop-j-preserved
 loop-j-preserved c =
-    let h = c.loop-j-test.true in (
-      omega (arith, c.loop-j.invariant.0),
-      omega (arith, h),
-      less_owed (less_owed c.loop-j.invariant.2 (codes_next _ _ _ h c.requires.codes.0.many)
-          c.send_byte-end.ensures) refl
-          (sent_as c.send_code-end.ensures
-          (ap (export_number 0) (to_z-of_z {w = w64} (sfits_of c.number.type_inv) ∙ c.number.ensures))),
-    )
-
-pub shape_of-out : goal.shape_of-out
-shape_of-out c = c.loop-j.invariant.2.same_room
+    less_owed (less_owed c.loop-j.invariant (codes_next _ _ _ c.loop-j-test.true c.requires.codes.0.many)
+    c.send_byte-end.ensures) refl
+    (sent_as c.send_code-end.ensures
+    (ap (export_number 0) (to_z-of_z {w = w64} (sfits_of c.number.type_inv) ∙ c.number.ensures)))
 
 pub returns : goal.returns
-returns c = none_owed c.loop-j.invariant.2 (codes_over _ _ _ c.loop-j-test.false)
+returns c = none_owed c.loop-j.invariant (codes_over _ _ _ c.loop-j-test.false)

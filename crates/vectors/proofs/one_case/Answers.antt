@@ -5,5 +5,5 @@ use Rattle.vectors.proofs.one_case.Goals as goal
 
 pub slice_bounds-run_case-end-3 : goal.slice_bounds-run_case-end-3
 slice_bounds-run_case-end-3 g c =
-    let h = c.bounded-lent.ensures in
+    let h = c.min-lent.ensures in
     simp length-take (omega arith)

@@ -5,5 +5,5 @@ use Rattle.vectors.proofs.put_read.Goals as goal
 
 pub slice_bounds-put_table-end : goal.slice_bounds-put_table-end
 slice_bounds-put_table-end g c =
-    let h = c.bounded-used.ensures in
+    let h = c.min-used.ensures in
     simp length-take (omega arith)

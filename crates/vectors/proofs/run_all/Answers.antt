@@ -5,5 +5,5 @@ use Rattle.vectors.proofs.run_all.Goals as goal
 
 pub slice_bounds-write_all-end-2 : goal.slice_bounds-write_all-end-2
 slice_bounds-write_all-end-2 g c =
-    let h = c.bounded-last.ensures in
+    let h = c.min-last.ensures in
     simp length-take (omega arith)

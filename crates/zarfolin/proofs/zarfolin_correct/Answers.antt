@@ -1,5 +1,5 @@
 -- `zarfolin::zarfolin_correct` meets its contract: what a turn does to the list and the record is said by `corrections` (proofs/Walk.antt).
-use Rattle.std.proofs.Common.{◌≡◌, ◌∙◌, ap, ℕ, ◌<◌, ◌≤◌, ◌*◌, length, arith, Fits, w64}
+use Rattle.std.proofs.Common.{◌≡◌, ◌∙◌, ap, ℕ, ◌<◌, ◌≤◌, length, arith}
 use Rattle.corrections.specs.Correction.{turns_of}
 use Rattle.corrections.proofs.Walk.{State, turns, next, ended, still_ready, turns_most}
 use Rattle.zarfolin.proofs.zarfolin_correct.Goals as goal

@@ -1,6 +1,6 @@
 -- What is so at the start of each turn: i corrections are taken, and from the list and the record as they are now the definitions of the
 -- whole give the same as from the start.
-use Rattle.std.proofs.Common.{◌≡◌, ◌≤◌, ◌-◌, ◌++◌, length, take, drop}
+use Rattle.std.proofs.Common.{◌≡◌, ◌≤◌, ◌++◌, length, take, drop}
 use Rattle.corrections.proofs.Walk.{turns}
 use Rattle.corrections.specs.rule.Correction.{corrected_all, written_all}
 use Rattle.zarfolin.proofs.zarfolin_correct.Given as goal
@@ -14,6 +14,3 @@ invariant-loop-i l = record {
   bytes : written_all l.table (drop l.i l.list) l.bytes ≡ written_all l.table l.fn.list l.fn.bytes;
   still : l.i ≡ 0 → (l.list ≡ l.fn.list) × (l.bytes ≡ l.fn.bytes);
 }
-
-abbrev pub decreases-loop-i : goal.decreases-loop-i
-decreases-loop-i l = l.n - l.i

@@ -1,6 +1,6 @@
 -- The face for C and Rust: each answer of a call as four numbers, of which the first is given back. The answers themselves are those of
 -- the public calls: document 01's numbers, with the places, rows and counts that come with them.
-use Rattle.std.specs.Prelude.{◌≡◌, Bool, true, false, cond, List, [], ◌∷◌, ℕ, ltb, ℤ, pos}
+use Rattle.std.specs.Prelude.{◌≡◌, List, [], ◌∷◌, ℕ, ℤ, pos}
 use Rattle.faults.specs.rule.Fault.{fault_number}
 use Rattle.record_values.specs.rule.Record.{fault_cell, cell_of, flag_of}
 use Rattle.records.specs.rule.Verdict as verdict

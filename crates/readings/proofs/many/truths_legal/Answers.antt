@@ -1,42 +1,18 @@
-use mathlib.Core.Path.{◌≡◌, sym, ap, ◌∙◌}
+use mathlib.Core.Path.{sym, ap, ◌∙◌}
 use mathlib.Core.List.{[], ◌∷◌}
-use Prim.Native.Nat.{ℕ, ◌+◌, ◌-◌, ◌<◌}
+use Prim.Native.Nat.{ℕ, ◌-◌}
 use native.Mathlib.Omega.{arith}
-use lib.ListN.{length}
-use Rattle.readings.specs.Many.{none_passed, next_inside, one_passed, all_passed, byte_at}
+use Rattle.readings.specs.Many.{one_passed, byte_at}
 use Rattle.fields.specs.rule.Field.{truth_field}
 use Rattle.sets.specs.rule.Sets.{is_illegal}
 use Rattle.readings.specs.Answer.{illegal_answer}
 use Rattle.readings.proofs.Laws.{as_truth, illegal_back}
 use Rattle.readings.proofs.many.truths_legal.Goals as goal
-use Rattle.readings.proofs.many.truths_legal.Goals.{In-loop-k}
+use Rattle.readings.proofs.many.truths_legal.Goals.{In-loop}
 
--- record k lies in the data
-here : (c : In-loop-k)
-    → c.loop-k.at + c.args.batch.size
-    < length c.args.d.now
-here c = next_inside c.loop-k.invariant c.requires.standing c.loop-k-test.true
-
--- and so does the field's last byte
-field : (c : In-loop-k)
-    → c.loop-k.at + (c.args.row.finish - 1)
-    < length c.args.d.now
-field c = let p = c.requires.row_ready in let h = here c in let i = p.inside in let o = p.ordered in
-    let f = p.from_one in omega arith
-
-pub loop-k-init : goal.loop-k-init
-loop-k-init c = none_passed
-
-pub returns-then-is_illegal : goal.returns-then-is_illegal
-returns-then-is_illegal c e = let z : ◌≡◌ {A = ℕ} 0 1 = cc in absurd (omega arith)
-
-pub overflow_add-at : goal.overflow_add-at
-overflow_add-at c = let h = here (goal.at.overflow_add-at c).In-loop-k in
-    let n = c.requires.standing.near in omega arith
-
-pub loop-k-preserved : goal.loop-k-preserved
-loop-k-preserved c =
-    let l = c.loop-k in
+pub loop-preserved : goal.loop-preserved
+loop-preserved c =
+    let l = c.loop in
     let a = c.args in
     let q = c.requires.row_ready in
     let x = q.inside in let y = q.ordered in let z = q.from_one in
@@ -45,15 +21,3 @@ loop-k-preserved c =
     ∙ sym (illegal_back 0 0 _) ∙ ap illegal_answer (sym (c.truth.ensures 0 0))
     ∙ sym c.is_illegal.ensures ∙ c.if-is_illegal.false in
     one_passed l.invariant g
-
-pub returns : goal.returns
-returns c e = all_passed c.loop-k.invariant c.loop-k-test.false
-
-pub overflow_sub-last : goal.overflow_sub-last
-overflow_sub-last c = let p = c.requires.row_ready in let h = p.from_one in let g = p.ordered in omega arith
-
-pub overflow_add-last : goal.overflow_add-last
-overflow_add-last c = let h = field (goal.at.overflow_add-last c).In-loop-k in omega arith
-
-pub bounds-d-last : goal.bounds-d-last
-bounds-d-last c = field (goal.at.bounds-d-last c).In-loop-k

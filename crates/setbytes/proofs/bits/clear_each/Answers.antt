@@ -3,8 +3,6 @@ use mathlib.Core.Bool.{false}
 use mathlib.Core.List.{[]}
 use Prim.Native.Nat.{◌+◌, ◌-◌}
 use native.Mathlib.Nat.{sub-zero}
-use native.Mathlib.Omega.{arith}
-use lib.ListN.{length-set}
 use Rattle.fieldlaws.specs.RisingLaws.{rising_empty}
 use Rattle.sets.specs.Full.{always}
 use Rattle.setbytes.specs.Sets.{head_is}
@@ -15,18 +13,12 @@ pub loop-i-preserved : goal.loop-i-preserved
 unfolding head_is
 loop-i-preserved c =
     let l = c.loop-i in
-    let a = c.args in (
-      omega arith,
-      simp length-set l.invariant.1,
-      taken always a.at a.w l.bytes l.i c.loop-i-test.true [] 0 false refl
-          (record { rising = rising_empty (l.i + 1) (a.w - l.i) }) refl ∙ l.invariant.2,
-    )
+    let a = c.args in
+    taken always a.at a.w l.bytes l.i c.loop-i-test.true [] 0 false refl
+    (record { rising = rising_empty (l.i + 1) (a.w - l.i) }) refl ∙ l.invariant
 
 pub returns : goal.returns
-returns c = sym (done _ _ _ _ _ _ c.loop-i-test.false) ∙ c.loop-i.invariant.2
+returns c = sym (done _ _ _ _ _ _ c.loop-i-test.false) ∙ c.loop-i.invariant
 
 pub loop-i-init : goal.loop-i-init
-loop-i-init c = (omega arith, refl, rw sub-zero)
-
-pub shape_of-bytes : goal.shape_of-bytes
-shape_of-bytes c = c.loop-i.invariant.1
+loop-i-init c = rw sub-zero

@@ -4,39 +4,22 @@ use Prim.Native.Nat.{◌+◌, ◌≤◌, ◌<◌}
 use native.Mathlib.Nat.{sub-zero}
 use native.Mathlib.Omega.{arith}
 use lib.IntN.{pos}
-use lib.ListN.{length-set}
+use mir.Val.{bool_byte}
 use Rattle.fields.specs.rule.Legal.{legal}
 use Rattle.setbytes.proofs.BitSteps.{left_on, taken, passed, done}
 use Rattle.setbytes.proofs.bits.put_bits.Goals as goal
-use Rattle.setbytes.proofs.bits.put_bits.Goals.{After-step_of-j}
+use Rattle.setbytes.proofs.bits.put_bits.Goals.{After-from-j, then-allows, else-allows}
 
-step_few : (b : Bool) → cond b 1 0 ≤ 1
-step_few true = omega arith
-step_few false = omega arith
+flag : (b : Bool) → (bool_byte b ≡ cond b 1 0) × (bool_byte b ≤ 1)
+flag true = (refl, omega arith)
+flag false = (refl, omega arith)
 
 -- the step is one for a member
-step : (c : After-step_of-j) → c.step_of-j.result ≤ 1
-step c = rw c.step_of-j.ensures (step_few c.next_is-yes.result)
+step : (c : After-from-j) → (c.from-j.result ≡ cond c.next_is-yes.result 1 0) × (c.from-j.result ≤ 1)
+step c = rw c.from-j.ensures (flag c.next_is-yes.result)
 
 pub loop-i-init : goal.loop-i-init
-loop-i-init c =
-    (omega arith, omega arith, refl, record { rising = rw sub-zero c.requires.bitstring.1 }, rw sub-zero)
-
-pub loop-i-preserved-then-allows : goal.loop-i-preserved-then-allows
-loop-i-preserved-then-allows c =
-    let l = c.loop-i in
-    let a = c.args in
-    let ok = legal a.t.now a.rows a.row in
-    let h : l.i < a.w = c.loop-i-test.true in
-    let yes : ok (pos (l.i + 1)) ≡ true = sym c.allows.ensures ∙ c.if-allows.true in (
-      omega arith,
-      omega (arith, step (goal.at.loop-i-preserved-then-allows c).After-step_of-j),
-      simp length-set l.invariant.2,
-      rw c.step_of-j.ensures
-          (left_on ok a.at a.w l.bytes l.i h a.list.now l.j _ c.next_is-yes.ensures l.invariant.3),
-      rw (c.step_of-j.ensures, c.bit_of.ensures)
-          (taken ok a.at a.w l.bytes l.i h a.list.now l.j _ c.next_is-yes.ensures l.invariant.3 yes ∙ l.invariant.4),
-    )
+loop-i-init c = (omega arith, record { rising = rw sub-zero c.requires.bitstring.1 }, rw sub-zero)
 
 pub loop-i-preserved : goal.loop-i-preserved
 loop-i-preserved c =
@@ -44,28 +27,20 @@ loop-i-preserved c =
     let a = c.args in
     let ok = legal a.t.now a.rows a.row in
     let h : l.i < a.w = c.loop-i-test.true in
-    let no : ok (pos (l.i + 1)) ≡ false = sym c.allows.ensures ∙ c.if-allows.false in (
-      omega arith,
-      omega (arith, step (goal.at.loop-i-preserved c).After-step_of-j),
-      l.invariant.2,
-      rw c.step_of-j.ensures (left_on ok a.at a.w l.bytes l.i h a.list.now l.j _ c.next_is-yes.ensures
-          l.invariant.3),
-      rw c.step_of-j.ensures
-          (passed ok a.at a.w l.bytes l.i h a.list.now l.j _ c.next_is-yes.ensures l.invariant.3 no ∙ l.invariant.4),
+    let s = step (goal.at.loop-i-preserved c).After-from-j in (
+      omega (arith, s.1),
+      rw s.0 (left_on ok a.at a.w l.bytes l.i h a.list.now l.j _ c.next_is-yes.ensures l.invariant.1),
+      elim c.if-allows.branch [
+        | then-allows w ↦
+            let yes : ok (pos (l.i + 1)) ≡ true = sym c.allows.ensures ∙ w.if-allows.true in
+            rw (w.bytes-is, s.0, w.bit_of.ensures)
+            (taken ok a.at a.w l.bytes l.i h a.list.now l.j _ c.next_is-yes.ensures l.invariant.1 yes ∙ l.invariant.2)
+        | else-allows w ↦
+            let no : ok (pos (l.i + 1)) ≡ false = sym c.allows.ensures ∙ w.if-allows.false in
+            rw (w.bytes-is, s.0)
+            (passed ok a.at a.w l.bytes l.i h a.list.now l.j _ c.next_is-yes.ensures l.invariant.1 no ∙ l.invariant.2)
+      ],
     )
 
 pub returns : goal.returns
-returns c = sym (done _ _ _ _ _ _ c.loop-i-test.false) ∙ c.loop-i.invariant.4
-
-pub overflow_add-j : goal.overflow_add-j
-overflow_add-j c = omega (arith, step c)
-
-pub allows-requires : goal.allows-requires
-allows-requires c = record {
-  line_facts = c.requires.line_facts;
-  marks = c.requires.marks;
-  c_bound = omega arith;
-}
-
-pub shape_of-bytes : goal.shape_of-bytes
-shape_of-bytes c = c.loop-i.invariant.2
+returns c = sym (done _ _ _ _ _ _ c.loop-i-test.false) ∙ c.loop-i.invariant.2

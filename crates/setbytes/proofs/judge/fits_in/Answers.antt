@@ -34,30 +34,22 @@ returns-then-not-lies_in c =
     (first (goal.at.returns-then-not-lies_in c).After-lies_in ∙ c.if-not-lies_in.true)))
 
 pub loop-i-init : goal.loop-i-init
-loop-i-init c = (
-  omega arith,
-  some (goal.at.loop-i-init c).After-lies_in,
-  fits_first _ _ (some (goal.at.loop-i-init c).After-lies_in) (first (goal.at.loop-i-init c).After-lies_in ∙ c.if-not-lies_in.false),
-)
+loop-i-init c =
+    fits_first _ _ (some (goal.at.loop-i-init c).After-lies_in) (first (goal.at.loop-i-init c).After-lies_in ∙ c.if-not-lies_in.false)
 
 pub returns-then-not-next_in : goal.returns-then-not-next_in
 returns-then-not-next_in c =
     let l = c.loop-i in
     rw (← to_z-of_z c.ranges.from, ← to_z-of_z c.ranges.to)
-    (sym (l.invariant.2 ∙ bad_on _ c.args.list.now l.i
+    (sym (l.invariant ∙ bad_on _ c.args.list.now l.i
     c.loop-i-test.true (sym c.next_in.ensures ∙ c.if-not-next_in.true)))
 
 pub loop-i-preserved : goal.loop-i-preserved
 loop-i-preserved c =
-    let l = c.loop-i in (
-      omega arith,
-      omega arith,
-      l.invariant.2 ∙ good_on _
-          c.args.list.now l.i
-          c.loop-i-test.true (sym c.next_in.ensures ∙ c.if-not-next_in.false),
-    )
+    let l = c.loop-i in
+    l.invariant ∙ good_on _ c.args.list.now l.i c.loop-i-test.true (sym c.next_in.ensures ∙ c.if-not-next_in.false)
 
 pub returns : goal.returns
 returns c =
     rw (← to_z-of_z c.ranges.from, ← to_z-of_z c.ranges.to)
-    (sym (c.loop-i.invariant.2 ∙ good_end _ c.args.list.now _ c.loop-i-test.false))
+    (sym (c.loop-i.invariant ∙ good_end _ c.args.list.now _ c.loop-i-test.false))

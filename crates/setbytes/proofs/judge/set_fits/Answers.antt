@@ -25,36 +25,21 @@ returns-then-not-allows_number c = sym (fits_bad _ _ (some (goal.at.returns-then
     (first (goal.at.returns-then-not-allows_number c).After-allows_number ∙ c.if-not-allows_number.true))
 
 pub loop-i-init : goal.loop-i-init
-loop-i-init c = (
-  omega arith,
-  some (goal.at.loop-i-init c).After-allows_number,
-  fits_first _ _ (some (goal.at.loop-i-init c).After-allows_number)
-      (first (goal.at.loop-i-init c).After-allows_number ∙ c.if-not-allows_number.false),
-)
+loop-i-init c =
+    fits_first _ _ (some (goal.at.loop-i-init c).After-allows_number)
+    (first (goal.at.loop-i-init c).After-allows_number ∙ c.if-not-allows_number.false)
 
 pub returns-then-not-next_good : goal.returns-then-not-next_good
 returns-then-not-next_good c =
     let l = c.loop-i in
-    sym (l.invariant.2 ∙ bad_on _ c.args.list.now l.i
+    sym (l.invariant ∙ bad_on _ c.args.list.now l.i
     c.loop-i-test.true (sym c.next_good.ensures ∙ c.if-not-next_good.true))
 
 pub loop-i-preserved : goal.loop-i-preserved
 loop-i-preserved c =
-    let l = c.loop-i in (
-      omega arith,
-      omega arith,
-      l.invariant.2 ∙ good_on _
-          c.args.list.now l.i
-          c.loop-i-test.true (sym c.next_good.ensures ∙ c.if-not-next_good.false),
-    )
+    let l = c.loop-i in
+    l.invariant ∙ good_on _ c.args.list.now l.i c.loop-i-test.true (sym c.next_good.ensures ∙ c.if-not-next_good.false)
 
 pub returns : goal.returns
-returns c = sym (c.loop-i.invariant.2 ∙ good_end _ c.args.list.now _
+returns c = sym (c.loop-i.invariant ∙ good_end _ c.args.list.now _
     c.loop-i-test.false)
-
-pub next_good-requires : goal.next_good-requires
-next_good-requires c = record {
-  line_facts = c.requires.line_facts;
-  marks = c.requires.marks;
-  marks_len_bound = (c.requires.marks_len_bound, omega arith);
-}

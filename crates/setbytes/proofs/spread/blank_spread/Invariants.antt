@@ -1,16 +1,13 @@
 -- `setbytes::spread::blank_spread` meets its contract. The invariant: what is left to put gives the whole.
 use mathlib.Core.Path.{◌≡◌}
-use Prim.Native.Nat.{◌+◌, ◌*◌, ◌≤◌}
+use Prim.Native.Nat.{◌+◌, ◌-◌, ◌*◌, ◌≤◌}
 use lib.ListN.{length}
 use Rattle.places.specs.rule.Places.{put}
 use Rattle.fields.specs.rule.Field.{spaces}
 use Rattle.fields.specs.rule.Row.{spread_places}
 use Rattle.setbytes.proofs.spread.blank_spread.Given as goal
 
-abbrev pub invariant-loop-left : goal.invariant-loop-left
-invariant-loop-left l = (length l.bytes ≡ length l.initial.bytes) × (l.at + l.left * l.b ≤ length l.initial.bytes)
-    × (put l.bytes (spread_places l.at l.b l.w l.left) (spaces (length (spread_places l.at l.b l.w l.left)))
+abbrev pub invariant-loop : goal.invariant-loop
+invariant-loop l = (l.at + (l.n - l.counter) * l.b ≤ length l.initial.bytes)
+    × (put l.bytes (spread_places l.at l.b l.w (l.n - l.counter)) (spaces (length (spread_places l.at l.b l.w (l.n - l.counter))))
     ≡ put l.initial.bytes (spread_places l.start l.b l.w l.n) (spaces (length (spread_places l.start l.b l.w l.n))))
-
-abbrev pub decreases-loop-left : goal.decreases-loop-left
-decreases-loop-left l = l.left

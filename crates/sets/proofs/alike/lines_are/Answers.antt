@@ -1,5 +1,5 @@
 use mathlib.Core.Path.{◌≡◌, sym, ap, ◌∙◌}
-use mathlib.Core.Bool.{Bool, true, false}
+use mathlib.Core.Bool.{Bool}
 use Prim.Native.Nat.{ℕ, ◌+◌}
 use native.Mathlib.Omega.{arith}
 use borrow.Author.Rules.{sfits_of}
@@ -39,19 +39,14 @@ returns-then-not-line_is c =
 
 pub loop-k-preserved : goal.loop-k-preserved
 loop-k-preserved c =
-    let l = c.loop-k in (
-      omega arith,
-      all_more (λ k. line (goal.at.loop-k-preserved c).Start k) l.k l.invariant.1
-          (sym (here (goal.at.loop-k-preserved c).After-line_is) ∙ c.if-not-line_is.false),
-    )
+    let l = c.loop-k in
+    all_more (λ k. line (goal.at.loop-k-preserved c).Start k) l.k l.invariant
+    (sym (here (goal.at.loop-k-preserved c).After-line_is) ∙ c.if-not-line_is.false)
 
 pub returns : goal.returns
 returns c =
     let e : c.loop-k.k ≡ c.args.row.lines = omega arith in
-    sym (ap (λ (n : ℕ). all_below n (λ k. line (goal.at.returns c).Start k)) (sym e) ∙ c.loop-k.invariant.1) ∙ all (goal.at.returns c).Start
+    sym (ap (λ (n : ℕ). all_below n (λ k. line (goal.at.returns c).Start k)) (sym e) ∙ c.loop-k.invariant) ∙ all (goal.at.returns c).Start
 
 pub loop-k-init : goal.loop-k-init
-loop-k-init c = (omega arith, all_none _)
-
-pub bounds-t-place : goal.bounds-t-place
-bounds-t-place c = rw c.base-place.ensures (omega arith)
+loop-k-init c = all_none _

@@ -1,5 +1,4 @@
 use mathlib.Core.Path.{◌≡◌, sym, ◌∙◌}
-use mathlib.Core.Bool.{true, false}
 use native.Mathlib.Nat.{add-zero}
 use native.Mathlib.Omega.{arith}
 use Rattle.below.specs.Below.{all_none, all_next, all_more, all_fails}
@@ -12,15 +11,7 @@ pub returns-then-not-is_one : goal.returns-then-not-is_one
 returns-then-not-is_one c = sym (all_fails _ _ 0 (omega arith) (rw add-zero (sym c.is_one.ensures ∙ c.if-not-is_one.true)))
 
 pub loop-k-init : goal.loop-k-init
-loop-k-init c = (omega arith, sym (all_more _ 0 (all_none _) (rw add-zero (sym c.is_one.ensures ∙ c.if-not-is_one.false))))
+loop-k-init c = sym (all_more _ 0 (all_none _) (rw add-zero (sym c.is_one.ensures ∙ c.if-not-is_one.false)))
 
 pub loop-k-preserved : goal.loop-k-preserved
-loop-k-preserved c = (
-  omega arith,
-  rw (c.is_one-good.ensures, c.loop-k.invariant.1)
-      (sym (all_next _ c.loop-k.k)),
-)
-
-pub returns : goal.returns
-returns c = let e : c.loop-k.k ≡ c.args.n = omega arith in
-    rw e at c.loop-k.invariant.1
+loop-k-preserved c = rw (c.is_one-good.ensures, c.loop-k.invariant) (sym (all_next _ c.loop-k.k))

@@ -1,18 +1,19 @@
-use mathlib.Core.Path.{◌≡◌, refl, sym, ap, ◌∙◌}
+use mathlib.Core.Path.{◌≡◌, sym, ap, ◌∙◌}
 use mathlib.Core.List.{◌∷◌}
 use Prim.Native.Nat.{◌+◌}
 use native.Mathlib.Omega.{arith}
 use native.Mathlib.Numerals.{add-one}
 use borrow.Author.Rules.{sfits_of}
 use lib.IntN.{pos}
-use lib.ListN.{length, length-set}
+use lib.ListN.{length}
 use mir.Facts.{to_z-of_z}
-use native.Mathlib.Nat.{sub-zero, zero-add}
+use native.Mathlib.Nat.{sub-zero}
 use Rattle.fields.specs.rule.Legal.{legal}
 use Rattle.sets.proofs.BitLaws.{rest_set, member, no_member, no_set, set_end}
 use Rattle.sets.proofs.FillLaws.{filled}
 use Rattle.sets.proofs.bits.bits_fill.Goals as goal
-use Rattle.sets.proofs.bits.bits_fill.Goals.{Then-bytes-at-eq49}
+use Rattle.sets.proofs.bits.bits_fill.Goals.{Then-bytes-at-eq49, then-allows+then-bytes-at-eq49, then-allows+else-bytes-at-eq49}
+use Rattle.sets.proofs.bits.bits_fill.Goals.{else-allows}
 
 -- a category that is set: the members that are left
 here : (c : Then-bytes-at-eq49) → let a = c.args in
@@ -25,58 +26,37 @@ here c =
     c.loop-i-test.true a.bytes.now a.at
     (sym c.allows.ensures ∙ c.if-allows.true) c.if-bytes-at-eq49.true
 
-pub loop-i-preserved-then-bytes-at-eq49 : goal.loop-i-preserved-then-bytes-at-eq49
-loop-i-preserved-then-bytes-at-eq49 c =
-    let l = c.loop-i in
-    let e = ap length (here (goal.at.loop-i-preserved-then-bytes-at-eq49 c).Then-bytes-at-eq49) in (
-      omega arith,
-      simp length-set l.invariant.1,
-      omega arith,
-      rw (to_z-of_z (sfits_of c.cell_of.type_inv), c.cell_of.ensures, add-one l.n)
-          (rw (here (goal.at.loop-i-preserved-then-bytes-at-eq49 c).Then-bytes-at-eq49) at l.invariant.3),
-    )
-
-pub loop-i-preserved-else-bytes-at-eq49 : goal.loop-i-preserved-else-bytes-at-eq49
-loop-i-preserved-else-bytes-at-eq49 c =
-    let a = c.args in
-    let l = c.loop-i in
-    let e = no_member (legal a.t.now a.rows a.row) a.w l.i c.loop-i-test.true
-    a.bytes.now a.at (sym c.allows.ensures ∙ c.if-allows.true) c.if-bytes-at-eq49.false in
-    (omega arith, l.invariant.1, rw e at l.invariant.2, rw e at l.invariant.3)
-
 pub loop-i-preserved : goal.loop-i-preserved
 loop-i-preserved c =
     let a = c.args in
     let l = c.loop-i in
-    let e = no_set (legal a.t.now a.rows a.row) a.w l.i c.loop-i-test.true a.bytes.now a.at
-    (sym c.allows.ensures ∙ c.if-allows.false) in
-    (omega arith, l.invariant.1, rw e at l.invariant.2, rw e at l.invariant.3)
+    let ok = legal a.t.now a.rows a.row in
+    elim c.if-allows.branch [
+      | then-allows+then-bytes-at-eq49 w ↦
+          let m = member ok a.w l.i c.loop-i-test.true a.bytes.now a.at (sym c.allows.ensures ∙ w.if-allows.true) w.if-bytes-at-eq49.true in
+          let e = ap length m in
+          rw (w.list-is, w.n-is) (
+            omega arith,
+            rw (to_z-of_z (sfits_of w.cell_of.type_inv), w.cell_of.ensures, add-one l.n) (rw m at l.invariant.1),
+          )
+      | then-allows+else-bytes-at-eq49 w ↦
+          rw (
+            w.list-is,
+            w.n-is,
+            ← no_member ok a.w l.i c.loop-i-test.true a.bytes.now a.at (sym c.allows.ensures ∙ w.if-allows.true)
+                w.if-bytes-at-eq49.false,
+          ) l.invariant
+      | else-allows w ↦
+          rw (w.list-is, w.n-is, ← no_set ok a.w l.i c.loop-i-test.true a.bytes.now a.at (sym c.allows.ensures ∙ w.if-allows.false))
+          l.invariant
+    ]
 
 pub returns : goal.returns
 returns c =
     let a = c.args in
     let ok = legal a.t.now a.rows a.row in
-    (rw (set_end ok a.w a.bytes.now a.at c.loop-i.i c.loop-i-test.false) at c.loop-i.invariant.3)
+    (rw (set_end ok a.w a.bytes.now a.at c.loop-i.i c.loop-i-test.false) at c.loop-i.invariant.1)
     ∙ (rw (sub-zero a.w) (filled _ _ c.requires.bytes_in_bounds))
-
-pub loop-i-init : goal.loop-i-init
-loop-i-init c = (omega arith, refl, rw (zero-add, sub-zero) c.requires.bytes_in_bounds, refl)
-
-pub allows-requires : goal.allows-requires
-allows-requires c = record {
-  line_facts = c.requires.line_facts;
-  marks = c.requires.marks;
-  c_bound = omega arith;
-}
-
-pub offset_bounds-list-n : goal.offset_bounds-list-n
-offset_bounds-list-n c = let e = ap length (here (goal.at.offset_bounds-list-n c).Then-bytes-at-eq49) in omega arith
 
 pub bounds-list-n : goal.bounds-list-n
 bounds-list-n c = let e = ap length (here (goal.at.bounds-list-n c).Then-bytes-at-eq49) in omega arith
-
-pub overflow_add-n : goal.overflow_add-n
-overflow_add-n c = let e = ap length (here (goal.at.overflow_add-n c).Then-bytes-at-eq49) in omega arith
-
-pub shape_of-list : goal.shape_of-list
-shape_of-list c = c.loop-i.invariant.1

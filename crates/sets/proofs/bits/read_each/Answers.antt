@@ -1,6 +1,5 @@
 -- `sets::bits::read_each` meets its contract: by what the bytes are, and whether the list has room.
 use mathlib.Core.Path.{◌≡◌, sym, ◌∙◌}
-use mathlib.Core.Bool.{true, false}
 use lib.ListN.{length}
 use Rattle.fields.specs.rule.Legal.{legal}
 use Rattle.fields.specs.rule.Field.{holds, members}

@@ -8,7 +8,7 @@ use Rattle.writes.proofs.plain.write_truth.Goals as goal
 
 pub returns-in-Logical : goal.returns-in-Logical
 unfolding lent_value fits_by places_by bytes_by truth_bytes
-returns-in-Logical c = written_as c.in-Logical.is (accepted refl (rw c.truth_byte.ensures))
+returns-in-Logical c = written_as c.in-Logical.is (accepted refl (rw c.bit_of.ensures))
 
 pub returns-in-Single : goal.returns-in-Single
 unfolding lent_value fits_by

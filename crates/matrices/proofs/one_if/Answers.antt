@@ -1,9 +1,0 @@
--- `matrices::one_if` meets its contract, case by case.
--- Assumes nothing.
-use Rattle.matrices.proofs.one_if.Goals as goal
-
-pub returns-then-b : goal.returns-then-b
-returns-then-b c = rw c.if-b.true
-
-pub returns-else-b : goal.returns-else-b
-returns-else-b c = rw c.if-b.false
