@@ -22,7 +22,6 @@ use Rattle.bridge.specs.Blocks.{form_same, large_same, small, Kept}
 use Rattle.xml_reading.specs.rule.Block.{pair_charges}
 use Rattle.blocks.specs.Code.{held_as, turned, pair_of, block_of, range_block, judged_of}
 use Rattle.blocks.proofs.Charges.{judged_split}
-use Rattle.values.specs.declared.Block.{Block}
 
 -- ---- what a range says, in the books
 abbrev made : Amount → Amount → books.Block
@@ -127,13 +126,13 @@ module _ (quantity below : Bool) (x y : Amount) (n : ℕ) where
   abbrev b : ℕ
   b = y.place
 
-  abbrev refused : ℕ → ℕ → OrFault Block
+  abbrev refused : ℕ → ℕ → OrFault books.Block
   refused k p = Err (fault k p)
 
-  abbrev limit : Bool → Bool → OrFault Block
+  abbrev limit : Bool → Bool → OrFault books.Block
   limit g h = cond g (refused 8 a) (cond h (refused 8 b) (Ok (made x y)))
 
-  abbrev judge : Bool → Bool → Bool → Bool → Bool → Bool → OrFault Block
+  abbrev judge : Bool → Bool → Bool → Bool → Bool → Bool → OrFault books.Block
   judge p q e v g h = cond p (cond q (cond e (cond v (refused 6 b) (limit g h)) (refused 6 b)) (refused 6 b)) (refused 6 a)
 
   judge_is : judge_range below quantity (held_as x) (held_as y)
@@ -161,7 +160,7 @@ module _ (quantity below : Bool) (x y : Amount) (n : ℕ) where
       (omega arith, (omega arith, (omega arith, (omega arith, tt)))) (refl, (refl, tt)) good n
 
   stands : (g h : Bool) → large quantity x ≡ g → large quantity y ≡ h → g ≡ false → h ≡ false
-      → Ok (made x y) ≡ Ok (block_of (range_block good))
+      → ◌≡◌ {A = OrFault books.Block} (Ok (made x y)) (Ok (block_of (range_block good)))
   stands g h i j e f = ap Ok (made_is x y (small quantity x (i ∙ e)) (small quantity y (j ∙ f)))
 
   in_order : leb a b ≡ true → (p q e v g h : Bool) → (p ≡ true → q ≡ true → below ≡ v) → large quantity x ≡ g → large quantity y ≡ h

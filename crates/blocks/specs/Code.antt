@@ -50,12 +50,12 @@ Below d a b r =
     → r ≡ lt_z (number_of b.minus (true_in y)) (number_of a.minus (true_in x))
 
 -- ---- a range, whose second value may stand first: of equal numbers its place goes before then
-abbrev pub turned : Bool → Value → OrFault Block → OrFault Block
+abbrev pub turned : Bool → Value → OrFault books.Block → OrFault books.Block
 turned quantity b (Ok k) = Ok k
 turned quantity b (Err f) =
     Err (cond (eqb f.number 8 && large_of quantity b) (fault 8 b.place) f)
 
-unfoldable pub pair_of : Bool → Bool → Value → Value → OrFault Block
+unfoldable pub pair_of : Bool → Bool → Value → Value → OrFault books.Block
 pair_of below quantity a b =
     cond (ltb b.place a.place)
     (cond (form_of quantity b) (turned quantity b (judge_range below quantity a b)) (Err (fault 6 b.place)))
@@ -79,7 +79,7 @@ block_of c = record {
 abbrev pub range_block : Range → Block
 range_block r = unlisted (some r)
 
-abbrev pub judged_of : Result Range → OrFault Block
+abbrev pub judged_of : Result Range → OrFault books.Block
 judged_of (Is r n) = Ok (block_of (range_block r))
 judged_of (Not f) = Err f
 
@@ -110,7 +110,7 @@ placed_of b s x (Ok z) = unless_of x (grown_by b s.value) s.next
 placed_of b s x (Err f) = lined.Not f
 
 -- a range that was judged
-abbrev pub ranged_of : Found → ℕ → OrFault Block → Lined
+abbrev pub ranged_of : Found → ℕ → OrFault books.Block → Lined
 ranged_of x n (Ok b) = unless_of x b n
 ranged_of x n (Err f) = lined.Not f
 
