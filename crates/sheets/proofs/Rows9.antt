@@ -22,7 +22,7 @@ use Rattle.forms.specs.rule.Form as forms
 use Rattle.forms.specs.rule.Form.{fits_of}
 use Rattle.tags.specs.rule.Tag.{tag_of, stretch_fits}
 use Rattle.tokens.specs.declared.Fault.{Fault}
-use Rattle.tokens.specs.rule.Gap.{fault}
+use Rattle.tokens.specs.rule.Gap.{fault, OrFault}
 use Rattle.tokens.specs.declared.Quoted.{Quoted}
 use Rattle.values.specs.declared.Block as books
 use Rattle.variables.specs.declared.Head.{Head}
@@ -227,7 +227,7 @@ rest_by a e h u v = rw (e, h, u, v)
 used_by_lem : (f : ℕ) {u v : ℕ} {c e : Columns} → u ≡ v → c ≡ e → used_by u f c ≡ used_by v f e
 used_by_lem f h k = rw (h, k)
 
-rest_inj : (a b : Rest) → Ok a ≡ Ok b → a ≡ b
+rest_inj : (a b : Rest) → ◌≡◌ {A = OrFault Rest} (Ok a) (Ok b) → a ≡ b
 rest_inj a b e = cc
 
 -- ---- the columns of a variable that its position holds are small

@@ -16,6 +16,7 @@ use Rattle.survey.specs.rule.Survey.{Figure, KeptText, Spread, Block, Content}
 use Rattle.survey.specs.rule.Width.{block_in}
 use Rattle.survey.specs.rule.Table.{lines_of, lines_all, highest_in, cells_of, all_lines, spread_in}
 use Rattle.reading.specs.rule.Result.{Result, Is, Not, Reader, bind, give}
+use Rattle.statements.specs.declared.Position as books
 use Rattle.reading.specs.rule.Statement.{Position}
 use Rattle.bridge.specs.Statements.{even_or}
 use Rattle.prologs.specs.rule.Told.{declaration_of}
@@ -86,7 +87,7 @@ FrontEnds d (fronted.Is h u n) =
     (n ≤ length d) × (h.name.place + h.name.length ≤ length d) × (1 ≤ h.start) × (h.start ≤ h.finish) × (h.finish ≤ 16384)
 FrontEnds d (fronted.Not f) = Unit
 
-abbrev pub StatedEnds : List ℕ → OrFault Position → Type 0
+abbrev pub StatedEnds : List ℕ → OrFault books.Position → Type 0
 StatedEnds d (Ok q) = (q.next ≤ length d) × (1 ≤ q.start) × (q.start ≤ q.finish) × (q.finish ≤ 16384)
 StatedEnds d (Err f) = Unit
 

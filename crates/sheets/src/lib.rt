@@ -493,7 +493,7 @@ fn rest_in(
 fn settle(powers: &[u64; 16], lines: &[i64], h: Head, r: Rest, before: usize, next: usize) -> Stood
     requires tens { Tens powers.now }
     requires measurable { Measurable lines.now h r before }
-    ensures { result ≡ settled_by (number_in lines.now before) h r before (At next) }
+    ensures { result ≡ settled_by (number_in lines.now before) h r before (Ok next) }
 {
     match measures::measure(powers, lines, h, r, before) {
         Ok(columns) => Stood::Is {

@@ -55,23 +55,23 @@ enter-requires c =
       small_row = small_all _ _ p.d_len_bound.0 _ _ _ _ _ _ _ _
           c.sift_in-s.ensures _ _ p.lines_len.0 _ (rw c.in-Ok.is at
           c.rest_in.ensures) _ c.placeless-q.ensures _ _ _
-          (sym c.in-Ok-settle.is ∙ c.settle.ensures) p.d_len_bound.1.sofar p.front_read;
+          (sym c.in-Is.is ∙ c.settle.ensures) p.d_len_bound.1.sofar p.front_read;
     }
 
-pub returns-in-Ok-settle : goal.returns-in-Ok-settle
-returns-in-Ok-settle c =
+pub returns-in-Is : goal.returns-in-Is
+returns-in-Is c =
     let p = c.requires in
     body_held _ _ p.d_len_bound.0 _ _ _ _ _ _ _ _ c.sift_in-s.ensures _ _ p.lines_len.0 _
     (rw c.in-Ok.is at c.rest_in.ensures) _ c.placeless-q.ensures _ _ _
-    (sym c.in-Ok-settle.is ∙ c.settle.ensures) _ _ c.enter.ensures.value c.enter.ensures.rows_after
+    (sym c.in-Is.is ∙ c.settle.ensures) _ _ c.enter.ensures.value c.enter.ensures.rows_after
 
-pub returns-in-Err-settle : goal.returns-in-Err-settle
-returns-in-Err-settle c =
+pub returns-in-Not : goal.returns-in-Not
+returns-in-Not c =
     let p = c.requires in
     body_unheld _ _ p.d_len_bound.0 _ _ _ _ _ _ _ _
     c.sift_in-s.ensures _ _ p.lines_len.0 _ (rw c.in-Ok.is at
     c.rest_in.ensures) _ c.placeless-q.ensures _ _
-    (sym c.in-Err-settle.is ∙ c.settle.ensures)
+    (sym c.in-Not.is ∙ c.settle.ensures)
 
 pub returns-in-Err : goal.returns-in-Err
 returns-in-Err c =

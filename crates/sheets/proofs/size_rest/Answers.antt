@@ -25,13 +25,13 @@ returns-in-Ok c =
     (size a.bad a.d.now c.in-At.place c.in-At.end) c.in-Ok.x
     (sym c.size_at.ensures ∙ c.in-Ok.is) ∙ ap (sized_of a.before) (sym e))
 
-pub returns-in-Err-size_at : goal.returns-in-Err-size_at
-returns-in-Err-size_at c =
+pub returns-in-Err : goal.returns-in-Err
+returns-in-Err c =
     let a = c.args in
     let e = size_ended_lem a.bad a.d.now a.o (sym c.tag_due.ensures ∙ c.in-At.is) in
     sized_not a.bad a.d.now a.before (size a.bad a.d.now c.in-At.place c.in-At.end)
-    (sym c.size_at.ensures ∙ c.in-Err-size_at.is) ∙ ap (sized_of a.before) (sym e)
+    (sym c.size_at.ensures ∙ c.in-Err.is) ∙ ap (sized_of a.before) (sym e)
 
-pub returns-in-Err : goal.returns-in-Err
-returns-in-Err c = let a = c.args in
-    rw (size_never a.bad a.d.now a.o (sym c.tag_due.ensures ∙ c.in-Err.is))
+pub returns-in-Not : goal.returns-in-Not
+returns-in-Not c = let a = c.args in
+    rw (size_never a.bad a.d.now a.o (sym c.tag_due.ensures ∙ c.in-Not.is))

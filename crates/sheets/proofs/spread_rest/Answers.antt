@@ -67,16 +67,16 @@ returns-in-Ok c =
     (e ∙ ap (λ (r : Result Open). bind (bind r (values_ended a.bad a.d.now a.m.languages false a.before))
     (λ b n. Is (multiple (some y.spread) b) n)) (sym o)) c.values_rest-in-Ok.ensures
 
-pub returns-in-Err-spread_at : goal.returns-in-Err-spread_at
-returns-in-Err-spread_at c =
+pub returns-in-Err : goal.returns-in-Err
+returns-in-Err c =
     let a = c.args in
     rests_not (spread_not a.bad a.d.now (rule_of a.m) a.before a.room a.o (sym c.is_start.ensures
     ∙ c.if-not-is_start.false) (sym c.tag_due.ensures ∙ c.in-At.is)
     (spread_refused a.room (spread a.bad a.d.now a.room _ _)
-    (sym c.spread_at.ensures ∙ c.in-Err-spread_at.is)))
+    (sym c.spread_at.ensures ∙ c.in-Err.is)))
 
-pub returns-in-Err : goal.returns-in-Err
-returns-in-Err c =
+pub returns-in-Not : goal.returns-in-Not
+returns-in-Not c =
     let a = c.args in
     spread_stands a.bad a.d.now (rule_of a.m) a.before a.o (sym c.is_start.ensures
-    ∙ c.if-not-is_start.false) (sym c.tag_due.ensures ∙ c.in-Err.is)
+    ∙ c.if-not-is_start.false) (sym c.tag_due.ensures ∙ c.in-Not.is)

@@ -8,7 +8,7 @@ values_at-requires c =
     let a = c.args in record {
       end_in_bounds = (
         (due_within a.bad a.d.now VALUES a.o c.requires.within.0
-            (sym c.tag_due.ensures ∙ c.in-Ok.is)).1,
+            (sym c.tag_due.ensures ∙ c.in-At.is)).1,
         c.requires.within.1,
       );
       lines_len = c.requires.lines_len;
@@ -20,17 +20,17 @@ end_in-requires c =
     listed_next a.bad a.d.now a.languages a.quantity a.before _ (λ x m e. c.values_at.ensures.next e)
     (sym c.values_at.ensures.answer ∙ c.in-Is.is)
 
-pub returns-in-Ok-end_in : goal.returns-in-Ok-end_in
-returns-in-Ok-end_in c =
+pub returns-in-Ok : goal.returns-in-Ok
+returns-in-Ok c =
     let a = c.args in
-    valued_is a.bad a.d.now a.languages a.quantity a.before a.count a.width a.o _ _ (sym c.tag_due.ensures ∙ c.in-Ok.is)
+    valued_is a.bad a.d.now a.languages a.quantity a.before a.count a.width a.o _ _ (sym c.tag_due.ensures ∙ c.in-At.is)
     (sym c.values_at.ensures.answer ∙ c.in-Is.is)
-    (sym c.end_in.ensures.0 ∙ c.in-Ok-end_in.is) c.values_at.ensures.stored
+    (sym c.end_in.ensures.0 ∙ c.in-Ok.is) c.values_at.ensures.stored
 
 pub returns-in-Err : goal.returns-in-Err
 returns-in-Err c =
     let a = c.args in
-    valued_ended a.bad a.d.now a.languages a.quantity a.before a.count a.width a.o _ _ (sym c.tag_due.ensures ∙ c.in-Ok.is)
+    valued_ended a.bad a.d.now a.languages a.quantity a.before a.count a.width a.o _ _ (sym c.tag_due.ensures ∙ c.in-At.is)
     (sym c.values_at.ensures.answer ∙ c.in-Is.is)
     (sym c.end_in.ensures.0 ∙ c.in-Err.is)
 
@@ -38,7 +38,7 @@ pub returns-in-Not-values_at : goal.returns-in-Not-values_at
 returns-in-Not-values_at c =
     let a = c.args in
     valued_not a.bad a.d.now a.languages a.quantity a.before a.count a.width a.o _ _
-    (sym c.tag_due.ensures ∙ c.in-Ok.is)
+    (sym c.tag_due.ensures ∙ c.in-At.is)
     (sym c.values_at.ensures.answer ∙ c.in-Not-values_at.is)
 
 pub returns-in-Not : goal.returns-in-Not
