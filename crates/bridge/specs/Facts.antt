@@ -167,7 +167,8 @@ module _ (d : List ℕ) where
     by (Ok k) e = at k e (word_at d k w) refl
     by (Err f) e = refused f e
 
-  pub choose_on : {A B R : Type 0} (m : ℕ) (w : List ℕ) (P Q : Reader A) (old : OrFault ℕ → Choice → R) (to : Result B → R) (K : A → Reader B)
+  pub choose_on : {A B R : Type 0} (m : ℕ) (w : List ℕ) (P Q : Reader A) (old : OrFault ℕ → Choice → R) (to : Result B → R)
+      (K : A → Reader B)
       → ((f : Fault) → old (Err f) Left ≡ to (Not f))
       → ((k j : ℕ) → gap_at d m ≡ Ok k → word_at d k w ≡ spelled.Matched j → old (Ok k) (Taken j) ≡ to (bind (P j) K))
       → ((k : ℕ) → gap_at d m ≡ Ok k → old (Ok k) Left ≡ to (bind (Q k) K))

@@ -115,7 +115,8 @@ or_false true = refl
 or_false false = refl
 
 -- ---- THE INVARIANT
-pub record Ran (d : List ℕ) (t₀ : OrFault ℕ) (rows₀ lines₀ : List ℤ) (at : OrFault ℕ) (y : Tally) (seen : List ℕ) (rows lines : List ℤ) : Type 0
+pub record Ran (d : List ℕ) (t₀ : OrFault ℕ) (rows₀ lines₀ : List ℤ) (at : OrFault ℕ) (y : Tally) (seen : List ℕ) (rows lines : List ℤ) :
+    Type 0
   where
     pub read : List Variable
     pub same : variables_from d (course t₀ []) ≡ variables_from d (course at read)

@@ -187,7 +187,8 @@ good_head d i h q e j =
     let g = head_good d i h (sym e ∙ j) in
     record { kind_some = g.kind_some; kind_few = g.kind_few; from_one = g.from_one; ordered = g.ordered; low = g.low }
 
-module _ (d : List ℕ) (t : OrFault ℕ) (met : ℕ → Bool) (count before : ℕ) (i : OrFault Figures) (q : OrFault Head) (e : i ≡ ident_on d t met count)
+module _ (d : List ℕ) (t : OrFault ℕ) (met : ℕ → Bool) (count before : ℕ) (i : OrFault Figures) (q : OrFault Head)
+    (e : i ≡ ident_on d t met count)
     (o : q ≡ head_on d i) where
   pub entry_is_lem : (h : Head) → q ≡ Ok h → entry_of d t met count before ≡ rest_then d before h
   unfolding entry_of

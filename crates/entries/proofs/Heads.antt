@@ -155,12 +155,14 @@ pub record GoodHead (d : List ℕ) (i : OrFault Figures) (h : Head) : Type 0 whe
   pub label_len : h.label.length ≤ length d
 
 module _ (d : List ℕ) (i : OrFault Figures) (h : Head) where
-  joined : (t u v w : OrFault ℕ) (n l : OrFault Quoted) (k : Typed) (p : OrFault Position) → string_on d t ≡ n → string_on d u ≡ l → type_here d v ≡ k
+  joined : (t u v w : OrFault ℕ) (n l : OrFault Quoted) (k : Typed) (p : OrFault Position) → string_on d t ≡ n → string_on d u ≡ l
+      → type_here d v ≡ k
       → position_on d w ≡ p
       → join_head (join_titles i n l) k p ≡ Ok h → GoodHead d i h
   unfolding join_head join_titles
   joined t u v w n l k p a b c e = by i n l k p refl a b c e where
-    by : (j : OrFault Figures) (n l : OrFault Quoted) (k : Typed) (p : OrFault Position) → i ≡ j → string_on d t ≡ n → string_on d u ≡ l → type_here d v ≡ k
+    by : (j : OrFault Figures) (n l : OrFault Quoted) (k : Typed) (p : OrFault Position) → i ≡ j → string_on d t ≡ n → string_on d u ≡ l
+        → type_here d v ≡ k
         → position_on d w ≡ p
         → join_head (join_titles j n l) k p ≡ Ok h → GoodHead d i h
     by (Err f) n l k p o a b c e g = none cc

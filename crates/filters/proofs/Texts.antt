@@ -106,7 +106,8 @@ module _ (bad : Bool) (d : List ℕ) where
   phrase_not (Is t n) f e = never cc
   phrase_not (Not g) f e = cc
 
-  pub text_is : (w : List ℕ) (m p e : ℕ) {r : OrFault Quoted} {q : Quoted} → r ≡ phrase_of (text bad d w m p e) → r ≡ Ok q → TextIs w m p e q
+  pub text_is : (w : List ℕ) (m p e : ℕ) {r : OrFault Quoted} {q : Quoted} → r ≡ phrase_of (text bad d w m p e) → r ≡ Ok q
+      → TextIs w m p e q
   text_is w m p e {q = q} s f =
       let g = phrase_is (text bad d w m p e) q (sym s ∙ f) in
       let l = text_lies w m p e g in

@@ -128,7 +128,8 @@ module _ (d : List ℕ) where
       (either StatedStands (ltb 16384 a.size) (omega arith)
       (either StatedStands (ltb 16384 b.size) (omega arith) (h, l))))
 
-  both_of_lem : (a b : OrFault Figures) (end : OrFault ℕ) → NumberStands d a → NumberStands d b → Stands d end → StatedStands (both_of d a b end)
+  both_of_lem : (a b : OrFault Figures) (end : OrFault ℕ) → NumberStands d a → NumberStands d b → Stands d end
+      → StatedStands (both_of d a b end)
   unfolding both_of
   both_of_lem (Err f) b end h k l = h
   both_of_lem (Ok x) (Err f) end h k l = k

@@ -56,7 +56,8 @@ module _ (d : List ℕ) where
       (either JudgedStands (large_of quantity a) (omega arith) (either JudgedStands (large_of quantity b) (omega arith) tt)))
       (omega arith)) (omega arith)) (omega arith)
 
-  ranged_of_lem : (quantity : Bool) (a b : OrFault Value) (end : OrFault ℕ) (with : Bool) → AmountStands d a → AmountStands d b → Stands d end
+  ranged_of_lem : (quantity : Bool) (a b : OrFault Value) (end : OrFault ℕ) (with : Bool) → AmountStands d a → AmountStands d b
+      → Stands d end
       → RangedStands (ranged_of d quantity a b end with)
   unfolding ranged_of
   ranged_of_lem quantity (Err f) b end with h k l = h
@@ -68,7 +69,8 @@ module _ (d : List ℕ) where
         by (Ok b) i = l
         by (Err f) i = i
 
-  range_rest_lem : (quantity : Bool) (a : OrFault Value) (t : OrFault ℕ) → AmountStands d a → Stands d t → RangedStands (range_rest d quantity a t)
+  range_rest_lem : (quantity : Bool) (a : OrFault Value) (t : OrFault ℕ) → AmountStands d a → Stands d t
+      → RangedStands (range_rest d quantity a t)
   unfolding range_rest
   range_rest_lem quantity a t h k = by (choice_of d g WITH) (choice_of_lem d g WITH behind) where
     b : OrFault Value
@@ -92,7 +94,8 @@ module _ (d : List ℕ) where
   LinedStands (Ok s) = ValueStands d s.value × (s.next ≤ length d)
   LinedStands (Err f) = Met d f
 
-  said_of_lem : (a : OrFault Value) (q : OrFault Quoted) (special : ℕ) (end : OrFault ℕ) → AmountStands d a → PhraseStands d q → Stands d end
+  said_of_lem : (a : OrFault Value) (q : OrFault Quoted) (special : ℕ) (end : OrFault ℕ) → AmountStands d a → PhraseStands d q
+      → Stands d end
       → LinedStands (said_of a q special end)
   unfolding said_of
   said_of_lem (Err f) q special end h k l = h

@@ -83,7 +83,8 @@ module _ (d : List ℕ) where
   past_type_lem (typed.Is k n) h = h
   past_type_lem (typed.Not f) h = h
 
-  join_head_lem : (count : ℕ) (i : OrFault Figures) (n l : OrFault Quoted) (k : Typed) (p : OrFault Position) → IdentStands count i → PhraseStands d n
+  join_head_lem : (count : ℕ) (i : OrFault Figures) (n l : OrFault Quoted) (k : Typed) (p : OrFault Position) → IdentStands count i
+      → PhraseStands d n
       → PhraseStands d l → TypedStands d k → StatedStands d p → HeadedStands count (join_head (join_titles i n l) k p)
   unfolding join_head join_titles
   join_head_lem count (Err f) n l k p hi hn hl hk hp = hi

@@ -59,7 +59,8 @@ spread_refused room (Is s n) e = never cc
 spread_refused room (Not g) {f} e = let a : g ≡ f = cc in ap Not a
 
 -- ---- what a type keeps of values
-pub rests_of : {c w before room : ℕ} {v : Result Block} {k : Result Content} {lines lines' : List ℤ} {r : OrFault Rest} (f : Block → Content)
+pub rests_of : {c w before room : ℕ} {v : Result Block} {k : Result Content} {lines lines' : List ℤ} {r : OrFault Rest}
+    (f : Block → Content)
     → ((b : Block) (n : ℕ) → rested_in room before (Is (f b) n) ≡ valued_of c w before (Is b n)) → ((b : Block) → block_in (f b) ≡ b)
     → k ≡ bind v (λ b n. Is (f b) n) → Valued c w before v lines lines' r → Rests room before k lines lines' r
 rests_of {c} {w} {before} {room} {v} {k} {lines} {lines'} {r} f g h e x = record

@@ -267,7 +267,8 @@ module _ (d : List ℕ) where
   head_stands : (i : OrFault Figures) (h : Head) → head_on d i ≡ Ok h → Stands h.name × Stands h.label
   unfolding head_on text_on join_head join_titles
   head_stands i h e = by _ _ i _ _ _ _ refl refl e where
-    by : (t u : OrFault ℕ) (j : OrFault Figures) (n l : OrFault Quoted) (k : Typed) (p : OrFault Position) → string_on d t ≡ n → string_on d u ≡ l
+    by : (t u : OrFault ℕ) (j : OrFault Figures) (n l : OrFault Quoted) (k : Typed) (p : OrFault Position) → string_on d t ≡ n
+        → string_on d u ≡ l
         → join_head (join_titles j n l) k p ≡ Ok h → Stands h.name × Stands h.label
     by t u (Err f) n l k p a b g = none cc
     by t u (Ok x) (Err f) l k p a b g = none cc

@@ -195,7 +195,8 @@ pub record Onward (d : List ℕ) (quantity : Bool) (n first : ℕ) (start room :
   pub step : line_step d quantity first l ≡ after (l.lines ++ line ∷ []) t
   pub holds : Holds n first start room stamp marks (last + 1) (l.lines ++ line ∷ [])
 
-module _ (d : List ℕ) (quantity : Bool) (first : ℕ) (a : OrFault Value) (b : Block) {n : ℕ} {start room : List ℤ} {stamp : ℕ} {marks : List ℕ}
+module _ (d : List ℕ) (quantity : Bool) (first : ℕ) (a : OrFault Value) (b : Block) {n : ℕ} {start room : List ℤ} {stamp : ℕ}
+    {marks : List ℕ}
     {last : ℕ} {l : List Said} (h : Holds n first start room stamp marks last l) where
   abbrev at : Standing
   at = stand_at a b last room
@@ -242,7 +243,8 @@ module _ (d : List ℕ) (quantity : Bool) (first : ℕ) (a : OrFault Value) (b :
   pub turned_not : {f : Fault} → turn.Not f ≡ turn_of d quantity first at → line_step d quantity first (state_of a b l) ≡ Done (Not f)
   unfolding turn_of line_step
   turned_not {f} = by (line_rest d a) where
-    judged : (s : Said) (v : OrFault ℤ) → judge_line (number_at l) (length l) first quantity b s.value ≡ v → turn.Not f ≡ judged_turn d b s v
+    judged : (s : Said) (v : OrFault ℤ) → judge_line (number_at l) (length l) first quantity b s.value ≡ v → turn.Not f
+        ≡ judged_turn d b s v
         → judged_step d (state_of a b l) s v ≡ Done (Not f)
     judged s (Ok z) i e = rw (sym e)
     judged s (Err g) i e = cc

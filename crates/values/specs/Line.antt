@@ -2,7 +2,8 @@
 -- A line is a value, a string, and SPECIAL or not. 6 where its form is wrong, its decimals differ from those before it in the block,
 -- or an earlier line of the block says its number; 8 beyond its limit, or where 4,096 lines were read. Then follow notes, and another
 -- line or END VALUES.
-use Rattle.std.specs.Prelude.{ℕ, suc, ◌+◌, ◌-◌, ◌*◌, Bool, true, cond, not, ◌&&◌, List, [], ◌∷◌, ◌++◌, eqb, leb, ℤ, pos, length, ◌≡◌, Ok, Err}
+use Rattle.std.specs.Prelude.{ℕ, suc, ◌+◌, ◌-◌, ◌*◌, Bool, true, cond, not, ◌&&◌, List, [], ◌∷◌, ◌++◌, eqb, leb, ℤ, pos, length, ◌≡◌, Ok}
+use Rattle.std.specs.Prelude.{Err}
 use Rattle.below.specs.rule.Below.{any_below}
 use Rattle.cells.specs.rule.Cell.{cell, eq_z, pasted}
 use Rattle.scan.specs.rule.Loop.{Next, Again, Done, loop_of}
