@@ -78,8 +78,14 @@ fn parting(more: bool) -> u8 {
 
 // ---- the table
 // Whether every number of a table, or byte of an output, from a place on is what it held.
+// By a `for`: LLVM makes vector code of it, and none of `skip` and `all`.
 fn held<T: Copy + PartialEq>(s: &[T], from: usize, was: T) -> bool {
-    s.iter().skip(from).all(|x| *x == was)
+    for x in &s[from.min(s.len())..] {
+        if *x != was {
+            return false;
+        }
+    }
+    true
 }
 
 fn put_held(rt: &impl Print, out: &mut [u8], at: usize, kept: bool) -> io::Result<usize> {
